@@ -1,0 +1,10 @@
+pub mod Turns
+pub mod Lengths
+pub mod Writes
+pub mod Heads
+pub mod Records
+pub mod Exact
+pub mod Numbers
+pub mod Writing
+pub mod Determined
+pub mod Example

@@ -1,0 +1,5 @@
+pub mod Book
+pub mod Check
+pub mod Sound
+pub mod Refusals
+pub mod Write

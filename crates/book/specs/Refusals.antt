@@ -1,0 +1,76 @@
+-- The refusals of a book and of writing one, a row each: which number and place comes out exactly when. Assumes nothing.
+use mathlib.Core.Path.{_≡_}
+use mathlib.Core.List.{List}
+use Prim.Native.Nat.{ℕ, zero, suc, _<_, _≤_}
+use lib.ListN.{getD, length}
+use Rattle.le.specs.Le.{leAt}
+use Rattle.call.specs.declared.Call.{Call}
+use Rattle.call.specs.Key.{keyOf}
+use Rattle.call.specs.Layout.{reserved}
+use Rattle.call.specs.Service.{Within}
+use Rattle.book.specs.declared.Header.{Header}
+use Rattle.book.specs.declared.Verdict.{Verdict}
+use Rattle.book.specs.Book.{version, mostRecords, sizeOf, headerOf, countOf, callOf}
+use Rattle.book.specs.Check.{refuse, accepted, monthOf}
+use Rattle.book.specs.Sound.{Heading, AllWithin}
+
+-- the mark "NWB"
+pub record Marked (b : List ℕ) : Type 0 where
+  pub letter-n : getD b 0 0 ≡ 78
+  pub letter-w : getD b 1 0 ≡ 87
+  pub letter-b : getD b 2 0 ≡ 66
+
+-- the version is 1
+abbrev pub Versioned : List ℕ → Type 0
+Versioned b = leAt b 4 2 ≡ version
+
+-- the other header fields: area, year and month, a zero byte, the count, four zero bytes
+pub record Headed (b : List ℕ) : Type 0 where
+  pub heading : Heading (headerOf b)
+  pub zero : leAt b 9 1 ≡ 0
+  pub few : countOf b ≤ mostRecords
+  pub zeros : leAt b 12 4 ≡ 0
+
+-- the length is as the count says
+abbrev pub Counted : List ℕ → Type 0
+Counted b = length b ≡ sizeOf (countOf b)
+
+-- record i is within the limits, and its four last bytes are zero
+pub record Fielded (b : List ℕ) (i : ℕ) : Type 0 where
+  pub fields : Within (monthOf (headerOf b)) (callOf b i)
+  pub zeros : reserved b (sizeOf i) ≡ 0
+
+-- the key of record i is above the one before
+abbrev pub Above : List ℕ → ℕ → Type 0
+Above b zero = Unit {0}
+Above b (suc i) = keyOf (callOf b i) < keyOf (callOf b (suc i))
+
+-- the header is good, and the length as the count says
+pub record Front (b : List ℕ) : Type 0 where
+  pub long : 16 ≤ length b
+  pub mark : Marked b
+  pub version : Versioned b
+  pub header : Headed b
+  pub count : Counted b
+
+-- the records before record i are good
+abbrev pub Before : List ℕ → ℕ → Type 0
+Before b i = (j : ℕ) → j < i → Fielded b j × Above b j
+
+-- the check: in the paper's order 1 (under 16 bytes), 2, 3, 4, 1 (length), then record by record 5, 6
+pub data Refusal (b : List ℕ) (v : Verdict) : Type 0 where
+  none : v ≡ accepted → Front b → Before b (countOf b) → Refusal b v
+  under-16 : v ≡ refuse 1 0 → length b < 16 → Refusal b v
+  no-mark : v ≡ refuse 2 0 → 16 ≤ length b → ¬ Marked b → Refusal b v
+  no-version : v ≡ refuse 3 0 → 16 ≤ length b → Marked b → ¬ Versioned b → Refusal b v
+  no-header : v ≡ refuse 4 0 → 16 ≤ length b → Marked b → Versioned b → ¬ Headed b → Refusal b v
+  no-count : v ≡ refuse 1 0 → 16 ≤ length b → Marked b → Versioned b → Headed b → ¬ Counted b → Refusal b v
+  no-field : (i : ℕ) → v ≡ refuse 5 i → Front b → i < countOf b → Before b i → ¬ Fielded b i → Refusal b v
+  no-rise : (i : ℕ) → v ≡ refuse 6 i → Front b → i < countOf b → Before b i → Fielded b i → ¬ Above b i → Refusal b v
+
+-- writing a header and calls into so many bytes: 4, 5, 9, in turn
+pub data WriteRefusal (h : Header) (cs : List Call) (room n : ℕ) : Type 0 where
+  none : n ≡ 0 → Heading h → AllWithin (monthOf h) cs → sizeOf (length cs) ≤ room → WriteRefusal h cs room n
+  no-header : n ≡ 4 → ¬ Heading h → WriteRefusal h cs room n
+  no-field : n ≡ 5 → Heading h → ¬ AllWithin (monthOf h) cs → WriteRefusal h cs room n
+  no-room : n ≡ 9 → Heading h → AllWithin (monthOf h) cs → room < sizeOf (length cs) → WriteRefusal h cs room n

@@ -1,0 +1,36 @@
+-- What a sound book is: the bytes of a header and a list of calls within the paper's limits, keys rising. Assumes nothing.
+use mathlib.Core.Path.{_≡_}
+use mathlib.Core.List.{List, [], _∷_}
+use Prim.Native.Nat.{ℕ, suc, _≤_}
+use lib.ListN.{length}
+use Rattle.call.specs.declared.Call.{Call}
+use Rattle.call.specs.Key.{keyOf}
+use Rattle.call.specs.Service.{Within}
+use Rattle.book.specs.declared.Header.{Header}
+use Rattle.book.specs.Book.{mostRecords, bookBytes}
+use Rattle.book.specs.Check.{monthOf}
+
+-- area 1 to 99, year 2024 to 2099, month 1 to 12
+pub record Heading (h : Header) : Type 0 where
+  pub area : (1 ≤ h .area) × (h .area ≤ 99)
+  pub year : (2024 ≤ h .year) × (h .year ≤ 2099)
+  pub month : (1 ≤ h .month) × (h .month ≤ 12)
+
+-- each call is within the limits, in a month of so many minutes
+abbrev pub AllWithin : ℕ → List Call → Type 0
+AllWithin minutes [] = Unit {0}
+AllWithin minutes (c ∷ cs) = Within minutes c × AllWithin minutes cs
+
+-- keys rise strictly, the first being `low` or above
+abbrev pub Rises : ℕ → List Call → Type 0
+Rises low [] = Unit {0}
+Rises low (c ∷ cs) = (low ≤ keyOf c) × Rises (suc (keyOf c)) cs
+
+pub record Sound (b : List ℕ) : Type 0 where
+  pub header : Header
+  pub calls : List Call
+  pub heading : Heading header
+  pub few : length calls ≤ mostRecords
+  pub within : AllWithin (monthOf header) calls
+  pub rising : Rises 0 calls
+  pub bytes : b ≡ bookBytes header calls

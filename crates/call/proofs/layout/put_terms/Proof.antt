@@ -1,0 +1,63 @@
+-- `call::layout::put_terms` meets its contract.
+use mir.Syntax.{w32}
+use mir.Val.{SFits}
+use Rattle.le.proofs.Signs.{stores-signed}
+use mathlib.Core.Path.{refl}
+use Prim.Native.Nat.{_+_}
+use Rattle.le.specs.Le.{leBytes}
+use Rattle.le.proofs.Laws.{then}
+use Rattle.call.specs.Layout.{termBytes}
+use borrow.Author.Needs.{needs}
+use Rattle.call.proofs.layout.put_terms.Statement.{statement}
+use Rattle.call.proofs.layout.put_terms.Tie as tie
+
+put-i32-requires : tie.Need-put-i32-requires
+put-i32-requires c κs = search needs
+
+add-put-u32 : tie.Need-add-put-u32
+add-put-u32 c = search needs
+
+put-u32-requires : tie.Need-put-u32-requires
+put-u32-requires c κs = search needs
+
+add-put-u32-2 : tie.Need-add-put-u32-2
+add-put-u32-2 c = search needs
+
+put-u32-requires-2 : tie.Need-put-u32-requires-2
+put-u32-requires-2 c κs = search needs
+
+add-put-u32-3 : tie.Need-add-put-u32-3
+add-put-u32-3 c = search needs
+
+put-u32-requires-3 : tie.Need-put-u32-requires-3
+put-u32-requires-3 c κs = search needs
+
+same-length : tie.Need-same-length
+same-length c = search needs
+
+a-fits : (c : tie.After-struct-told) → SFits w32 (c .before .before .before .args .x .a)
+a-fits c = search needs
+
+returns : tie.Need-returns
+unfolding termBytes leBytes
+returns c =
+    let at = c .before .before .before .before .before .before .before .before .before .before .before .before .before .before .before .before .before .before .args .at in
+    then (at + 12) refl
+    (then (at + 8) refl
+    (then (at + 4) refl (stores-signed w32 4 _ (a-fits (c .before .before .before .before .before .before .before .before .before .before .before .before .before .before .before)) refl (c .before .before .before .before .before .before .before .before .before .before .before .before .before .before .put-i32 .ensures)) (c .before .before .before .before .before .before .before .before .before .before .put-u32 .ensures))
+    (c .before .before .before .before .before .before .put-u322 .ensures))
+    (c .before .before .put-u323 .ensures)
+
+pub put-terms-spec : {M : Type 1} → statement M
+put-terms-spec =
+    tie.close
+    (tie.spec
+    put-i32-requires
+    add-put-u32
+    put-u32-requires
+    add-put-u32-2
+    put-u32-requires-2
+    add-put-u32-3
+    put-u32-requires-3
+    same-length
+    returns)

@@ -1,0 +1,5 @@
+pub mod Key
+pub mod Revising
+pub mod Service
+pub mod Limits
+pub mod Layout

@@ -1,0 +1,53 @@
+-- What a call becomes when it is revised, withdrawn or contested. Assumes nothing.
+use Prim.Native.Nat.{ℕ}
+use lib.IntN.{pos}
+use Rattle.call.specs.declared.Call.{Call}
+use Rattle.call.specs.declared.Content.{Content}
+
+-- the states of a record
+abbrev pub live : ℕ
+live = 0
+
+abbrev pub contested : ℕ
+contested = 1
+
+abbrev pub withdrawn : ℕ
+withdrawn = 2
+
+-- revised: the same key, a new revision and new content, live
+abbrev pub revisedOf : Call → ℕ → Content → Call
+revisedOf c revision content =
+    record {
+      participant = c .participant;
+      service = content .service;
+      state = live;
+      number = c .number;
+      revision = revision;
+      start = content .start;
+      length = content .length;
+      a = content .a;
+      b = content .b;
+      c = content .c;
+    }
+
+-- the same key and revision in another state, with service, start, length, a, b and c all zero
+abbrev pub struckOf : ℕ → Call → Call
+struckOf state c =
+    record {
+      participant = c .participant;
+      service = 0;
+      state = state;
+      number = c .number;
+      revision = c .revision;
+      start = 0;
+      length = 0;
+      a = pos 0;
+      b = 0;
+      c = 0;
+    }
+
+abbrev pub withdrawnOf : Call → Call
+withdrawnOf c = struckOf withdrawn c
+
+abbrev pub contestedOf : Call → Call
+contestedOf c = struckOf contested c

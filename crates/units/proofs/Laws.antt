@@ -1,0 +1,64 @@
+-- Laws of money and of the month. Assumes nothing.
+use mathlib.Core.Path.{_≡_, refl}
+use mathlib.Core.Bool.{Bool, true, false, cond, _||_, _&&_}
+use Prim.Native.Nat.{ℕ, _+_, _*_, _/_, _%_, _≤_, _<_}
+use native.Mathlib.Omega.{arith}
+use lib.Dec.{eqb, leb}
+use Rattle.units.specs.Money.{fenOf, fenPerThousandth}
+use Rattle.units.specs.Month.{leap, daysOf, minutesOf, quartersOf}
+
+-- half a fen may be added to the remainder alone
+pub split-fen : (g : ℕ) → g / 60000 + (g % 60000 + 30000) / 60000 ≡ fenOf g
+unfolding fenOf
+split-fen g = omega arith
+
+-- The conversion is within half a fen, a half going up, and nothing else is: this says which number it is.
+pub fen-nearest : (g f : ℕ) → f * 60000 ≤ g + 30000 → g + 30000 < f * 60000 + 60000 → f ≡ fenOf g
+unfolding fenOf
+fen-nearest g f p q = omega arith
+
+pub fen-near : (g : ℕ) → (fenOf g * 60000 ≤ g + 30000) × (g + 30000 < fenOf g * 60000 + 60000)
+unfolding fenOf
+fen-near g = (omega arith, omega arith)
+
+-- Two answers that the contract of `Grains::to_fen` allows are one; so of `Thousandths::to_fen`.
+pub fen-determined : (g x y : ℕ) → x ≡ fenOf g → y ≡ fenOf g → x ≡ y
+fen-determined g x y p q = cc
+
+pub thousandths-determined : (t x y : ℕ) → x ≡ t * fenPerThousandth → y ≡ t * fenPerThousandth → x ≡ y
+thousandths-determined t x y p q = cc
+
+-- the paper's two sums: 29,999 grains are 0 fen, 30,000 are 1
+pub below-half : fenOf 29999 ≡ 0
+unfolding fenOf
+below-half = refl
+
+pub half : fenOf 30000 ≡ 1
+unfolding fenOf
+half = refl
+
+-- a month has at most 31 days, so its minutes fit 16 bits and its quarter hours are few
+pick-most : (t u v w : Bool) → cond t (cond u 29 28) (cond v 30 (cond w 31 0)) ≤ 31
+pick-most true true v w = omega arith
+pick-most true false v w = omega arith
+pick-most false u true w = omega arith
+pick-most false u false true = omega arith
+pick-most false u false false = omega arith
+
+pub days-most : (y m : ℕ) → daysOf y m ≤ 31
+unfolding daysOf
+days-most y m =
+    pick-most (eqb m 2) (leap y) (eqb m 4 || eqb m 6 || eqb m 9 || eqb m 11) (leb 1 m && leb m 12)
+
+pub minutes-most : (y m : ℕ) → minutesOf y m ≤ 44640
+unfolding minutesOf
+minutes-most y m = omega (arith, days-most y m)
+
+pub quarters-most : (y m : ℕ) → quartersOf y m ≤ 2976
+unfolding quartersOf
+quarters-most y m = omega (arith, days-most y m)
+
+-- a quarter hour is 15 minutes
+pub quarters-are : (y m : ℕ) → quartersOf y m * 15 ≡ minutesOf y m
+unfolding quartersOf minutesOf
+quarters-are y m = omega arith
