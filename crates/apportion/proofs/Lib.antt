@@ -1,0 +1,6 @@
+pub mod Laws
+pub mod Order
+pub mod Loops
+pub mod Rank
+pub mod ByRank
+pub mod Promises

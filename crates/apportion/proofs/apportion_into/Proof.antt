@@ -1,0 +1,74 @@
+-- `apportion::apportion_into` meets its contract.
+use mathlib.Core.Path.{_≡_, _∙_, ap}
+use Prim.Native.Nat.{ℕ, _≤_}
+use native.Mathlib.Omega.{arith}
+use lib.ListN.{length, length-map}
+use Rattle.apportion.specs.Apportion.{total, roundedDown, remainders, apportion}
+use Rattle.apportion.proofs.Laws.{bases-le}
+use Rattle.apportion.proofs.Loops.{total-some, getD-total}
+use borrow.Author.Needs.{needs}
+use Rattle.apportion.proofs.apportion_into.Statement.{statement}
+use Rattle.apportion.proofs.apportion_into.Tie as tie
+
+sum-of-requires : tie.Need-sum-of-requires
+sum-of-requires c κs = omega arith
+
+split-requires : tie.Need-split-requires
+split-requires c κs =
+    let s = c .before .before .before .before .before .before in
+    let e : c .before .before .sum-of .result ≡ total (s .args .weights .now) = c .before .before .sum-of .ensures in
+    ((s .pre .0, omega arith, omega arith, s .pre .3, s .pre .4), λ k. omega (arith, getD-total (s .args .weights .now) k))
+
+-- After `split` the two slices hold the shares rounded down and the remainders.
+halved : (c : tie.After-split) → let a = c .before .before .before .before .before .before .before .args in
+    (c .split .last .1 .1 .1 .0 ≡ roundedDown (a .amount) (total (a .weights .now)) (a .weights .now)) × (c .split .last .1 .1 .1 .1 .0 ≡ remainders (a .amount) (total (a .weights .now)) (a .weights .now))
+halved c =
+    let a = c .before .before .before .before .before .before .before .args in
+    let e : c .before .before .before .sum-of .result ≡ total (a .weights .now) = c .before .before .before .sum-of .ensures in
+    (c .split .ensures .0 ∙ ap (λ (t : ℕ). roundedDown (a .amount) t (a .weights .now)) e, c .split .ensures .1 ∙ ap (λ (t : ℕ). remainders (a .amount) t (a .weights .now)) e)
+
+fits : (c : tie.After-split) → let a = c .before .before .before .before .before .before .before .args in total (c .split .last .1 .1 .1 .0) ≤ a .amount
+fits c =
+    let d = c .before .before .before .before .before .before .before in
+    rw (halved c .0) (bases-le (d .args .amount) (d .args .weights .now) (d .pre .1))
+
+sum-of-requires-2 : tie.Need-sum-of-requires-2
+sum-of-requires-2 c κs = omega (arith, fits (c .before .before .before .before .before))
+
+sub-left : tie.Need-sub-left
+sub-left c = omega (arith, fits (c .before .before .before .before .before .before), c .sum-of2 .ensures)
+
+give-out-requires : tie.Need-give-out-requires
+give-out-requires c κs =
+    let d = c .before .before .before .before .before .before .before .before in
+    let a = c .before .before .before .before .before .before .before .before .before .before .before .before .before .before .before in
+    let ls : length (d .split .last .1 .1 .1 .0) ≡ length (a .args .weights .now) = ap length (halved d .0) ∙ length-map (a .args .weights .now) _ in
+    let lr : length (d .split .last .1 .1 .1 .1 .0) ≡ length (a .args .weights .now) = ap length (halved d .1) ∙ length-map (a .args .weights .now) _ in
+    let some = total-some (a .args .weights .now) (a .pre .1) in
+    (omega arith, omega arith, omega (arith, fits d, c .before .before .sum-of2 .ensures, a .fits .amount))
+
+same-length : tie.Need-same-length
+same-length c = search needs
+
+same-length-2 : tie.Need-same-length-2
+same-length-2 c = search needs
+
+returns : tie.Need-returns
+unfolding apportion
+returns c =
+    let d = c .before .before .before .before .before .before .before .before .before .before .before .before .before in
+    let e : c .before .before .before .before .before .before .before .sum-of2 .result ≡ total (d .split .last .1 .1 .1 .0) = c .before .before .before .before .before .before .before .sum-of2 .ensures in
+    c .before .before .before .before .give-out .ensures ∙ rw (e, halved d .0, halved d .1)
+
+pub apportion-into-spec : {M : Type 1} → statement M
+apportion-into-spec =
+    tie.close
+    (tie.spec
+    sum-of-requires
+    split-requires
+    sum-of-requires-2
+    sub-left
+    give-out-requires
+    same-length
+    same-length-2
+    returns)

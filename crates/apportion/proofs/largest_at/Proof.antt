@@ -1,0 +1,62 @@
+-- `apportion::largest_at` meets its contract.
+use mathlib.Core.Logic.{⊎-elim}
+use Prim.Native.Nat.{_-_}
+use native.Mathlib.Omega.{arith}
+use lib.ListN.{length}
+use Rattle.apportion.proofs.Loops.{Ahead, ahead-start, ahead-keep, ahead-new, ahead-end}
+use borrow.Author.Needs.{needs}
+use Rattle.apportion.proofs.largest_at.Statement.{statement}
+use Rattle.apportion.proofs.largest_at.Tie as tie
+
+abbrev Inv-loop : tie.InvT-loop
+Inv-loop xs best₀ i₀ best i = Ahead xs best i
+
+abbrev μ-loop : tie.MeasureT-loop
+μ-loop xs best₀ i₀ best i = length xs - i
+
+loop-holds : tie.Need-loop-holds Inv-loop μ-loop
+loop-holds c = ahead-start (c .args .xs .now) (c .pre)
+
+mul-if1 : tie.Need-mul-if1 Inv-loop μ-loop
+mul-if1 c = search needs
+
+shared-slice-read-if1 : tie.Need-shared-slice-read-if1 Inv-loop μ-loop
+shared-slice-read-if1 c = search needs
+
+mul-if1-2 : tie.Need-mul-if1-2 Inv-loop μ-loop
+mul-if1-2 c = search needs
+
+shared-slice-read-if1-2 : tie.Need-shared-slice-read-if1-2 Inv-loop μ-loop
+shared-slice-read-if1-2 c = search needs
+
+add-i : tie.Need-add-i Inv-loop μ-loop
+add-i c = search needs
+
+loop-less : tie.Need-loop-less Inv-loop μ-loop
+loop-less c = search needs
+
+loop-again : tie.Need-loop-again Inv-loop μ-loop
+loop-again c =
+    ⊎-elim
+    (λ w. rw (w .1) (ahead-new (c .before .before .before .before .before .args .xs .now) (c .before .before .before .before .loop .best) (c .before .before .before .before .loop .i) (c .before .before .before .before .loop .inv) (omega arith) (w .0 .taken)))
+    (λ w. rw (w .1) (ahead-keep (c .before .before .before .before .before .args .xs .now) (c .before .before .before .before .loop .best) (c .before .before .before .before .loop .i) (c .before .before .before .before .loop .inv) (omega arith) (w .0 .left)))
+    (c .if1 .came)
+
+returns : tie.Need-returns Inv-loop μ-loop
+returns c = (ahead-end (c .before .before .args .xs .now) (c .before .loop .best) (c .before .loop .i) (c .before .loop .inv) (omega arith), omega arith)
+
+pub largest-at-spec : {M : Type 1} → statement M
+largest-at-spec =
+    tie.close
+    (tie.spec
+    Inv-loop
+    μ-loop
+    loop-holds
+    mul-if1
+    shared-slice-read-if1
+    mul-if1-2
+    shared-slice-read-if1-2
+    add-i
+    loop-less
+    loop-again
+    returns)

@@ -1,0 +1,2 @@
+pub mod Apportion
+pub mod Rank

@@ -1,0 +1,80 @@
+// The largest remainder rule: an amount shared by weights, exact to the unit. It knows nothing of what is shared.
+mod muldiv;
+
+use crate::muldiv::product_over;
+ghost use mathlib.Core.Path.{_≡_};
+ghost use Prim.Native.Nat.{ℕ, _+_, _^_, _<_, _≤_};
+ghost use lib.ListN.{length, getD};
+ghost use Rattle.apportion.specs.Apportion.{total, largest, roundedDown, remainders, give, apportion};
+
+// The sum of the numbers.
+pub fn sum_of(xs: &[u64]) -> u64
+    requires { ⌜ total (now xs) < 2 ^ 64 ⌝ }
+    ensures { λ r. ⌜ r ≡ total (now (xs .entry)) ⌝ }
+{
+    let mut sum: u64 = 0;
+    let mut i: usize = 0;
+    while i < xs.len() {
+        sum += xs[i];
+        i += 1;
+    }
+    sum
+}
+
+// The place of the largest number, the lowest where several are as large.
+fn largest_at(xs: &[u64]) -> usize
+    requires { ⌜ 0 < length (now xs) ⌝ }
+    ensures { λ r. ⌜ r ≡ largest (now (xs .entry)) ⌝ }
+    ensures { λ r. ⌜ r < length (now (xs .entry)) ⌝ }
+{
+    let mut best: usize = 0;
+    let mut i: usize = 1;
+    while i < xs.len() {
+        if xs[best] < xs[i] {
+            best = i;
+        }
+        i += 1;
+    }
+    best
+}
+
+// Each weight's share rounded down, and its remainder.
+fn split(amount: u64, all: u64, weights: &[u64], shares: &mut [u64], rests: &mut [u64])
+    requires { ⌜ (amount < 2 ^ 63) × (0 < all) × (all < 2 ^ 62) × (length (now shares) ≡ length (now weights)) × (length (now rests) ≡ length (now weights)) ⌝ }
+    requires { ⌜ ((k : ℕ) → getD (now weights) k 0 ≤ all) ⌝ }
+    ensures { λ _. ⌜ now (shares .exit) ≡ roundedDown amount all (now (weights .entry)) ⌝ }
+    ensures { λ _. ⌜ now (rests .exit) ≡ remainders amount all (now (weights .entry)) ⌝ }
+{
+    let mut i: usize = 0;
+    while i < weights.len() {
+        let p = product_over(amount, weights[i], all);
+        shares[i] = p.q;
+        rests[i] = p.r;
+        i += 1;
+    }
+}
+
+// One unit each to the largest remainders, `left` of them; a remainder that has been served counts as 0.
+fn give_out(left: u64, rests: &mut [u64], shares: &mut [u64])
+    requires { ⌜ (0 < length (now rests)) × (length (now shares) ≡ length (now rests)) × (total (now shares) + left < 2 ^ 64) ⌝ }
+    ensures { λ _. ⌜ now (shares .exit) ≡ give left (now (rests .entry)) (now (shares .entry)) ⌝ }
+{
+    let mut k = left;
+    while 0 < k {
+        let b = largest_at(rests);
+        rests[b] = 0;
+        shares[b] = shares[b] + 1;
+        k -= 1;
+    }
+}
+
+// The amount shared by the weights, into `shares`; `rests` is room to work in.
+pub fn apportion_into(amount: u64, weights: &[u64], shares: &mut [u64], rests: &mut [u64])
+    requires { ⌜ (amount < 2 ^ 63) × (0 < total (now weights)) × (total (now weights) < 2 ^ 62) × (length (now shares) ≡ length (now weights)) × (length (now rests) ≡ length (now weights)) ⌝ }
+    ensures { λ _. ⌜ now (shares .exit) ≡ apportion amount (now (weights .entry)) ⌝ }
+{
+    let all = sum_of(weights);
+    split(amount, all, weights, shares, rests);
+    let left = amount - sum_of(shares);
+    give_out(left, rests, shares);
+}

@@ -1,0 +1,64 @@
+-- What a check that accepts says of each record's bytes. Assumes nothing.
+use mathlib.Core.Path.{_≡_, refl, sym, _∙_, ap, subst}
+use mathlib.Core.Bool.{cond}
+use mathlib.Core.List.{List}
+use Prim.Native.Nat.{ℕ, zero, suc, _+_, _<_, _≤_}
+use native.Mathlib.Nat.{zero-add}
+use native.Mathlib.Omega.{arith}
+use lib.Dec.{eqb}
+use lib.ListN.{length}
+use borrow.Author.Tests.{ne-eqb}
+use Rattle.call.specs.Key.{keyOf}
+use Rattle.call.specs.Layout.{reserved}
+use Rattle.book.specs.declared.Verdict.{Verdict}
+use Rattle.book.specs.Book.{sizeOf, headerOf, countOf, callOf}
+use Rattle.book.specs.Check.{refuse, accepted, monthOf, judge, checkFrom, checkOf}
+use Rattle.book.proofs.Records.{judge-zero}
+use Rattle.book.proofs.Exact.{accepted-tests}
+use Rattle.rule.specs.declared.Decision.{Decision}
+use Rattle.rule.specs.declared.Decision.the-variants.{First, Second, Struck}
+use Rattle.join.specs.Steps.{Has, Offered, Left}
+
+-- a turn that does not end the check
+went-on : (v i : ℕ) (f : Verdict) → cond (eqb v 0) f (refuse v i) ≡ accepted → (v ≡ 0) × (f ≡ accepted)
+went-on zero i f e = (refl, e)
+went-on (suc v) i f e = absurd (let z : suc v ≡ 0 = ap (λ (x : Verdict). x .number) (rw (ne-eqb (suc v) 0 (λ x. omega arith)) at e) in omega arith)
+
+zeros : (m : ℕ) (b : List ℕ) (n low i : ℕ) → checkFrom m b low i n ≡ accepted → (j : ℕ) → j < n → reserved b (sizeOf (i + j)) ≡ 0
+unfolding checkFrom
+zeros m b zero low i e j h = absurd (omega arith)
+zeros m b (suc n) low i e zero h =
+    let p = went-on (judge m b low i) i _ e in
+    let k : i + 0 ≡ i = omega arith in
+    ap (λ (l : ℕ). reserved b (sizeOf l)) k ∙ judge-zero m b low i (p .0) .1
+zeros m b (suc n) low i e (suc j) h =
+    let p = went-on (judge m b low i) i _ e in
+    let k : i + suc j ≡ suc i + j = omega arith in
+    ap (λ (l : ℕ). reserved b (sizeOf l)) k ∙ zeros m b n (suc (keyOf (callOf b i))) (suc i) (p .1) j (omega arith)
+
+module _ (b : List ℕ) (e : checkOf b ≡ accepted) where
+  pub long : 16 ≤ length b
+  long = accepted-tests b e .long
+
+  pub size : length b ≡ sizeOf (countOf b)
+  size = accepted-tests b e .count
+
+  pub has : (i : ℕ) → i < countOf b → Has b i
+  has i h = record { long = omega (arith, size); zeros = ap (λ (j : ℕ). reserved b (sizeOf j)) (sym (zero-add i)) ∙ zeros (monthOf (headerOf b)) b (countOf b) 0 0 (accepted-tests b e .records) i h }
+
+pub offered : (d : Decision) (a : List ℕ) (n i : ℕ) (b : List ℕ) (m j : ℕ) → checkOf a ≡ accepted → checkOf b ≡ accepted → n ≡ countOf a → m ≡ countOf b
+    → Left d n i m j → Offered d a i b j
+offered First a n i b m j p q e f l = has a p i (omega arith)
+offered Second a n i b m j p q e f l = has b q j (omega arith)
+offered Struck a n i b m j p q e f l = has a p i (omega arith)
+
+-- what a decision is offered, once it is known
+module _ (d : Decision) (a : List ℕ) (i : ℕ) (b : List ℕ) (j : ℕ) (o : Offered d a i b j) where
+  pub offers-first : d ≡ First → Has a i
+  offers-first e = subst (λ (x : Decision). Offered x a i b j) e o
+
+  pub offers-second : d ≡ Second → Has b j
+  offers-second e = subst (λ (x : Decision). Offered x a i b j) e o
+
+  pub offers-struck : d ≡ Struck → Has a i
+  offers-struck e = subst (λ (x : Decision). Offered x a i b j) e o

@@ -1,0 +1,13 @@
+pub mod Screening
+pub mod Steps
+pub mod Books
+pub mod Copies
+pub mod Places
+pub mod Writes
+pub mod Trees
+pub mod Orders
+pub mod Accepted
+pub mod Entering
+pub mod Lookups
+pub mod Determined
+pub mod Story

@@ -1,0 +1,181 @@
+-- Three books of one stop: the plant entered and revised it, head office withdrew it, and a spare terminal, loaded early, still has the first entry.
+-- They meet the hypotheses of demand 3, and in two orders and groupings give one book in which the stop is withdrawn. Assumes nothing.
+use mathlib.Core.Path.{_≡_, refl}
+use mathlib.Core.Bool.{true}
+use mathlib.Core.Logic.{⊎-elim}
+use mathlib.Core.List.{List, [], _∷_, replicate, List·Memᴰ as In, List·Memᴰ·head as here, List·Memᴰ·tail as there, List·Memᴰ·cases-cons as in-cons, List·Memᴰ·not-nil as in-nil}
+use Prim.Native.Nat.{ℕ, _≤_}
+use native.Mathlib.Omega.{arith}
+use lib.Dec.{lit<, lit≤}
+use lib.IntN.{pos}
+use lib.ListN.{length}
+use Rattle.units.specs.Month.{leap, daysOf, minutesOf}
+use Rattle.call.specs.declared.Call.{Call}
+use Rattle.call.specs.Key.{keyOf}
+use Rattle.call.specs.Limits.{table, limitsOf, allows, soundCall}
+use Rattle.call.specs.Revising.{withdrawnOf}
+use Rattle.call.specs.Service.{Within}
+use Rattle.call.proofs.Exact.{sound-within}
+use Rattle.book.specs.declared.Header.{Header}
+use Rattle.book.specs.Book.{mostRecords, headerOf, callsOf, bookBytes}
+use Rattle.book.specs.Check.{monthOf}
+use Rattle.book.specs.Sound.{Heading, Sound}
+use Rattle.book.proofs.Exact.{reads-back}
+use Rattle.rule.specs.Standing.{isWithdrawn}
+use Rattle.rule.specs.Whole.{put, putAll, differentKeys}
+use Rattle.join.specs.Trees.{Plan, book, join, books, written, result, AllAccepted, keyCount, Room, OneMonth, Covers, ruleBook}
+use Rattle.join.proofs.Trees.{book-sound}
+use Rattle.join.proofs.Orders.{any-order, same-bytes, stays-withdrawn}
+
+-- March 2026, area 12
+pub march : Header
+march = record { area = 12; year = 2026; month = 3 }
+
+-- a start-stop call of member 3, at a revision, of so many minutes
+stop : ℕ → ℕ → Call
+stop revision minutes =
+    record { participant = 3; service = 3; state = 0; number = 9; revision = revision; start = 600; length = minutes; a = pos 0; b = 0; c = 0 }
+
+entered : Call
+entered = stop 2 300
+
+early : Call
+early = stop 1 240
+
+pub withdrawal : Call
+withdrawal = withdrawnOf (stop 2 300)
+
+-- each within the paper's limits
+entered-within : Within (monthOf march) entered
+unfolding entered stop march monthOf minutesOf daysOf leap soundCall allows limitsOf table
+entered-within = sound-within (monthOf march) entered (lit< tt) (lit< tt) refl
+
+early-within : Within (monthOf march) early
+unfolding early stop march monthOf minutesOf daysOf leap soundCall allows limitsOf table
+early-within = sound-within (monthOf march) early (lit< tt) (lit< tt) refl
+
+withdrawal-within : Within (monthOf march) withdrawal
+unfolding withdrawal stop march monthOf minutesOf daysOf leap soundCall allows limitsOf table
+withdrawal-within = sound-within (monthOf march) withdrawal (lit< tt) (lit< tt) refl
+
+march-heads : Heading march
+unfolding march
+march-heads = record { area = (lit≤ tt, lit≤ tt); year = (lit≤ tt, lit≤ tt); month = (lit≤ tt, lit≤ tt) }
+
+-- a book of one record is sound, and reads back
+one : Call → List ℕ
+one c = bookBytes march (c ∷ [])
+
+module _ (c : Call) (w : Within (monthOf march) c) where
+  one-sound : Sound (one c)
+  unfolding one
+  one-sound = book-sound march (c ∷ []) march-heads (lit≤ tt) (record { within = (w, tt); rises = (omega arith, tt) })
+
+  one-reads : (headerOf (one c) ≡ march) × (callsOf (one c) ≡ c ∷ [])
+  unfolding one
+  one-reads = reads-back march (c ∷ []) march-heads (lit≤ tt) (w, tt)
+
+plant : List ℕ
+plant = one entered
+
+head-office : List ℕ
+head-office = one withdrawal
+
+spare : List ℕ
+spare = one early
+
+pub three : List (List ℕ)
+three = plant ∷ head-office ∷ spare ∷ []
+
+-- what holds of each of the three
+each : (P : List ℕ → Type 0) → P plant → P head-office → P spare → (b : List ℕ) → In b three → P b
+unfolding three
+each P x y z b i =
+    ⊎-elim (λ (e : b ≡ plant). rw e x)
+    (λ j. ⊎-elim (λ (e : b ≡ head-office). rw e y) (λ k. ⊎-elim (λ (e : b ≡ spare). rw e z) (λ l. absurd (in-nil l)) (in-cons k)) (in-cons j)) (in-cons i)
+
+one-month : OneMonth march three
+unfolding plant head-office spare
+one-month =
+    record {
+      sound = each Sound (one-sound entered entered-within) (one-sound withdrawal withdrawal-within) (one-sound early early-within);
+      header =
+          each (λ (b : List ℕ). headerOf b ≡ march) (one-reads entered entered-within .0) (one-reads withdrawal withdrawal-within .0)
+          (one-reads early early-within .0);
+    }
+
+-- one key, in each of them and in all
+
+count-two : (x y : List ℕ) (c d : Call) → callsOf x ≡ c ∷ [] → callsOf y ≡ d ∷ [] → keyCount (x ∷ y ∷ []) ≡ length (differentKeys ((c ∷ []) ∷ (d ∷ []) ∷ []))
+unfolding keyCount
+count-two x y c d e f = rw (e, f) refl
+
+count-three : (x y z : List ℕ) (c d f : Call) → callsOf x ≡ c ∷ [] → callsOf y ≡ d ∷ [] → callsOf z ≡ f ∷ []
+    → keyCount (x ∷ y ∷ z ∷ []) ≡ length (differentKeys ((c ∷ []) ∷ (d ∷ []) ∷ (f ∷ []) ∷ []))
+unfolding keyCount
+count-three x y z c d f e g h = rw (e, g, h) refl
+
+office-head-office : keyCount (plant ∷ head-office ∷ []) ≡ 1
+unfolding plant head-office entered withdrawal stop differentKeys putAll put
+office-head-office = count-two plant head-office entered withdrawal (one-reads entered entered-within .1) (one-reads withdrawal withdrawal-within .1)
+
+head-office-spare : keyCount (head-office ∷ spare ∷ []) ≡ 1
+unfolding head-office spare early withdrawal stop differentKeys putAll put
+head-office-spare = count-two head-office spare withdrawal early (one-reads withdrawal withdrawal-within .1) (one-reads early early-within .1)
+
+all-three : keyCount (plant ∷ head-office ∷ spare ∷ []) ≡ 1
+unfolding plant head-office spare entered early withdrawal stop differentKeys putAll put
+all-three =
+    count-three plant head-office spare entered withdrawal early (one-reads entered entered-within .1) (one-reads withdrawal withdrawal-within .1)
+    (one-reads early early-within .1)
+
+-- an output of 48 bytes
+output : List ℕ
+output = replicate 48 0
+
+output-long : length output ≡ 48
+unfolding output
+output-long = refl
+
+-- (plant and head office) and spare; plant and (head office and spare)
+pub left : Plan
+left = join (join (book plant) (book head-office) output) (book spare) output
+
+pub right : Plan
+right = join (book plant) (join (book head-office) (book spare) output) output
+
+left-room : Room left
+unfolding left books
+left-room = ((tt, tt, λ f. omega (arith, office-head-office, output-long)), tt, λ f. omega (arith, all-three, output-long))
+
+right-room : Room right
+unfolding right books
+right-room = (tt, (tt, tt, λ f. omega (arith, head-office-spare, output-long)), λ f. omega (arith, all-three, output-long))
+
+left-covers : Covers left three
+unfolding left books three
+left-covers = record { all = λ b i. i; only = λ b i. i }
+
+right-covers : Covers right three
+unfolding right books three
+right-covers = record { all = λ b i. i; only = λ b i. i }
+
+few : keyCount three ≤ mostRecords
+unfolding three
+few = omega (arith, all-three)
+
+-- both groupings are accepted throughout, and give the book of the whole list
+pub left-book : AllAccepted left × (result left .number ≡ 0) × (written (result left) ≡ ruleBook march three)
+left-book = any-order march three one-month left left-covers left-room few
+
+pub one-book : written (result left) ≡ written (result right)
+one-book = same-bytes march three one-month few left right left-covers right-covers left-room right-room
+
+-- and the stop is withdrawn in it
+withdrawn-there : In withdrawal (callsOf head-office)
+unfolding head-office
+withdrawn-there = rw (one-reads withdrawal withdrawal-within .1) (here refl)
+
+pub stop-withdrawn : (r : Call) × In r (callsOf (written (result left))) × (keyOf r ≡ keyOf withdrawal) × (isWithdrawn r ≡ true)
+unfolding three withdrawal
+stop-withdrawn = stays-withdrawn march three one-month left left-covers left-room few head-office (there (here refl)) withdrawal withdrawn-there refl

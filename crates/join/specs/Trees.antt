@@ -1,0 +1,64 @@
+-- Trees of joins over bytes: any order, any grouping, any repetition. Assumes nothing.
+use mathlib.Core.Path.{_≡_}
+use mathlib.Core.Bool.{cond}
+use mathlib.Core.List.{List, [], _∷_, _++_, map, List·Memᴰ as In}
+use Prim.Native.Nat.{ℕ, _≤_}
+use lib.Dec.{eqb}
+use lib.ListN.{length, take}
+use Rattle.book.specs.declared.Header.{Header}
+use Rattle.book.specs.Book.{mostRecords, sizeOf, headerOf, callsOf, bookBytes}
+use Rattle.book.specs.Sound.{Sound}
+use Rattle.book.specs.Write.{Outcome}
+use Rattle.rule.specs.Whole.{differentKeys, ruleCalls}
+use Rattle.join.specs.Joining.{joining}
+
+-- a lone book, or the join of what two trees give, into an output that is lent to it
+pub data Plan : Type 0 where
+  book : List ℕ → Plan
+  join : Plan → Plan → List ℕ → Plan
+
+-- the books at the leaves
+unfoldable pub books : Plan → List (List ℕ)
+books (book b) = b ∷ []
+books (join l r out) = books l ++ books r
+
+-- the book that an outcome has written
+abbrev pub written : Outcome → List ℕ
+written o = take (o .length) (o .out)
+
+-- the join of what two outcomes have written; a refusal ends it
+unfoldable pub joinBoth : Outcome → Outcome → List ℕ → Outcome
+joinBoth l r out = cond (eqb (l .number) 0) (cond (eqb (r .number) 0) (joining (written l) (written r) out) r) l
+
+-- what a tree gives: each node is the outcome of a join
+unfoldable pub result : Plan → Outcome
+result (book b) = record { number = 0; place = 0; length = length b; out = b }
+result (join l r out) = joinBoth (result l) (result r) out
+
+-- every join of a tree is accepted
+abbrev pub AllAccepted : Plan → Type 0
+AllAccepted (book b) = Unit {0}
+AllAccepted (join l r out) = AllAccepted l × AllAccepted r × (joining (written (result l)) (written (result r)) out .number ≡ 0)
+
+-- how many different keys books have
+unfoldable pub keyCount : List (List ℕ) → ℕ
+keyCount bs = length (differentKeys (map callsOf bs))
+
+-- each output holds the result, where its keys are not too many
+abbrev pub Room : Plan → Type 0
+Room (book b) = Unit {0}
+Room (join l r out) = Room l × Room r × (keyCount (books l ++ books r) ≤ mostRecords → sizeOf (keyCount (books l ++ books r)) ≤ length out)
+
+-- sound books of one month and area
+pub record OneMonth (h : Header) (bs : List (List ℕ)) : Type 0 where
+  pub sound : (b : List ℕ) → In b bs → Sound b
+  pub header : (b : List ℕ) → In b bs → headerOf b ≡ h
+
+-- the leaves of a tree are these books, each at least once
+pub record Covers (p : Plan) (bs : List (List ℕ)) : Type 0 where
+  pub all : (b : List ℕ) → In b bs → In b (books p)
+  pub only : (b : List ℕ) → In b (books p) → In b bs
+
+-- the book that the rule over the whole list gives
+unfoldable pub ruleBook : Header → List (List ℕ) → List ℕ
+ruleBook h bs = bookBytes h (ruleCalls (map callsOf bs))

@@ -1,0 +1,105 @@
+-- The rule over a whole list of books, and trees of joins. Assumes nothing.
+use mathlib.Core.Bool.{Bool, true, cond, _&&_}
+use mathlib.Core.List.{List, [], _∷_, _++_}
+use mathlib.Core.Option.{Option, none, some}
+use Prim.Native.Nat.{ℕ, max}
+use lib.Dec.{ltb, eqb}
+use lib.IntN.{pos}
+use Rattle.call.specs.declared.Call.{Call}
+use Rattle.call.specs.Key.{keyOf}
+use Rattle.call.specs.Revising.{withdrawn, contestedOf}
+use Rattle.rule.specs.Standing.{sameCall, isWithdrawn}
+use Rattle.rule.specs.Joined.{joinCalls}
+
+-- the record that a book has for a key
+unfoldable pub recordOf : ℕ → List Call → Option Call
+recordOf k [] = none
+recordOf k (c ∷ cs) = cond (eqb (keyOf c) k) (some c) (recordOf k cs)
+
+-- a record, where there is one, in front of others
+unfoldable pub also : Option Call → List Call → List Call
+also none cs = cs
+also (some c) cs = c ∷ cs
+
+-- the records that the books have for a key
+unfoldable pub recordsOf : ℕ → List (List Call) → List Call
+recordsOf k [] = []
+recordsOf k (b ∷ bs) = also (recordOf k b) (recordsOf k bs)
+
+unfoldable pub those : (Call → Bool) → List Call → List Call
+those p [] = []
+those p (c ∷ cs) = cond (p c) (c ∷ those p cs) (those p cs)
+
+unfoldable pub all : (Call → Bool) → List Call → Bool
+all p [] = true
+all p (c ∷ cs) = p c && all p cs
+
+-- the highest revision
+unfoldable pub highest : List Call → ℕ
+highest [] = 0
+highest (c ∷ cs) = max (c .revision) (highest cs)
+
+-- the call withdrawn, at a revision
+unfoldable pub withdrawnAt : ℕ → Call → Call
+withdrawnAt revision c =
+    record {
+      participant = c .participant;
+      service = 0;
+      state = withdrawn;
+      number = c .number;
+      revision = revision;
+      start = 0;
+      length = 0;
+      a = pos 0;
+      b = 0;
+      c = 0;
+    }
+
+-- Of the withdrawn records and of those at the highest revision: where any is withdrawn, withdrawn at the highest withdrawn revision;
+-- else at the highest revision, the record there if all at that revision are equal, otherwise contested
+unfoldable pub ruling : List Call → List Call → Option Call
+ruling (w ∷ ws) ts = some (withdrawnAt (highest (w ∷ ws)) w)
+ruling [] [] = none
+ruling [] (t ∷ ts) = some (cond (all (sameCall t) ts) t (contestedOf t))
+
+unfoldable pub ruleFor : List Call → Option Call
+ruleFor cs = ruling (those isWithdrawn cs) (those (λ c. eqb (c .revision) (highest cs)) cs)
+
+-- the record of a key, over a whole list of books
+unfoldable pub ruleOver : List (List Call) → ℕ → Option Call
+ruleOver bs k = ruleFor (recordsOf k bs)
+
+-- a key put among rising keys, once
+unfoldable pub put : ℕ → List ℕ → List ℕ
+put k [] = k ∷ []
+put k (j ∷ js) = cond (ltb k j) (k ∷ j ∷ js) (cond (ltb j k) (j ∷ put k js) (j ∷ js))
+
+unfoldable pub putAll : List Call → List ℕ → List ℕ
+putAll [] js = js
+putAll (c ∷ cs) js = put (keyOf c) (putAll cs js)
+
+-- the different keys of the books, rising
+unfoldable pub differentKeys : List (List Call) → List ℕ
+differentKeys [] = []
+differentKeys (b ∷ bs) = putAll b (differentKeys bs)
+
+unfoldable pub recordsAt : (ℕ → Option Call) → List ℕ → List Call
+recordsAt f [] = []
+recordsAt f (k ∷ ks) = also (f k) (recordsAt f ks)
+
+-- the rule's record at each of the different keys
+unfoldable pub ruleCalls : List (List Call) → List Call
+ruleCalls bs = recordsAt (ruleOver bs) (differentKeys bs)
+
+-- any order, grouping and repetition: a lone book, or the join of what two trees give
+pub data Tree : Type 0 where
+  leaf : List Call → Tree
+  node : Tree → Tree → Tree
+
+unfoldable pub leaves : Tree → List (List Call)
+leaves (leaf b) = b ∷ []
+leaves (node l r) = leaves l ++ leaves r
+
+unfoldable pub joined : Tree → List Call
+joined (leaf b) = b
+joined (node l r) = joinCalls (joined l) (joined r)

@@ -1,0 +1,134 @@
+-- Each refusal is given exactly under its condition.
+use mathlib.Core.Path.{_≡_, refl, sym, ap, _∙_}
+use mathlib.Core.Bool.{Bool, true, false, cond, true≢false}
+use mathlib.Core.List.{List, [], _∷_}
+use mathlib.Core.Logic.{inl, inr, _≢_}
+use Prim.Native.Nat.{ℕ, zero, suc, _*_, _/_, _%_, _≤_, _<_}
+use native.Mathlib.Nat.{not-suc-le-zero}
+use native.Mathlib.Decide.{decLt, decLe, ℕ-discrete}
+use native.Mathlib.Omega.{arith}
+use lib.IntN.{pos, natAbs}
+use lib.ListN.{length, getD}
+use Rattle.share.specs.declared.Line.{Line}
+use Rattle.share.specs.Sharing.{mostCompensation, compensated, gap, allWeights, soundLine, firstBad, Outcome, refused, sharing}
+use Rattle.share.specs.Forms.{blank}
+use Rattle.share.specs.Bytes.{linesOf, sharingBytes}
+use Rattle.share.specs.Verdict.{numberBefore, AllSound, FirstBad, Verdict, ten, fifteen, sixteen, shared, ByteVerdict, one, asLines, nine, written}
+use Rattle.share.proofs.Signs.{none-abs}
+use Rattle.share.proofs.Bounds.{sound-from, sound-to}
+use Rattle.share.proofs.Cases.{settled-15, settled-16, settled-on, sharing-10, sharing-on}
+use Rattle.share.proofs.ByteCases.{bytes-1, bytes-refused, bytes-9, bytes-on}
+
+number-step : (first : ℕ) (l : Line) (ls : List Line) (k : ℕ) → numberBefore (l .number) ls k ≡ numberBefore first (l ∷ ls) (suc k)
+unfolding numberBefore
+number-step first l ls zero = refl
+number-step first l ls (suc k) = refl
+
+-- the lines before the first bad one are sound, and it is not
+sound-upto : (first : ℕ) (ls : List Line) (k : ℕ) → k < firstBad first ls → soundLine (numberBefore first ls k) (getD ls k blank) ≡ true
+unfolding numberBefore
+sound-upto first [] k h = absurd (not-suc-le-zero h)
+sound-upto first (l ∷ ls) zero h = go (soundLine first l) refl h
+  where
+    go : (b : Bool) → soundLine first l ≡ b → 0 < cond b (suc (firstBad (l .number) ls)) 0 → soundLine first l ≡ true
+    go true e k = e
+    go false e k = absurd (not-suc-le-zero k)
+sound-upto first (l ∷ ls) (suc k) h = go (soundLine first l) h (sound-upto (l .number) ls k)
+  where
+    go : (b : Bool) → suc k < cond b (suc (firstBad (l .number) ls)) 0
+        → (k < firstBad (l .number) ls → soundLine (numberBefore (l .number) ls k) (getD ls k blank) ≡ true) → soundLine (numberBefore first (l ∷ ls) (suc k)) (getD ls k blank) ≡ true
+    go true i rec = ap (λ (n : ℕ). soundLine n (getD ls k blank)) (sym (number-step first l ls k)) ∙ rec (omega arith)
+    go false i rec = absurd (not-suc-le-zero i)
+
+bad-at : (first : ℕ) (ls : List Line) → firstBad first ls < length ls → soundLine (numberBefore first ls (firstBad first ls)) (getD ls (firstBad first ls) blank) ≡ false
+unfolding numberBefore
+bad-at first [] h = absurd (not-suc-le-zero h)
+bad-at first (l ∷ ls) h = go (soundLine first l) refl h (bad-at (l .number) ls)
+  where
+    go : (b : Bool) → soundLine first l ≡ b → cond b (suc (firstBad (l .number) ls)) 0 < suc (length ls)
+        → (firstBad (l .number) ls < length ls → soundLine (numberBefore (l .number) ls (firstBad (l .number) ls)) (getD ls (firstBad (l .number) ls) blank) ≡ false)
+        → soundLine (numberBefore first (l ∷ ls) (cond b (suc (firstBad (l .number) ls)) 0)) (getD (l ∷ ls) (cond b (suc (firstBad (l .number) ls)) 0) blank) ≡ false
+    go true e k rec = ap (λ (n : ℕ). soundLine n (getD ls (firstBad (l .number) ls) blank)) (sym (number-step first l ls (firstBad (l .number) ls))) ∙ rec (omega arith)
+    go false e k rec = e
+
+-- the place that is computed is the place of the first bad line
+pub first-bad : (ls : List Line) → firstBad 0 ls < length ls → FirstBad ls (firstBad 0 ls)
+first-bad ls h =
+    record {
+      within = h;
+      before = λ k i. sound-from _ _ (sound-upto 0 ls k i);
+      bad = λ s. true≢false (sym (sound-to _ _ s) ∙ bad-at 0 ls h);
+    }
+
+pub only-bad : (ls : List Line) (p : ℕ) → FirstBad ls p → firstBad 0 ls ≡ p
+only-bad ls p f = go (decLt (firstBad 0 ls) p) (decLt p (firstBad 0 ls))
+  where
+    go : Dec (firstBad 0 ls < p) → Dec (p < firstBad 0 ls) → firstBad 0 ls ≡ p
+    go (yes h) d = absurd (true≢false (sym (sound-to _ _ (f .before (firstBad 0 ls) h)) ∙ bad-at 0 ls (omega (arith, f .within))))
+    go (no g) (yes h) = absurd (f .bad (sound-from _ _ (sound-upto 0 ls p h)))
+    go (no g) (no i) = omega arith
+
+pub all-sound : (ls : List Line) → length ls ≤ firstBad 0 ls → AllSound ls
+all-sound ls h k i = sound-from _ _ (sound-upto 0 ls k (omega arith))
+
+pub none-bad : (ls : List Line) → AllSound ls → length ls ≤ firstBad 0 ls
+none-bad ls a = go (decLe (length ls) (firstBad 0 ls))
+  where
+    go : Dec (length ls ≤ firstBad 0 ls) → length ls ≤ firstBad 0 ls
+    go (yes h) = h
+    go (no f) =
+        let h : firstBad 0 ls < length ls = omega arith in
+        absurd (true≢false (sym (sound-to _ _ (a (firstBad 0 ls) h)) ∙ bad-at 0 ls h))
+
+some-gap : (ls : List Line) → gap ls ≢ pos 0 → 0 < natAbs (gap ls)
+some-gap ls f = go (ℕ-discrete (natAbs (gap ls)) 0)
+  where
+    go : Dec (natAbs (gap ls) ≡ 0) → 0 < natAbs (gap ls)
+    go (yes e) = absurd (f (none-abs (gap ls) e))
+    go (no g) = omega arith
+
+-- THE TABLE: sharing gives one of its verdicts ..
+pub verdict : (ls : List Line) → Verdict ls (sharing ls)
+verdict ls = go (decLt (firstBad 0 ls) (length ls)) (decLe (compensated ls) mostCompensation) (ℕ-discrete (natAbs (gap ls)) 0) (ℕ-discrete (allWeights ls) 0)
+  where
+    go : Dec (firstBad 0 ls < length ls) → Dec (compensated ls ≤ mostCompensation) → Dec (natAbs (gap ls) ≡ 0) → Dec (allWeights ls ≡ 0) → Verdict ls (sharing ls)
+    go (yes h) c g w = ten (firstBad 0 ls) (first-bad ls h) (sym (sharing-10 ls h))
+    go (no f) (no c) g w =
+        let s : length ls ≤ firstBad 0 ls = omega arith in
+        let over : mostCompensation < compensated ls = omega arith in
+        fifteen (all-sound ls s) over (sym (settled-15 ls over ∙ sharing-on ls s))
+    go (no f) (yes c) (no g) (yes w) =
+        let s : length ls ≤ firstBad 0 ls = omega arith in
+        sixteen (all-sound ls s) c (λ e. g (ap natAbs e)) w (sym (settled-16 ls c (omega arith) w ∙ sharing-on ls s))
+    go (no f) (yes c) (no g) (no w) =
+        let s : length ls ≤ firstBad 0 ls = omega arith in
+        shared (all-sound ls s) c (inr (omega arith)) (sym (settled-on ls c (λ _. omega arith) ∙ sharing-on ls s))
+    go (no f) (yes c) (yes g) w =
+        let s : length ls ≤ firstBad 0 ls = omega arith in
+        shared (all-sound ls s) c (inl (none-abs (gap ls) g)) (sym (settled-on ls c (λ h. absurd (omega arith)) ∙ sharing-on ls s))
+
+-- .. and where the condition of one holds, that is the one: each number is given exactly under its condition.
+pub exact : (ls : List Line) (o : Outcome) → Verdict ls o → o ≡ sharing ls
+exact ls o (ten p f e) =
+    let b = only-bad ls p f in
+    e ∙ ap (λ (q : ℕ). refused 10 q) (sym b) ∙ sharing-10 ls (omega (arith, f .within))
+exact ls o (fifteen a c e) = e ∙ settled-15 ls c ∙ sharing-on ls (none-bad ls a)
+exact ls o (sixteen a c g w e) = e ∙ settled-16 ls c (some-gap ls g) w ∙ sharing-on ls (none-bad ls a)
+exact ls o (shared a c (inl g) e) = e ∙ settled-on ls c (λ h. absurd (omega (arith, ap natAbs g))) ∙ sharing-on ls (none-bad ls a)
+exact ls o (shared a c (inr w) e) = e ∙ settled-on ls c (λ h. w) ∙ sharing-on ls (none-bad ls a)
+
+-- The same over bytes.
+pub byte-verdict : (input : List ℕ) (room : ℕ) → ByteVerdict input room (sharingBytes input room)
+byte-verdict input room = go (ℕ-discrete (length input % 24) 0) (ℕ-discrete (sharing (linesOf input) .number) 0) (decLt room (16 * (length input / 24)))
+  where
+    go : Dec (length input % 24 ≡ 0) → Dec (sharing (linesOf input) .number ≡ 0) → Dec (room < 16 * (length input / 24)) → ByteVerdict input room (sharingBytes input room)
+    go (no f) n r = one f (sym (bytes-1 input room f))
+    go (yes e) (no f) r = asLines e (omega arith) (sym (bytes-refused input room e (omega arith)))
+    go (yes e) (yes z) (yes h) = nine e z h (sym (bytes-9 input room e z h))
+    go (yes e) (yes z) (no f) = written e z (omega arith) (sym (bytes-on input room e z (omega arith)))
+
+pub byte-exact : (input : List ℕ) (room : ℕ) (o : Outcome) → ByteVerdict input room o → o ≡ sharingBytes input room
+byte-exact input room o (one f e) = e ∙ bytes-1 input room f
+byte-exact input room o (asLines m n e) = e ∙ bytes-refused input room m n
+byte-exact input room o (nine m z h e) = e ∙ bytes-9 input room m z h
+byte-exact input room o (written m z h e) = e ∙ bytes-on input room m z h

@@ -1,0 +1,103 @@
+-- Sums of the paper, worked through, and the promises met by them.
+use mathlib.Core.Path.{_≡_, refl}
+use mathlib.Core.List.{List, [], _∷_, _++_, map}
+use Prim.Native.Nat.{ℕ, _<_}
+use lib.Dec.{lit<, lit≤}
+use lib.IntN.{ℤ, pos, negsuc, natAbs, _-ℤ_, _*ℤ_}
+use lib.ListN.{replicate}
+use Rattle.apportion.specs.Apportion.{apportion}
+use Rattle.units.specs.Money.{fenPerThousandth}
+use Rattle.le.specs.Le.{leAt}
+use Rattle.share.specs.declared.Line.{Line}
+use Rattle.share.specs.declared.Answer.{Answer}
+use Rattle.share.specs.Sharing.{gap, soundLine, Part, parts, refused, settled, sharing}
+use Rattle.share.specs.Forms.{blank, cleared, sharedArray, answerIn, answerOf, Lent, fill}
+use Rattle.share.specs.Bytes.{fieldsAt, reservedZero, lineAt, linesFrom, linesOf, sharingBytes, ifRoom}
+use Rattle.share.proofs.Promises.{sumℤ, shares, amounts, adds-to-gap, adds-to-zero, one-fen}
+use Rattle.share.proofs.ThreeForms.{same-answer}
+
+abbrev pub line : ℕ → ℕ → ℕ → ℕ → ℕ → Line
+line n s e c a =
+    record {
+      number = n;
+      status = s;
+      energy = record { 0 = e };
+      compensation = record { 0 = c };
+      assessment = record { 0 = a };
+      share = record { 0 = pos 0 };
+      amount = record { 0 = pos 0 };
+    }
+
+abbrev pub part : ℤ → ℤ → Part
+part s a = record { share = s; amount = a }
+
+-- compensation 100 fen, no assessment, three equal energies above zero at status 0
+abbrev pub equals : List Line
+equals = line 1 0 5 100 0 ∷ line 2 0 5 0 0 ∷ line 3 0 5 0 0 ∷ []
+
+-- shares −34, −33, −33
+pub equal-energies : sharing equals ≡ record { number = 0; place = 0; gap = negsuc 99; parts = part (negsuc 33) (pos 66) ∷ part (negsuc 32) (negsuc 32) ∷ part (negsuc 32) (negsuc 32) ∷ [] }
+unfolding sharing settled parts gap soundLine apportion fenPerThousandth
+equal-energies = refl
+
+-- the lines that the program `statement` reads in the paper
+abbrev pub sample : List Line
+sample = line 1 0 100 300000 0 ∷ line 2 0 200 0 1000 ∷ line 3 2 50 0 0 ∷ []
+
+-- total −200000; shares and amounts as printed
+pub statement-sample : sharing sample
+    ≡ record { number = 0; place = 0; gap = negsuc 199999; parts = part (negsuc 55555) (pos 244444) ∷ part (negsuc 111110) (negsuc 211110) ∷ part (negsuc 33332) (negsuc 33332) ∷ [] }
+unfolding sharing settled parts gap soundLine apportion fenPerThousandth
+statement-sample = refl
+
+-- The promises hold of the sample: their conditions can be met.
+sample-taken : sharing sample .number ≡ 0
+unfolding sharing settled parts gap soundLine fenPerThousandth
+sample-taken = refl
+
+pub sample-to-gap : sumℤ (shares (sharing sample)) ≡ gap sample
+sample-to-gap = adds-to-gap sample sample-taken
+
+pub sample-to-zero : sumℤ (amounts (sharing sample)) ≡ pos 0
+sample-to-zero = adds-to-zero sample sample-taken
+
+-- the weights of the sample are 1,000, 2,000 and 600 with A < C
+pub sample-one-fen : natAbs (negsuc 55555 *ℤ pos 3600 -ℤ negsuc 199999 *ℤ pos 1000) < 3600
+unfolding sharing settled parts gap soundLine apportion fenPerThousandth
+sample-one-fen = one-fen sample sample-taken 0 blank (part (pos 0) (pos 0)) (lit< tt) (lit< tt)
+
+-- No lines are accepted, with R 0.
+pub no-lines : sharing [] ≡ record { number = 0; place = 0; gap = pos 0; parts = [] }
+unfolding sharing settled parts gap apportion
+no-lines = refl
+
+-- a second line of the same number is refused at its place
+pub twice : sharing (line 7 0 5 0 0 ∷ line 7 0 5 0 0 ∷ []) ≡ refused 10 1
+unfolding sharing settled gap soundLine
+twice = refl
+
+-- a gap and no weight
+pub no-weight : sharing (line 1 0 0 100 0 ∷ []) ≡ refused 16 0
+unfolding sharing settled gap soundLine fenPerThousandth
+no-weight = refl
+
+-- The three equal energies in bytes, and with a byte that should be zero in the second line
+abbrev pub spelt : ℕ → List ℕ
+spelt reserved =
+    (1 ∷ 0 ∷ 0 ∷ 0 ∷ 5 ∷ 0 ∷ 0 ∷ 0 ∷ 100 ∷ 0 ∷ 0 ∷ 0 ∷ 0 ∷ 0 ∷ 0 ∷ 0 ∷ 0 ∷ 0 ∷ 0 ∷ 0 ∷ 0 ∷ 0 ∷ 0 ∷ 0 ∷ [])
+    ++ (2 ∷ 0 ∷ 0 ∷ reserved ∷ 5 ∷ 0 ∷ 0 ∷ 0 ∷ 0 ∷ 0 ∷ 0 ∷ 0 ∷ 0 ∷ 0 ∷ 0 ∷ 0 ∷ 0 ∷ 0 ∷ 0 ∷ 0 ∷ 0 ∷ 0 ∷ 0 ∷ 0 ∷ [])
+    ++ (3 ∷ 0 ∷ 0 ∷ 0 ∷ 5 ∷ 0 ∷ 0 ∷ 0 ∷ 0 ∷ 0 ∷ 0 ∷ 0 ∷ 0 ∷ 0 ∷ 0 ∷ 0 ∷ 0 ∷ 0 ∷ 0 ∷ 0 ∷ 0 ∷ 0 ∷ 0 ∷ 0 ∷ [])
+
+spelt-lines : linesOf (spelt 0) ≡ equals
+unfolding linesFrom lineAt reservedZero fieldsAt leAt
+spelt-lines = refl
+
+pub reserved-byte : sharingBytes (spelt 1) 48 ≡ refused 10 1
+unfolding sharingBytes ifRoom sharing settled gap soundLine linesFrom lineAt reservedZero fieldsAt leAt
+reserved-byte = refl
+
+-- The three forms over these lines: the conditions of `same-answer` can be met.
+pub equal-forms : (after : List Line) (r : Answer) → Lent equals after r
+    → (r ≡ answerIn (sharedArray (equals ++ replicate 61 blank) 3)) × (r ≡ answerOf (sharingBytes (spelt 0) 48))
+    × (fill (sharing equals .parts) (map (λ l. cleared l) (equals ++ replicate 61 blank)) ≡ sharedArray (equals ++ replicate 61 blank) 3 .lines) × (sharing equals .parts ≡ sharingBytes (spelt 0) 48 .parts)
+equal-forms = same-answer equals (equals ++ replicate 61 blank) (spelt 0) 48 refl refl refl spelt-lines (lit≤ tt)

@@ -1,0 +1,14 @@
+-- `share::array::kept_of` meets its contract.
+use native.Mathlib.Omega.{arith}
+use borrow.Author.Tests.{eq-eqb, ne-eqb}
+use Rattle.share.proofs.array.kept_of.Statement.{statement}
+use Rattle.share.proofs.array.kept_of.Tie as tie
+
+returns : tie.Need-returns
+returns c = (rw (eq-eqb _ _ (c .if1 .taken)), omega arith)
+
+returns-2 : tie.Need-returns-2
+returns-2 c = (rw (ne-eqb _ _ (c .if1 .left)), omega arith)
+
+pub kept-of-spec : {M : Type 1} → statement M
+kept-of-spec = tie.close (tie.spec returns returns-2)

@@ -1,0 +1,101 @@
+-- `share::settle::fill_in` meets its contract.
+use mathlib.Core.Path.{_≡_, refl, sym, _∙_}
+use mathlib.Core.List.{map}
+use Prim.Native.Nat.{_-_, _≤_}
+use native.Mathlib.Omega.{arith}
+use lib.ListN.{length, take, length-set}
+use Rattle.apportion.proofs.Loops.{over, over-step}
+use Rattle.share.specs.Sharing.{partsBy}
+use Rattle.share.specs.Forms.{blank, cleared, fill}
+use Rattle.share.proofs.Lines.{within-at, length-filled, filled-at, filled-all}
+use borrow.Author.Needs.{needs}
+use Rattle.share.proofs.settle.fill_in.Statement.{statement}
+use Rattle.share.proofs.settle.fill_in.Tie as tie
+
+abbrev Inv-loop : tie.InvT-loop
+Inv-loop count negative lines out₀ ss i₀ out i =
+    (i ≤ count) × (length out ≡ 64) × (out ≡ over out₀ (fill (partsBy negative (take count lines) (take count ss)) (map (λ l. cleared l) lines)) i)
+
+abbrev μ-loop : tie.MeasureT-loop
+μ-loop count negative lines out₀ ss i₀ out i = count - i
+
+clear-requires : tie.Need-clear-requires Inv-loop μ-loop
+clear-requires c κs = search needs
+
+loop-holds : tie.Need-loop-holds Inv-loop μ-loop
+loop-holds c = (omega arith, search needs, refl)
+
+mul-l : tie.Need-mul-l Inv-loop μ-loop
+mul-l c = search needs
+
+array-copy-out-l : tie.Need-array-copy-out-l Inv-loop μ-loop
+array-copy-out-l c = search needs
+
+mul-t14 : tie.Need-mul-t14 Inv-loop μ-loop
+mul-t14 c = search needs
+
+array-read-t20 : tie.Need-array-read-t20 Inv-loop μ-loop
+array-read-t20 c = search needs
+
+finish-requires : tie.Need-finish-requires Inv-loop μ-loop
+finish-requires c κs =
+    let s = c .before .before .before .before .before in
+    let i = c .before .before .loop .i in
+    let long : length (s .args .t1) ≡ 64 = search needs in
+    (within-at (s .args .t1) (s .args .count) i blank (s .pre .0 .1) (omega arith) (omega arith), s .pre .1 i (omega arith))
+
+mul-out : tie.Need-mul-out Inv-loop μ-loop
+mul-out c = search needs
+
+array-set-from-out : tie.Need-array-set-from-out Inv-loop μ-loop
+array-set-from-out c = search needs
+
+add-i : tie.Need-add-i Inv-loop μ-loop
+add-i c = search needs
+
+loop-less : tie.Need-loop-less Inv-loop μ-loop
+loop-less c = search needs
+
+loop-again : tie.Need-loop-again Inv-loop μ-loop
+loop-again c =
+    let s = c .before .before .before .before .before .before in
+    let l = c .before .before .before .loop in
+    let long : length (s .args .t1) ≡ 64 = search needs in
+    let long₂ : length (s .args .shares .0) ≡ 64 = search needs in
+    let long₃ : length (c .before .before .before .before .before .clear .result) ≡ 64 = search needs in
+    let f = fill (partsBy (s .args .negative) (take (s .args .count) (s .args .t1)) (take (s .args .count) (s .args .shares .0))) (map (λ l. cleared l) (s .args .t1)) in
+    let lf : length f ≡ 64 = length-filled (partsBy (s .args .negative) (take (s .args .count) (s .args .t1)) (take (s .args .count) (s .args .shares .0))) (s .args .t1) ∙ long in (
+      omega arith,
+      simp length-set (l .inv .1),
+      over-step (c .before .before .before .before .before .clear .result) f (l .out) (l .i) blank _ (l .inv .2) (omega arith) (omega arith)
+          (filled-at (s .args .negative) (s .args .t1) (s .args .shares .0) (s .args .count) (l .i) blank (omega arith) (omega arith) (omega arith) ∙ sym (c .finish .ensures)),
+    )
+
+returns : tie.Need-returns Inv-loop μ-loop
+returns c =
+    let s = c .before .before .before .before in
+    let l = c .before .loop in
+    let long : length (s .args .t1) ≡ 64 = search needs in
+    let long₂ : length (s .args .shares .0) ≡ 64 = search needs in
+    let e : l .i ≡ s .args .count = omega arith in
+    l .inv .2 ∙ rw (e, c .before .before .before .clear .ensures) (filled-all (s .args .negative) (s .args .t1) (s .args .shares .0) (s .args .count) (omega arith) (omega arith))
+
+pub fill-in-spec : {M : Type 1} → statement M
+fill-in-spec =
+    tie.close
+    (tie.spec
+    Inv-loop
+    μ-loop
+    clear-requires
+    loop-holds
+    mul-l
+    array-copy-out-l
+    mul-t14
+    array-read-t20
+    finish-requires
+    mul-out
+    array-set-from-out
+    add-i
+    loop-less
+    loop-again
+    returns)

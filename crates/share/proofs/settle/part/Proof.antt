@@ -1,0 +1,99 @@
+-- `share::settle::part` meets its contract.
+use mathlib.Core.Bool.{Bool}
+use mathlib.Core.Path.{_≡_, ap, sym, _∙_}
+use mathlib.Core.List.{List}
+use mathlib.Core.Logic.{⊎-elim}
+use Prim.Native.Nat.{ℕ, _^_, _<_}
+use native.Mathlib.Nat.{le-trans}
+use native.Mathlib.Omega.{arith}
+use lib.ListN.{length, take}
+use lib.Seq.{length-take-le}
+use Rattle.apportion.specs.Apportion.{total, apportion}
+use Rattle.share.specs.Sharing.{Outcome, weightsBy, allWeights, partsBy}
+use Rattle.share.specs.Forms.{arrayOf}
+use Rattle.share.proofs.Bounds.{weights-le}
+use Rattle.share.proofs.Cases.{settled-16, settled-on, accepted-is, parts-are, share-le}
+use borrow.Author.Needs.{needs}
+use Rattle.share.proofs.settle.part.Statement.{statement}
+use Rattle.share.proofs.settle.part.Tie as tie
+
+-- the weights, after the call that makes them: their sum fits
+sum-fits : (c : tie.After-weights-of) → total (take (c .before .args .count) (c .weights-of .result)) < 2 ^ 62
+sum-fits c =
+    let s = c .before in
+    let ls = take (s .args .count) (s .args .lines) in
+    let long : length (s .args .lines) ≡ 64 = search needs in
+    let l = length-take-le (s .args .count) (s .args .lines) (omega arith) in
+    rw (c .weights-of .ensures) (omega (arith, weights-le (s .args .negative) ls (s .pre .0 .1)))
+
+-- past the test there is a weight where there is something to share
+weighty : (c : tie.Joined1) → let s = c .before .before .before .before .before in
+    0 < s .args .amount .0 → 0 < total (take (s .args .count) (c .before .before .before .before .weights-of .result))
+weighty c h = ⊎-elim (λ w. omega (arith, c .before .before .sum-of .ensures, w .1 .left)) (λ w. omega (arith, w .left)) (c .if1 .came)
+
+all-is : (c : tie.After-weights-of) → total (take (c .before .args .count) (c .weights-of .result)) ≡ allWeights (take (c .before .args .count) (c .before .args .lines))
+all-is c = ap total (c .weights-of .ensures) ∙ ap (λ (b : Bool). total (weightsBy b (take (c .before .args .count) (c .before .args .lines)))) (c .before .pre .1 .1)
+
+weights-of-requires : tie.Need-weights-of-requires
+weights-of-requires c κs = search needs
+
+array-share-prefix-ws : tie.Need-array-share-prefix-ws
+array-share-prefix-ws c = search needs
+
+slice-aggregate-sum-of : tie.Need-slice-aggregate-sum-of
+slice-aggregate-sum-of c =
+    let long : length (c .before .weights-of .result) ≡ 64 = search needs in
+    sym (length-take-le (c .before .before .args .count) (c .before .weights-of .result) (omega arith))
+
+sum-of-requires : tie.Need-sum-of-requires
+sum-of-requires c κs = omega (arith, sum-fits (c .before))
+
+refuse-requires : tie.Need-refuse-requires
+refuse-requires c κs = search needs
+
+returns : tie.Need-returns
+returns c =
+    let s = c .before .before .before .before .before .before .before in
+    let ls = take (s .args .count) (s .args .lines) in
+    c .refuse .ensures ∙ ap (λ (o : Outcome). arrayOf (s .args .lines) o)
+    (settled-16 ls (s .pre .0 .3) (omega (arith, s .pre .1 .0, c .before .before .if1 .taken))
+    (sym (all-is (c .before .before .before .before .before .before)) ∙ sym (c .before .before .before .before .sum-of .ensures) ∙ c .before .if2 .taken))
+
+shares-of-requires : tie.Need-shares-of-requires
+shares-of-requires c κs =
+    let s = c .before .before .before .before .before in
+    ((s .pre .0 .0, omega (arith, s .pre .0 .2), sum-fits (c .before .before .before .before)), weighty c)
+
+fill-in-requires : tie.Need-fill-in-requires
+fill-in-requires c κs =
+    let s = c .before .before .before .before .before .before in (
+      (s .pre .0 .0, s .pre .0 .1),
+      λ k h. le-trans (share-le (s .args .amount .0) k (s .args .count) (c .shares-of .result .0) (take (s .args .count) (c .before .before .before .before .before .weights-of .result)) (c .shares-of .ensures) (weighty (c .before)) h) (s .pre .0 .2),
+    )
+
+returns-2 : tie.Need-returns-2
+returns-2 c =
+    let s = c .before .before .before .before .before .before .before in
+    let a = s .args in
+    let ls = take (a .count) (a .lines) in
+    let ss = take (a .count) (c .before .shares-of .result .0) in
+    let es : ss ≡ apportion (a .amount .0) (weightsBy (a .negative) ls) =
+    c .before .shares-of .ensures ∙ ap (λ (ws : List ℕ). apportion (a .amount .0) ws) (c .before .before .before .before .before .before .weights-of .ensures) in
+    accepted-is (a .lines) ls (a .whole) (partsBy (a .negative) ls ss) (c .fill-in .result) (s .pre .1 .2)
+    (parts-are ls (a .amount .0) (a .negative) ss (s .pre .1 .0) (s .pre .1 .1) es) (c .fill-in .ensures)
+    ∙ ap (λ (o : Outcome). arrayOf (a .lines) o)
+    (settled-on ls (s .pre .0 .3) (λ h. omega (arith, weighty (c .before .before) (omega (arith, s .pre .1 .0)), all-is (c .before .before .before .before .before .before))))
+
+pub part-spec : {M : Type 1} → statement M
+part-spec =
+    tie.close
+    (tie.spec
+    weights-of-requires
+    array-share-prefix-ws
+    slice-aggregate-sum-of
+    sum-of-requires
+    refuse-requires
+    returns
+    shares-of-requires
+    fill-in-requires
+    returns-2)

@@ -1,0 +1,148 @@
+-- Sharing, as the paper has it, over a list of lines. Assumes nothing.
+use mathlib.Core.Bool.{Bool, true, false, cond, _&&_}
+use mathlib.Core.List.{List, [], _∷_, map}
+use Prim.Native.Nat.{ℕ, suc, _*_}
+use lib.Dec.{leb, ltb, eqb}
+use lib.IntN.{ℤ, pos, negℤ, natAbs, _+ℤ_, _-ℤ_}
+use lib.ListN.{length}
+use Rattle.apportion.specs.Apportion.{total, apportion}
+use Rattle.units.specs.Money.{fenPerThousandth}
+use Rattle.share.specs.declared.Line.{Line}
+
+-- Limits
+
+-- numbers are 1 to 64, so there are at most 64 lines
+abbrev pub mostNumber : ℕ
+mostNumber = 64
+
+-- status is 0 commercial, 1 semi-coke tail gas, 2 commissioning or retired
+abbrev pub mostStatus : ℕ
+mostStatus = 2
+
+-- energy is 0 to 5,000,000 MWh
+abbrev pub mostEnergy : ℕ
+mostEnergy = 5000000
+
+-- compensation is 0 to 10^11 fen, of a line and (C) of all lines
+abbrev pub mostCompensation : ℕ
+mostCompensation = 100000000000
+
+-- assessment is 0 to 10,000,000 thousandths of a point
+abbrev pub mostAssessment : ℕ
+mostAssessment = 10000000
+
+-- The gap
+
+-- an assessment in fen: 100 fen each thousandth of a point
+abbrev pub assessmentFen : Line → ℕ
+assessmentFen l = l .assessment .0 * fenPerThousandth
+
+-- C, the sum of the compensations in fen
+abbrev pub compensated : List Line → ℕ
+compensated ls = total (map (λ l. l .compensation .0) ls)
+
+-- A, the sum of the assessments in fen
+abbrev pub assessed : List Line → ℕ
+assessed ls = total (map (λ l. assessmentFen l) ls)
+
+-- A < C: R is below zero
+abbrev pub below : List Line → Bool
+below ls = ltb (assessed ls) (compensated ls)
+
+-- R = A − C
+unfoldable pub gap : List Line → ℤ
+gap ls = pos (assessed ls) -ℤ pos (compensated ls)
+
+-- Weights
+
+-- 10 for status 0, 5 for 1, and for 2 12 if A < C, else 10
+abbrev pub factor : Bool → ℕ → ℕ
+factor isBelow status = cond (eqb status 0) 10 (cond (eqb status 1) 5 (cond isBelow 12 10))
+
+-- weight is energy times the factor of the status
+abbrev pub weightOf : Bool → Line → ℕ
+weightOf isBelow l = l .energy .0 * factor isBelow (l .status)
+
+-- the weights of the lines, where it is known whether A < C
+abbrev pub weightsBy : Bool → List Line → List ℕ
+weightsBy isBelow ls = map (λ l. weightOf isBelow l) ls
+
+-- the weights of the lines
+abbrev pub weights : List Line → List ℕ
+weights ls = weightsBy (below ls) ls
+
+-- the sum of the weights
+abbrev pub allWeights : List Line → ℕ
+allWeights ls = total (weights ls)
+
+-- Shares and amounts
+
+-- the sign of R is put on
+abbrev pub signed : Bool → ℕ → ℤ
+signed false share = pos share
+signed true share = negℤ (pos share)
+
+-- what a line gets
+pub record Part : Type 0 where
+  pub share : ℤ
+  pub amount : ℤ
+
+-- amount = compensation − assessment + share
+abbrev pub partOf : Bool → Line → ℕ → Part
+partOf isBelow l share =
+    record {
+      share = signed isBelow share;
+      amount = pos (l .compensation .0) -ℤ pos (assessmentFen l) +ℤ signed isBelow share;
+    }
+
+-- what each line gets, from the shares of |R|
+abbrev pub partsBy : Bool → List Line → List ℕ → List Part
+partsBy isBelow [] shares = []
+partsBy isBelow (l ∷ ls) [] = []
+partsBy isBelow (l ∷ ls) (share ∷ shares) = partOf isBelow l share ∷ partsBy isBelow ls shares
+
+-- the shares are |R| apportioned by the weights, with the sign of R
+unfoldable pub parts : List Line → List Part
+parts ls = partsBy (below ls) ls (apportion (natAbs (gap ls)) (weights ls))
+
+-- Refusals
+
+-- a line is sound after the number `before`: numbers rise strictly, and each field is within its limits
+unfoldable pub soundLine : ℕ → Line → Bool
+soundLine before l =
+    ltb before (l .number) && leb (l .number) mostNumber && leb (l .status) mostStatus && leb (l .energy .0) mostEnergy
+    && leb (l .compensation .0) mostCompensation && leb (l .assessment .0) mostAssessment
+
+-- the place of the first line that is not sound, or the number of lines where all are
+abbrev pub firstBad : ℕ → List Line → ℕ
+firstBad before [] = 0
+firstBad before (l ∷ ls) = cond (soundLine before l) (suc (firstBad (l .number) ls)) 0
+
+-- R is not 0 and all weights are 0
+abbrev pub weightless : List Line → Bool
+weightless ls = ltb 0 (natAbs (gap ls)) && eqb (allWeights ls) 0
+
+-- number and place of a refusal, or zeros; R; and what each line gets
+pub record Outcome : Type 0 where
+  pub number : ℕ
+  pub place : ℕ
+  pub gap : ℤ
+  pub parts : List Part
+
+-- a refusal gives number and place, otherwise zeros
+abbrev pub refused : ℕ → ℕ → Outcome
+refused number place = record { number = number; place = place; gap = pos 0; parts = [] }
+
+-- accepted, number and place are 0; sharing gives R
+abbrev pub accepted : List Line → Outcome
+accepted ls = record { number = 0; place = 0; gap = gap ls; parts = parts ls }
+
+-- where every line is sound: 15 where C is above 10^11, 16 where R is not 0 and all weights are 0
+unfoldable pub settled : List Line → Outcome
+settled ls =
+    cond (ltb mostCompensation (compensated ls)) (refused 15 0)
+    (cond (weightless ls) (refused 16 0) (accepted ls))
+
+-- Sharing: 10 in turn, 15, 16. A 65th line is never sound, since numbers rise strictly up to 64.
+unfoldable pub sharing : List Line → Outcome
+sharing ls = cond (ltb (firstBad 0 ls) (length ls)) (refused 10 (firstBad 0 ls)) (settled ls)

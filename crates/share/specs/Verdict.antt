@@ -1,0 +1,53 @@
+-- The refusals of sharing as the paper's table has them, each with the condition under which it is given. Assumes nothing.
+use mathlib.Core.Path.{_≡_}
+use mathlib.Core.List.{List}
+use mathlib.Core.Logic.{_⊎_, _≢_}
+use Prim.Native.Nat.{ℕ, zero, suc, _*_, _/_, _%_, _≤_, _<_}
+use lib.IntN.{pos}
+use lib.ListN.{length, getD}
+use Rattle.share.specs.declared.Line.{Line}
+use Rattle.share.specs.Sharing.{mostNumber, mostStatus, mostEnergy, mostCompensation, mostAssessment, compensated, gap, allWeights, Outcome, refused, accepted, sharing}
+use Rattle.share.specs.Forms.{blank}
+use Rattle.share.specs.Bytes.{linesOf}
+
+-- numbers 1 to 64 rising strictly, and each field within its limits
+pub record SoundLine (before : ℕ) (l : Line) : Type 0 where
+  pub rises : before < l .number
+  pub number : l .number ≤ mostNumber
+  pub status : l .status ≤ mostStatus
+  pub energy : l .energy .0 ≤ mostEnergy
+  pub compensation : l .compensation .0 ≤ mostCompensation
+  pub assessment : l .assessment .0 ≤ mostAssessment
+
+-- the number of the line before a place; `first` before the first
+unfoldable pub numberBefore : ℕ → List Line → ℕ → ℕ
+numberBefore first ls zero = first
+numberBefore first ls (suc k) = getD ls k blank .number
+
+-- the line at a place is sound
+abbrev pub SoundAt : List Line → ℕ → Type 0
+SoundAt ls k = SoundLine (numberBefore 0 ls k) (getD ls k blank)
+
+-- every line is sound
+abbrev pub AllSound : List Line → Type 0
+AllSound ls = (k : ℕ) → k < length ls → SoundAt ls k
+
+-- the line at p is not sound, and those before it are
+pub record FirstBad (ls : List Line) (p : ℕ) : Type 0 where
+  pub within : p < length ls
+  pub before : (k : ℕ) → k < p → SoundAt ls k
+  pub bad : SoundAt ls p → ⊥
+
+-- No. 10, 15, 16, and the sharing, each under its condition
+pub data Verdict (ls : List Line) (o : Outcome) : Type 0 where
+  ten : (p : ℕ) → FirstBad ls p → o ≡ refused 10 p → Verdict ls o
+  fifteen : AllSound ls → mostCompensation < compensated ls → o ≡ refused 15 0 → Verdict ls o
+  sixteen : AllSound ls → compensated ls ≤ mostCompensation → gap ls ≢ pos 0 → allWeights ls ≡ 0 → o ≡ refused 16 0 → Verdict ls o
+  shared : AllSound ls → compensated ls ≤ mostCompensation → (gap ls ≡ pos 0) ⊎ (0 < allWeights ls) → o ≡ accepted ls → Verdict ls o
+
+-- over bytes 1 comes first and 9 last
+pub data ByteVerdict (input : List ℕ) (room : ℕ) (o : Outcome) : Type 0 where
+  one : length input % 24 ≢ 0 → o ≡ refused 1 0 → ByteVerdict input room o
+  asLines : length input % 24 ≡ 0 → 0 < sharing (linesOf input) .number → o ≡ sharing (linesOf input) → ByteVerdict input room o
+  nine : length input % 24 ≡ 0 → sharing (linesOf input) .number ≡ 0 → room < 16 * (length input / 24) → o ≡ refused 9 0 → ByteVerdict input room o
+  written : length input % 24 ≡ 0 → sharing (linesOf input) .number ≡ 0 → 16 * (length input / 24) ≤ room → o ≡ sharing (linesOf input) → ByteVerdict input room o

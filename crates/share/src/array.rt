@@ -1,0 +1,74 @@
+// 64 lines by value: what the byte form and the lent list need around the array form.
+use crate::Answer;
+use crate::Line;
+use crate::Shared;
+use units::Fen;
+use units::Mwh;
+use units::SignedFen;
+use units::Thousandths;
+ghost use mathlib.Core.Path.{_≡_};
+ghost use Prim.Native.Nat.{_<_, _≤_, min};
+ghost use lib.ListN.{getD, set, replicate};
+ghost use Rattle.share.specs.Forms.{blank, answerIn, kept};
+
+pub fn blank_line() -> Line
+    ensures { λ r. ⌜ r ≡ blank ⌝ }
+{
+    Line {
+        number: 0,
+        status: 0,
+        energy: Mwh(0),
+        compensation: Fen(0),
+        assessment: Thousandths(0),
+        share: SignedFen(0),
+        amount: SignedFen(0),
+    }
+}
+
+pub fn blank_lines() -> [Line; 64]
+    ensures { λ r. ⌜ r ≡ replicate 64 blank ⌝ }
+{
+    let none = blank_line();
+    [none; 64]
+}
+
+// How many of so many lines the array holds.
+pub fn seen(count: usize) -> usize
+    ensures { λ r. ⌜ (r ≡ min count 64) × (r ≤ count) × (r ≤ 64) ⌝ }
+{
+    if count < 64 { count } else { 64 }
+}
+
+pub fn put_line(mut lines: [Line; 64], i: usize, l: Line) -> [Line; 64]
+    requires { ⌜ i < 64 ⌝ }
+    ensures { λ r. ⌜ r ≡ set lines i l ⌝ }
+{
+    lines[i] = l;
+    lines
+}
+
+pub fn take_line(s: Shared, i: usize) -> Line
+    requires { ⌜ i < 64 ⌝ }
+    ensures { λ r. ⌜ r ≡ getD (s .lines) i blank ⌝ }
+{
+    s.lines[i]
+}
+
+// How many lines are taken over: all, or none where the array form refused.
+pub fn kept_of(s: Shared, count: usize) -> usize
+    ensures { λ r. ⌜ (r ≡ kept s count) × (r ≤ count) ⌝ }
+{
+    if s.number == 0 { count } else { 0 }
+}
+
+// What an array form's answer says besides its lines.
+pub fn answer_of(s: Shared) -> Answer
+    ensures { λ r. ⌜ r ≡ answerIn s ⌝ }
+{
+    let gap = s.gap;
+    Answer {
+        number: s.number,
+        place: s.place,
+        gap,
+    }
+}

@@ -1,0 +1,53 @@
+// Sharing: the gap between assessments and compensations, carried by the lines by weight.
+mod array;
+pub mod bytes;
+pub mod lent;
+mod settle;
+
+use units::Fen;
+use units::Mwh;
+use units::SignedFen;
+use units::Thousandths;
+ghost use mathlib.Core.Path.{_≡_};
+ghost use Rattle.share.specs.Forms.{sharedArray};
+
+// One line of the sharing; share and amount are filled in.
+pub struct Line {
+    pub number: u16,
+    pub status: u8,
+    pub energy: Mwh,
+    pub compensation: Fen,
+    pub assessment: Thousandths,
+    pub share: SignedFen,
+    pub amount: SignedFen,
+}
+
+// A refusal's number and place, or zeros; R; and the lines, filled in where there is no refusal.
+pub struct Shared {
+    pub number: u32,
+    pub place: usize,
+    pub gap: SignedFen,
+    pub lines: [Line; 64],
+}
+
+// A refusal's number and place, or zeros, and R.
+pub struct Answer {
+    pub number: u32,
+    pub place: usize,
+    pub gap: SignedFen,
+}
+
+// The sharing of the first `count` of 64 lines.
+pub fn share(lines: [Line; 64], count: usize) -> Shared
+    ensures { λ r. ⌜ r ≡ sharedArray lines count ⌝ }
+{
+    if 64 < count {
+        let bad = settle::first_bad(lines, 64);
+        return settle::refuse(10, bad, lines);
+    }
+    let bad = settle::first_bad(lines, count);
+    if bad < count {
+        return settle::refuse(10, bad, lines);
+    }
+    settle::settle(lines, count)
+}

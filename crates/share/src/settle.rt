@@ -1,0 +1,245 @@
+// The array form, step by step: the lines in turn, the sums, the weights, the shares, the lines filled in.
+use crate::Line;
+use crate::Shared;
+use units::Fen;
+use units::SignedFen;
+ghost use mathlib.Core.Path.{_≡_};
+ghost use mathlib.Core.List.{map};
+ghost use Prim.Native.Nat.{ℕ, _+_, _*_, _^_, _<_, _≤_};
+ghost use lib.ListN.{getD, take};
+ghost use lib.IntN.{pos, natAbs, _-ℤ_};
+ghost use Rattle.apportion.specs.Apportion.{total, apportion};
+ghost use Rattle.share.specs.Sharing.{factor, weightOf, weightsBy, compensated, assessed, below, gap, partOf, partsBy, soundLine, firstBad, refused, settled, mostEnergy, mostCompensation};
+ghost use Rattle.share.specs.Limits.{Within, AllWithin};
+ghost use Rattle.share.specs.Forms.{filled, fill, cleared, arrayOf};
+
+// C and A.
+pub struct Totals {
+    pub compensated: Fen,
+    pub assessed: Fen,
+}
+
+// What each line carries, without its sign.
+pub struct FenEach(pub [u64; 64]);
+
+// The factor of a status; `negative` says that A < C, so that R is below zero.
+fn factor_of(negative: bool, status: u8) -> u64
+    ensures { λ r. ⌜ r ≡ factor negative status ⌝ }
+    ensures { λ r. ⌜ r ≤ 12 ⌝ }
+{
+    if status == 0 {
+        10
+    } else if status == 1 {
+        5
+    } else if negative {
+        12
+    } else {
+        10
+    }
+}
+
+fn weight(l: Line, negative: bool) -> u64
+    requires { ⌜ l .energy .0 ≤ mostEnergy ⌝ }
+    ensures { λ r. ⌜ r ≡ weightOf negative l ⌝ }
+{
+    (l.energy.0 as u64) * factor_of(negative, l.status)
+}
+
+// Whether a line is sound after the number `before`.
+fn sound(l: Line, before: u16) -> bool
+    ensures { λ r. ⌜ r ≡ soundLine before l ⌝ }
+{
+    (before < l.number)
+        & (l.number <= 64)
+        & (l.status <= 2)
+        & (l.energy.0 <= 5000000)
+        & (l.compensation.0 <= 100000000000)
+        & (l.assessment.0 <= 10000000)
+}
+
+// The place of the first line that is not sound, or count.
+pub fn first_bad(lines: [Line; 64], count: usize) -> usize
+    requires { ⌜ count ≤ 64 ⌝ }
+    ensures { λ r. ⌜ r ≡ firstBad 0 (take count lines) ⌝ }
+{
+    let mut before: u16 = 0;
+    let mut i: usize = 0;
+    while i < count {
+        let l = lines[i];
+        if sound(l, before) {
+            before = l.number;
+        } else {
+            return i;
+        }
+        i += 1;
+    }
+    count
+}
+
+// C and A in one pass.
+fn sums(lines: [Line; 64], count: usize) -> Totals
+    requires { ⌜ (count ≤ 64) × (compensated (take count lines) < 2 ^ 63) × (assessed (take count lines) < 2 ^ 63) ⌝ }
+    ensures { λ r. ⌜ r .compensated .0 ≡ compensated (take count lines) ⌝ }
+    ensures { λ r. ⌜ r .assessed .0 ≡ assessed (take count lines) ⌝ }
+{
+    let mut c: u64 = 0;
+    let mut a: u64 = 0;
+    let mut i: usize = 0;
+    while i < count {
+        let l = lines[i];
+        let fen = l.assessment.to_fen();
+        c += l.compensation.0;
+        a += fen.0;
+        i += 1;
+    }
+    Totals {
+        compensated: Fen(c),
+        assessed: Fen(a),
+    }
+}
+
+// The weights of the first lines.
+fn weights_of(lines: [Line; 64], count: usize, negative: bool) -> [u64; 64]
+    requires { ⌜ (count ≤ 64) × AllWithin (take count lines) ⌝ }
+    ensures { λ r. ⌜ take count r ≡ weightsBy negative (take count lines) ⌝ }
+{
+    let mut ws = [0u64; 64];
+    let mut i: usize = 0;
+    while i < count {
+        let l = lines[i];
+        ws[i] = weight(l, negative);
+        i += 1;
+    }
+    ws
+}
+
+// The difference of two amounts, with its sign.
+fn difference(a: Fen, b: Fen) -> SignedFen
+    requires { ⌜ (a .0 < 2 ^ 63) × (b .0 < 2 ^ 63) ⌝ }
+    ensures { λ r. ⌜ r .0 ≡ pos (a .0) -ℤ pos (b .0) ⌝ }
+{
+    SignedFen((a.0 as i64) - (b.0 as i64))
+}
+
+fn with(l: Line, share: SignedFen, amount: SignedFen) -> Line
+    ensures { λ r. ⌜ r ≡ filled l (record { share = share .0; amount = amount .0 }) ⌝ }
+{
+    let mut filled = l;
+    filled.share = share;
+    filled.amount = amount;
+    filled
+}
+
+// A line with its share, with the sign put on, and its amount.
+fn finish(l: Line, s: Fen, negative: bool) -> Line
+    requires { ⌜ Within l × (s .0 ≤ mostCompensation) ⌝ }
+    ensures { λ r. ⌜ r ≡ filled l (partOf negative l (s .0)) ⌝ }
+{
+    let c = l.compensation.0;
+    let n = s.0;
+    let f = l.assessment.to_fen();
+    if negative {
+        with(l, difference(Fen(0), s), difference(Fen(c), Fen(f.0 + n)))
+    } else {
+        with(l, difference(s, Fen(0)), difference(Fen(c + n), f))
+    }
+}
+
+// The lines with share and amount 0.
+fn clear(lines: [Line; 64]) -> [Line; 64]
+    ensures { λ r. ⌜ r ≡ map (λ l. cleared l) lines ⌝ }
+{
+    let mut out = lines;
+    let mut i: usize = 0;
+    while i < 64 {
+        let l = lines[i];
+        out[i] = with(l, SignedFen(0), SignedFen(0));
+        i += 1;
+    }
+    out
+}
+
+// The first lines with their shares filled in, the others cleared.
+fn fill_in(lines: [Line; 64], shares: FenEach, count: usize, negative: bool) -> [Line; 64]
+    requires { ⌜ (count ≤ 64) × AllWithin (take count lines) ⌝ }
+    requires { ⌜ ((k : ℕ) → k < count → getD (shares .0) k 0 ≤ mostCompensation) ⌝ }
+    ensures { λ r. ⌜ r ≡ fill (partsBy negative (take count lines) (take count (shares .0))) (map (λ l. cleared l) lines) ⌝ }
+{
+    let mut out = clear(lines);
+    let ss = shares.0;
+    let mut i: usize = 0;
+    while i < count {
+        let l = lines[i];
+        let s = Fen(ss[i]);
+        out[i] = finish(l, s, negative);
+        i += 1;
+    }
+    out
+}
+
+// The shares of an amount by the first weights.
+fn shares_of(amount: Fen, weights: [u64; 64], count: usize) -> FenEach
+    requires { ⌜ (count ≤ 64) × (amount .0 < 2 ^ 63) × (total (take count weights) < 2 ^ 62) ⌝ }
+    requires { ⌜ (0 < amount .0 → 0 < total (take count weights)) ⌝ }
+    ensures { λ r. ⌜ take count (r .0) ≡ apportion (amount .0) (take count weights) ⌝ }
+{
+    let mut ss = [0u64; 64];
+    let mut rs = [0u64; 64];
+    let n = amount.0;
+    if 0 < n {
+        apportion::apportion_into(n, &weights[..count], &mut ss[..count], &mut rs[..count]);
+    }
+    FenEach(ss)
+}
+
+pub fn refuse(number: u32, place: usize, lines: [Line; 64]) -> Shared
+    ensures { λ r. ⌜ r ≡ arrayOf lines (refused number place) ⌝ }
+{
+    Shared {
+        number,
+        place,
+        gap: SignedFen(0),
+        lines: clear(lines),
+    }
+}
+
+// 16, or the sharing of |R|; `negative` says that R, in `whole`, is below zero.
+fn part(lines: [Line; 64], count: usize, amount: Fen, negative: bool, whole: SignedFen) -> Shared
+    requires { ⌜ (count ≤ 64) × AllWithin (take count lines) × (amount .0 ≤ mostCompensation) × (compensated (take count lines) ≤ mostCompensation) ⌝ }
+    requires { ⌜ (amount .0 ≡ natAbs (gap (take count lines))) × (negative ≡ below (take count lines)) × (whole .0 ≡ gap (take count lines)) ⌝ }
+    ensures { λ r. ⌜ r ≡ arrayOf lines (settled (take count lines)) ⌝ }
+{
+    let ws = weights_of(lines, count, negative);
+    let all = apportion::sum_of(&ws[..count]);
+    if 0 < amount.0 {
+        if all == 0 {
+            return refuse(16, 0, lines);
+        }
+    }
+    let ss = shares_of(amount, ws, count);
+    Shared {
+        number: 0,
+        place: 0,
+        gap: whole,
+        lines: fill_in(lines, ss, count, negative),
+    }
+}
+
+// 15, 16, or the sharing.
+pub fn settle(lines: [Line; 64], count: usize) -> Shared
+    requires { ⌜ (count ≤ 64) × AllWithin (take count lines) ⌝ }
+    ensures { λ r. ⌜ r ≡ arrayOf lines (settled (take count lines)) ⌝ }
+{
+    let s = sums(lines, count);
+    let c = s.compensated.0;
+    if 100000000000 < c {
+        return refuse(15, 0, lines);
+    }
+    let a = s.assessed.0;
+    let whole = difference(Fen(a), Fen(c));
+    if a < c {
+        part(lines, count, Fen(c - a), true, whole)
+    } else {
+        part(lines, count, Fen(a - c), false, whole)
+    }
+}
