@@ -187,6 +187,14 @@ module _ {m : ℕ} (x y : Call) (p : Within m x) (q : Within m y) (k : keyOf x �
     alike r bx true e = equal (same-eq x y e) (same-stands e)
     alike r bx false e = clash r (λ (d : x ≡ y). true≢false (sym (eq-same x y d) ∙ e)) (unequal e _ _ refl refl ∙ sym bx)
 
+  -- at equal revision unequal records, a contested one against a live one included, become contested at that revision
+  pub unequal-contested : isWithdrawn x ≡ false → isWithdrawn y ≡ false → x .revision ≡ y .revision → (x ≡ y → ⊥) → standing x y ≡ contestedOf x
+  unequal-contested tx ty h n = unequal tx ty h (go (sameCall x y) refl) _ _ refl refl
+    where
+      go : (b : Bool) → sameCall x y ≡ b → sameCall x y ≡ false
+      go true e = absurd (n (same-eq x y e))
+      go false e = e
+
   pub stood : Stood x y
   unfolding standing decision given
   stood = go (is x) (is y) (three (x .revision) (y .revision))

@@ -7,7 +7,7 @@ use Rattle.call.specs.Revising.{contested, withdrawn, contestedOf}
 use Rattle.rule.specs.declared.Decision.{Decision}
 use Rattle.rule.specs.declared.Decision.the-variants.{First, Second, Struck}
 
--- the records are equal, field by field
+-- the records are equal, field by field; of the signed a, neither is below the other
 unfoldable pub sameCall : Call → Call → Bool
 sameCall x y =
     eqb (x .participant) (y .participant)

@@ -1,0 +1,34 @@
+-- Two outcomes that the contract of a C function allows are one: number, cells and output. Assumes nothing.
+use mathlib.Core.Path.{_≡_, sym, _∙_}
+use mathlib.Core.List.{List}
+use Prim.Native.Nat.{ℕ}
+use lib.IntN.{ℤ}
+use Rattle.book.specs.declared.Verdict.{Verdict}
+use Rattle.book.specs.Write.{Outcome}
+use Rattle.join.specs.declared.lookup.Place.{Place}
+use Rattle.score.specs.declared.answer.Score.{Score}
+use Rattle.nwb.specs.Told.{Checked, Wrote, Located, Scored, Shared}
+
+-- nwb_check
+pub check-determined : (v : Verdict) (n p n′ p′ : ℕ) → Checked v n p → Checked v n′ p′ → (n ≡ n′) × (p ≡ p′)
+check-determined v n p n′ p′ x y = (x .number-is ∙ sym (y .number-is), x .place-is ∙ sym (y .place-is))
+
+-- nwb_none, nwb_one, nwb_join
+pub wrote-determined : (o : Outcome) (n p l n′ p′ l′ : ℕ) (out out′ : List ℕ) → Wrote o n p l out → Wrote o n′ p′ l′ out′ → (n ≡ n′) × (p ≡ p′) × (l ≡ l′) × (out ≡ out′)
+wrote-determined o n p l n′ p′ l′ out out′ x y =
+    (x .number-is ∙ sym (y .number-is), x .place-is ∙ sym (y .place-is), x .length-is ∙ sym (y .length-is), x .out-is ∙ sym (y .out-is))
+
+-- nwb_find
+pub find-determined : (w : Place) (b o b′ o′ : ℕ) → Located w b o → Located w b′ o′ → (b ≡ b′) × (o ≡ o′)
+find-determined w b o b′ o′ x y = (x .book-is ∙ sym (y .book-is), x .offset-is ∙ sym (y .offset-is))
+
+-- nwb_score
+pub score-determined : (s : Score) (n p g f n′ p′ g′ f′ : ℕ) → Scored s n p g f → Scored s n′ p′ g′ f′ → (n ≡ n′) × (p ≡ p′) × (g ≡ g′) × (f ≡ f′)
+score-determined s n p g f n′ p′ g′ f′ x y =
+    (x .number-is ∙ sym (y .number-is), x .place-is ∙ sym (y .place-is), x .grains-is ∙ sym (y .grains-is), x .fen-is ∙ sym (y .fen-is))
+
+-- nwb_share
+pub share-determined : (input before after after′ : List ℕ) (n p n′ p′ : ℕ) (g g′ : ℤ) → Shared input before after n p g → Shared input before after′ n′ p′ g′
+    → (n ≡ n′) × (p ≡ p′) × (g ≡ g′) × (after ≡ after′)
+share-determined input before after after′ n p n′ p′ g g′ x y =
+    (x .number-is ∙ sym (y .number-is), x .place-is ∙ sym (y .place-is), x .gap-is ∙ sym (y .gap-is), x .out-is ∙ sym (y .out-is))

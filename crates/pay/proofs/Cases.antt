@@ -1,0 +1,83 @@
+-- The definitions of a live call's pay, case by case. Assumes nothing.
+use mathlib.Core.Path.{_≡_, sym}
+use mathlib.Core.Bool.{Bool, true, false, cond, not, _&&_, _||_, true≢false}
+use mathlib.Core.List.{List, [], _∷_}
+use Prim.Native.Nat.{ℕ, _≤_}
+use native.Mathlib.Omega.{arith}
+use lib.Dec.{eqb, leb}
+use lib.IntN.{pos}
+use lib.Signed.{leZ}
+use borrow.Author.Tests.{ne-eqb, leb-true}
+use Rattle.le.proofs.Tests.{each}
+use Rattle.call.specs.declared.Call.{Call}
+use Rattle.pay.specs.declared.Member.{Member}
+use Rattle.pay.specs.Member.{byRate}
+use Rattle.pay.specs.Window.{windowPay}
+use Rattle.pay.specs.Rate.{ratedPay}
+use Rattle.pay.specs.Event.{eventWh, clamp}
+use Rattle.pay.specs.Open.{isZero, reserveOpen, eventOpen, openTo}
+use Rattle.pay.specs.Live.{livePay, liveWh}
+use Rattle.pay.proofs.Signed.{zero-clamp, clamp-top}
+
+module _ (m : Member) (series : List ℕ) (x : Call) where
+  pub live-1 : x .service ≡ 1 → livePay m series x ≡ windowPay m 1 0 series (x .start) (x .length)
+  unfolding livePay
+  live-1 e = simp e
+
+  pub live-2 : x .service ≡ 2 → livePay m series x ≡ windowPay m 2 (clamp (x .a)) series (x .start) (x .length)
+  unfolding livePay
+  live-2 e = simp e
+
+  pub live-rate : x .service ≡ 8 → byRate (m .kind) ≡ true → livePay m series x ≡ ratedPay m x
+  unfolding livePay
+  live-rate e t = simp (e, t)
+
+  pub live-energy : x .service ≡ 8 → byRate (m .kind) ≡ false → livePay m series x ≡ 0
+  unfolding livePay
+  live-energy e t = simp (e, t)
+
+  pub live-rest : (x .service ≡ 1 → ⊥) → (x .service ≡ 2 → ⊥) → (x .service ≡ 8 → ⊥) → livePay m series x ≡ ratedPay m x
+  unfolding livePay
+  live-rest p q r = simp (ne-eqb _ _ p, ne-eqb _ _ q, ne-eqb _ _ r)
+
+module _ (kind : ℕ) (x : Call) where
+  pub wh-energy : x .service ≡ 8 → byRate kind ≡ false → liveWh kind x ≡ eventWh (x .a) (x .b) (x .c)
+  unfolding liveWh
+  wh-energy e t = simp (e, t)
+
+  pub wh-rate : x .service ≡ 8 → byRate kind ≡ true → liveWh kind x ≡ pos 0
+  unfolding liveWh
+  wh-rate e t = simp (e, t)
+
+  pub wh-rest : (x .service ≡ 8 → ⊥) → liveWh kind x ≡ pos 0
+  unfolding liveWh
+  wh-rest p = simp (ne-eqb _ _ p)
+
+module _ (m : Member) (x : Call) (h : openTo m x ≡ true) where
+  open-8 : x .service ≡ 8 → eventOpen (byRate (m .kind)) (x .a) (x .b) ≡ true
+  unfolding openTo
+  open-8 e = simp e at h
+
+  -- an open event of wind or photovoltaic brings a rate
+  pub open-rate : x .service ≡ 8 → byRate (m .kind) ≡ true → x .b ≤ 10000
+  unfolding eventOpen
+  open-rate e t = go (byRate (m .kind)) t (open-8 e)
+    where
+      go : (r : Bool) → r ≡ true → (not r || isZero (x .a) && leb (x .b) 10000) ≡ true → x .b ≤ 10000
+      go true t h = leb-true _ _ (each (isZero (x .a)) (leb (x .b) 10000 ∷ []) h .1 .0)
+      go false t h = absurd (true≢false (sym t))
+
+  open-2 : x .service ≡ 2 → reserveOpen (m .kind) (m .rated .0) (x .a) ≡ true
+  unfolding openTo
+  open-2 e = simp e at h
+
+  -- an open reserve call goes up to the rating at most
+  pub open-power : x .service ≡ 2 → clamp (x .a) ≤ m .rated .0
+  unfolding reserveOpen
+  open-power e = go (eqb (m .kind) 1) (eqb (m .kind) 2) (eqb (m .kind) 3) (open-2 e)
+    where
+      go : (t u v : Bool) → cond t (leZ (pos 1) (x .a) && leZ (x .a) (pos (m .rated .0))) (cond u (isZero (x .a)) (cond v (isZero (x .a)) false)) ≡ true → clamp (x .a) ≤ m .rated .0
+      go true u v h = clamp-top (x .a) (m .rated .0) (each (leZ (pos 1) (x .a)) (leZ (x .a) (pos (m .rated .0)) ∷ []) h .1 .0)
+      go false true v h = omega (arith, zero-clamp (x .a) h)
+      go false false true h = omega (arith, zero-clamp (x .a) h)
+      go false false false h = absurd (true≢false (sym h))

@@ -1,0 +1,5 @@
+pub mod Sums
+pub mod Signed
+pub mod Bounds
+pub mod Cases
+pub mod Ceiling

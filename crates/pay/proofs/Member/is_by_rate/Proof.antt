@@ -1,0 +1,12 @@
+-- `pay::Member::is_by_rate` meets its contract.
+use mathlib.Core.Path.{refl}
+use Rattle.pay.specs.Member.{byRate}
+use Rattle.pay.proofs.Member.is_by_rate.Statement.{statement}
+use Rattle.pay.proofs.Member.is_by_rate.Tie as tie
+
+returns : tie.Need-returns
+unfolding byRate
+returns c = refl
+
+pub is-by-rate-spec : {M : Type 1} → statement M
+is-by-rate-spec = tie.close (tie.spec returns)

@@ -1,0 +1,34 @@
+-- `pay::rate::event_band` meets its contract.
+use borrow.Author.Tests.{lt-ltb, le-ltb, ne-eqb}
+use Rattle.pay.specs.Rate.{eventBand}
+use borrow.Author.Needs.{needs}
+use Rattle.pay.proofs.rate.event_band.Statement.{statement}
+use Rattle.pay.proofs.rate.event_band.Tie as tie
+
+returns : tie.Need-returns
+unfolding eventBand
+returns c = simp (c .if1 .taken)
+
+cast-t7 : tie.Need-cast-t7
+cast-t7 c = search needs
+
+mul-t8 : tie.Need-mul-t8
+mul-t8 c = search needs
+
+add-t9 : tie.Need-add-t9
+add-t9 c = search needs
+
+returns-2 : tie.Need-returns-2
+unfolding eventBand
+returns-2 c = simp (ne-eqb _ _ (c .before .if1 .left), lt-ltb _ _ (c .if2 .taken))
+
+returns-3 : tie.Need-returns-3
+unfolding eventBand
+returns-3 c = simp (ne-eqb _ _ (c .before .before .if1 .left), le-ltb _ _ (c .before .if2 .left), lt-ltb _ _ (c .if3 .taken))
+
+returns-4 : tie.Need-returns-4
+unfolding eventBand
+returns-4 c = simp (ne-eqb _ _ (c .before .before .if1 .left), le-ltb _ _ (c .before .if2 .left), le-ltb _ _ (c .if3 .left))
+
+pub event-band-spec : {M : Type 1} → statement M
+event-band-spec = tie.close (tie.spec returns cast-t7 mul-t8 add-t9 returns-2 returns-3 returns-4)

@@ -1,0 +1,26 @@
+-- `pay::window::lacking` meets its contract.
+use borrow.Author.Tests.{lt-ltb, le-ltb}
+use Rattle.pay.specs.Window.{lackingTo}
+use borrow.Author.Needs.{needs}
+use Rattle.pay.proofs.window.lacking.Statement.{statement}
+use Rattle.pay.proofs.window.lacking.Tie as tie
+
+cast-at : tie.Need-cast-at
+cast-at c = search needs
+
+mul-at : tie.Need-mul-at
+mul-at c = search needs
+
+sub-t7 : tie.Need-sub-t7
+sub-t7 c = search needs
+
+returns : tie.Need-returns
+unfolding lackingTo
+returns c = simp (lt-ltb _ _ (c .if1 .taken))
+
+returns-2 : tie.Need-returns-2
+unfolding lackingTo
+returns-2 c = simp (le-ltb _ _ (c .if1 .left))
+
+pub lacking-spec : {M : Type 1} → statement M
+lacking-spec = tie.close (tie.spec cast-at mul-at sub-t7 returns returns-2)

@@ -1,0 +1,54 @@
+// A live call that is open to the member: its grains, and the energy of its event.
+ghost use mathlib.Core.Path.{_≡_};
+ghost use mathlib.Core.Bool.{true};
+ghost use Prim.Native.Nat.{_*_, _≤_};
+ghost use lib.ListN.{length};
+ghost use lib.Signed.{mag};
+ghost use Rattle.call.specs.Limits.{soundCall};
+ghost use Rattle.pay.specs.Open.{openTo};
+ghost use Rattle.pay.specs.Live.{livePay, liveWh, mostPay};
+use crate::Member;
+use crate::event::called_up;
+use crate::event::event_wh;
+use crate::rate::rated_pay;
+use crate::window::window_pay;
+use call::Call;
+use units::Grains;
+use units::Kw;
+use units::Wh;
+
+pub fn live_pay(member: Member, series: &[u32], x: Call) -> Grains
+    requires { ⌜ (member .rated .0 ≤ 4000000) × (length (now series) ≤ 2976) × (soundCall (15 * length (now series)) x ≡ true) × (openTo member x ≡ true) ⌝ }
+    ensures { λ r. ⌜ (r .0 ≡ livePay member (now (series .entry)) x) × (r .0 ≤ mostPay) ⌝ }
+{
+    let service = x.service;
+    match service {
+        1 => window_pay(member, 1, Kw(0), series, x.start, x.length),
+        2 => {
+            let top = called_up(x.a);
+            window_pay(member, 2, top, series, x.start, x.length)
+        }
+        8 => {
+            if member.is_by_rate() {
+                return rated_pay(member, x);
+            }
+            Grains(0)
+        }
+        _ => rated_pay(member, x),
+    }
+}
+
+pub fn live_wh(member: Member, x: Call) -> Wh
+    ensures { λ r. ⌜ (r .0 ≡ liveWh (member .kind) x) × (mag (r .0) ≤ 2147483648) ⌝ }
+{
+    let service = x.service;
+    match service {
+        8 => {
+            if member.is_by_rate() {
+                return Wh(0);
+            }
+            event_wh(x.a, x.b, x.c)
+        }
+        _ => Wh(0),
+    }
+}

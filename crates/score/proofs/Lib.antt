@@ -1,0 +1,7 @@
+pub mod First
+pub mod Checked
+pub mod Turns
+pub mod Parts
+pub mod Own
+pub mod Exact
+pub mod Voltage

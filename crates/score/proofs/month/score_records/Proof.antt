@@ -1,0 +1,128 @@
+-- `score::month::score_records` meets its contract.
+use native.Mathlib.Omega.{arith}
+use mathlib.Core.Path.{_≡_, refl, sym, _∙_, ap}
+use Prim.Native.Nat.{ℕ, _-_, _*_, _≤_}
+use Rattle.score.specs.First.{firstBad}
+use Rattle.score.proofs.First.{first-more, first-le}
+use Rattle.score.specs.Refusing.{ownAt, refusalAt}
+use Rattle.score.specs.Scoring.{payOf, whOf, payAt, whAt}
+use Rattle.score.proofs.Turns.{before-own, skipped, not-refused, score-refused, score-accepted}
+use Rattle.book.specs.Book.{callOf}
+use lib.Signed.{mag}
+use Rattle.pay.specs.Sum.{total, totalZ}
+use Rattle.pay.specs.Live.{mostPay}
+use Rattle.pay.proofs.Sums.{total0-step, totalZ-step}
+use Rattle.pay.proofs.Signed.{mag-plus}
+use Rattle.score.specs.declared.answer.Scored.the-variants.{Accepted, Refused}
+use borrow.Author.Needs.{needs}
+use Rattle.score.proofs.month.score_records.Statement.{statement}
+use Rattle.score.proofs.month.score_records.Tie as tie
+
+abbrev Inv-loop : tie.InvT-loop
+Inv-loop member b count series first grains₀ wh₀ i₀ grains wh i =
+    (i ≤ count)
+    × (firstBad (refusalAt member (callOf b)) i ≡ i)
+    × (grains ≡ total (payAt member series (callOf b)) 0 i)
+    × (grains ≤ i * mostPay)
+    × (wh .0 ≡ totalZ (whAt member (callOf b)) i)
+    × (mag (wh .0) ≤ i * 2147483649)
+
+abbrev μ-loop : tie.MeasureT-loop
+μ-loop member b count series first grains₀ wh₀ i₀ grains wh i = count - i
+
+first-own-requires : tie.Need-first-own-requires Inv-loop μ-loop
+first-own-requires c κs = search needs
+
+loop-holds : tie.Need-loop-holds Inv-loop μ-loop
+loop-holds c =
+    let s = c .before .before .before in
+    let book = callOf (s .args .b .now) in
+    let f : c .first-own .result ≤ s .args .count = rw (c .first-own .ensures) (first-le (ownAt (s .args .member .number) book) (s .args .count)) in
+    let k = skipped (s .args .member) (s .args .series .now) book (c .first-own .result) (λ k m. before-own (s .args .member .number) book (s .args .count) (c .first-own .result) k (c .first-own .ensures) m) in
+    (omega arith, k .refusals, sym (k .pays), omega arith, sym (k .energy), omega arith)
+
+record-at-requires : tie.Need-record-at-requires Inv-loop μ-loop
+record-at-requires c κs = search needs
+
+refusal-requires : tie.Need-refusal-requires Inv-loop μ-loop
+refusal-requires c κs =
+    let s = c .before .before .before .before .before .before in
+    let l = c .before .before .loop in
+    let book = callOf (s .args .b .now) in
+    (omega arith, c .record-at .ensures, λ k m. before-own (s .args .member .number) book (s .args .count) (c .before .before .before .first-own .result) k (c .before .before .before .first-own .ensures) m)
+
+returns : tie.Need-returns Inv-loop μ-loop
+returns c =
+    let s = c .before .before .before .before .before .before .before .before in
+    let l = c .before .before .before .before .loop in
+    let book = callOf (s .args .b .now) in
+    let e = c .before .refusal .ensures in
+    ap (λ (n : ℕ). Refused n (l .i)) e ∙ sym (score-refused _ _ _ _ (l .i) (omega arith) (l .inv .1) (λ z. c .if1 .taken (e ∙ z)))
+
+pay-of-requires : tie.Need-pay-of-requires Inv-loop μ-loop
+pay-of-requires c κs =
+    let s = c .before .before .before .before .before .before .before .before in
+    let l = c .before .before .before .before .loop in
+    let book = callOf (s .args .b .now) in
+    let e = c .before .before .record-at .ensures in
+    (omega arith, omega arith, rw e (s .pre .4 (l .i) (omega arith)), not-refused (s .args .member) book (l .i) (c .before .before .record-at .result) e (sym (c .before .refusal .ensures) ∙ c .if1 .left))
+
+add-grains : tie.Need-add-grains Inv-loop μ-loop
+add-grains c = omega arith
+
+wh-of-requires : tie.Need-wh-of-requires Inv-loop μ-loop
+wh-of-requires c κs = search needs
+
+added-requires : tie.Need-added-requires Inv-loop μ-loop
+added-requires c κs = omega arith
+
+add-i : tie.Need-add-i Inv-loop μ-loop
+add-i c = omega arith
+
+loop-less : tie.Need-loop-less Inv-loop μ-loop
+loop-less c = omega arith
+
+loop-again : tie.Need-loop-again Inv-loop μ-loop
+unfolding payAt whAt
+loop-again c =
+    let s = c .before .before .before .before .before .before .before .before .before .before .before .before in
+    let l = c .before .before .before .before .before .before .before .before .loop in
+    let book = callOf (s .args .b .now) in
+    let e = c .before .before .before .before .before .before .record-at .ensures in (
+      omega arith,
+      first-more _ (l .i) (l .inv .1) (sym (c .before .before .before .before .before .refusal .ensures) ∙ c .before .before .before .before .if1 .left),
+      total0-step _ (l .i) (l .inv .2) (c .before .before .before .pay-of .ensures .0 ∙ ap (payOf (s .args .member) (s .args .series .now)) e),
+      omega arith,
+      c .added .ensures ∙ totalZ-step _ (l .i) _ _ (l .inv .4) (c .before .wh-of .ensures .0 ∙ ap (whOf (s .args .member)) e),
+      rw (c .added .ensures) (omega (arith, mag-plus (l .wh .0) (c .before .wh-of .result .0))),
+    )
+
+month-pay-requires : tie.Need-month-pay-requires Inv-loop μ-loop
+month-pay-requires c κs = omega arith
+
+returns-2 : tie.Need-returns-2 Inv-loop μ-loop
+returns-2 c =
+    let l = c .before .before .loop in
+    ap (λ (n : ℕ). Accepted (record { 0 = n })) (c .month-pay .ensures)
+    ∙ score-accepted _ _ _ _ (l .i) (omega arith) (l .inv .1) _ _ _ (l .inv .2) (l .inv .4) refl
+
+pub score-records-spec : {M : Type 1} → statement M
+score-records-spec =
+    tie.close
+    (tie.spec
+    Inv-loop
+    μ-loop
+    first-own-requires
+    loop-holds
+    record-at-requires
+    refusal-requires
+    returns
+    pay-of-requires
+    add-grains
+    wh-of-requires
+    added-requires
+    add-i
+    loop-less
+    loop-again
+    month-pay-requires
+    returns-2)

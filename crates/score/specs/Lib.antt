@@ -1,0 +1,6 @@
+pub mod First
+pub mod Series
+pub mod Refusing
+pub mod Scoring
+pub mod Own
+pub mod Outcomes

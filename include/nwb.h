@@ -1,0 +1,92 @@
+/* nwb.h: call books and sharing for the plants' own tools.
+ *
+ * What holds for every function:
+ *
+ *  - The number is returned; 0 is accepted. Every other answer goes through a pointer to a cell. Each cell is written by
+ *    every call, and must be given; where the paper says zeros it is 0. Cells are the answer and no lent memory.
+ *  - A refusal gives number and place, otherwise zeros; lent memory (`out`) keeps its contents, every byte of it.
+ *  - Accepted, number and place are 0. Only the bytes of the answer are written to `out`; bytes after it stay.
+ *  - What is lent for reading is only read. Records, lines and series values are counted from 0.
+ *  - Buffers and cells must not overlap one another.
+ *  - A length of 0 may come with a null pointer. Any address will do for bytes (a series is aligned as uint32_t asks).
+ *    Lengths of bytes are in bytes, the length of a series is in values.
+ *
+ * Refusal numbers and their places:
+ *
+ *     1      under 16 bytes, or length not as count says; sharing bytes no multiple of 24     0
+ *     2 3 4  mark; version; other header field (a count above 512 included)                   0
+ *     5 6    record field; key not above the one before                                       record
+ *     7 8 9  year, month or area differ; more than 512 keys; output too short                 0
+ *    10      register or sharing line, a 65th line included                                   line, else 0
+ *    11      series length; value                                                             65,535; index
+ *    12      service or its fields not open to this kind                                      record
+ *    13      overlap (meeting is none) with an earlier live call of the same service 1 to 4,
+ *            or a second 5, 6, 7 or 9                                                         record
+ *    14      contested call                                                                   record
+ *    15 16   C above 10^11; R not 0 and all weights 0                                         0
+ *    21..26  1 to 6 in the second of two books                                                as there, in the second book
+ */
+#ifndef NWB_H
+#define NWB_H
+
+#include <stddef.h>
+#include <stdint.h>
+
+#ifdef __cplusplus
+extern "C" {
+#endif
+
+/* Checks one book. In this order: 1 (under 16 bytes), 2, 3, 4, 1 (length not as count says), then record by record 5, 6.
+ * The place of 5 and 6 is the record, else 0. Nothing but the cell is written. */
+uint32_t nwb_check(const uint8_t *book, size_t book_len, uint64_t *place);
+
+/* Writes a book of none from header values, 16 bytes. In this order: 4, 9; the place is 0.
+ * `length` is 16, or 0 on a refusal. Bytes of `out` after the book stay; on a refusal all of them do. */
+uint32_t nwb_none(uint8_t area, uint16_t year, uint8_t month, uint8_t *out, size_t out_len, uint64_t *place, uint64_t *length);
+
+/* Writes a book of one from header values and a record, 48 bytes. In this order: 4, 5, 9; the place is 0.
+ * `minutes` is the record's length field. A contested or withdrawn record has service, start, minutes, a, b and c all zero.
+ * `length` is 48, or 0 on a refusal. Bytes of `out` after the book stay; on a refusal all of them do. */
+uint32_t nwb_one(uint8_t area, uint16_t year, uint8_t month,
+                 uint16_t participant, uint8_t service, uint8_t state, uint32_t number, uint32_t revision,
+                 uint16_t start, uint16_t minutes, int32_t a, uint32_t b, uint32_t c,
+                 uint8_t *out, size_t out_len, uint64_t *place, uint64_t *length);
+
+/* Joins two books into `out`. A key in one book only keeps its record. In both: withdrawn beats live and contested whatever the
+ * revisions; of two withdrawn the higher revision stands. Otherwise the higher revision stands. At equal revision, equal records
+ * stay; unequal ones become contested at that revision.
+ * In this order: 1 to 6 for the first book as nwb_check has them, 21 to 26 for the second (its place counts in the second book),
+ * 7, 8, 9. `length` is the joined book's, 16 + 32 for each different key, or 0 on a refusal.
+ * Bytes of `out` after the book stay; on a refusal all of them do. `out` must not overlap either book. */
+uint32_t nwb_join(const uint8_t *first, size_t first_len, const uint8_t *second, size_t second_len,
+                  uint8_t *out, size_t out_len, uint64_t *place, uint64_t *length);
+
+/* Asks for one key, participant and call number, in two books: the record that stands, as it lies in the first or the second book.
+ * Gives 1 where it lies in the first (also where both are equal), 2 where it lies in the second, and in `offset` where its
+ * 32 bytes begin in that book. Gives 0 and offset 0 where neither has the key, where the rule makes a record that stands in
+ * neither, or where joining would refuse with 1 to 7 or 21 to 26; no number is given here. Limits 8 and 9 play no part.
+ * Nothing but the cell is written. */
+uint32_t nwb_find(const uint8_t *first, size_t first_len, const uint8_t *second, size_t second_len,
+                  uint16_t participant, uint32_t number, uint64_t *offset);
+
+/* Scores one member: its register line (participant 1 to 64, kind 1 to 8, rated 1 to 4,000,000 kW), the book, and one mean output
+ * in kW, 0 to 5,000,000, for each quarter hour of the book's month.
+ * In this order: 10 (place 0); the book, 1 to 6; 11, the length first (place 65,535), then the lowest bad index; then that member's
+ * records in turn, in each 14, 12, 13 (the place counts in the whole book). Others' and withdrawn records are skipped.
+ * `grains` is the month's pay (60,000 grains are one fen) and `fen` the same rounded once; both are 0 on a refusal.
+ * Nothing but the cells is written. */
+uint32_t nwb_score(uint16_t participant, uint8_t kind, uint32_t rated, const uint8_t *book, size_t book_len,
+                   const uint32_t *series, size_t series_len, uint64_t *place, uint64_t *grains, uint64_t *fen);
+
+/* Shares R = A - C over 0 to 64 lines of 24 bytes, little endian: number u16, status u8, a zero byte, energy u32,
+ * compensation u64, assessment u32, four zero bytes. The outcome is 16 bytes a line: share i64, amount i64.
+ * In this order: 1 (no multiple of 24), 10 line by line (the place is the line; a 65th line has place 64), 15, 16, 9.
+ * `gap` is R in fen, negative where compensations exceed assessments; 0 on a refusal.
+ * Bytes of `out` after the outcome stay; on a refusal all of them do. `out` must not overlap `lines`. */
+uint32_t nwb_share(const uint8_t *lines, size_t lines_len, uint8_t *out, size_t out_len, uint64_t *place, int64_t *gap);
+
+#ifdef __cplusplus
+}
+#endif
+
+#endif

@@ -1,0 +1,1362 @@
+/* A host program for the archive, as a plant's tool would be: through include/nwb.h only. Every expected answer below is the
+ * paper's or worked out by hand from it; nothing here computes one with code that could share a mistake with the archive.
+ *
+ * Every single call is made at several addresses (against a guard page behind, against one before, at an odd address), with
+ * garbage in its cells and canaries around cells and buffers; see kit.h. One line per group, and a last one for all. */
+#define _DEFAULT_SOURCE
+#include "kit.h"
+#include "nwb.h"
+
+#include <inttypes.h>
+
+/* ---- counting ---- */
+
+static unsigned checks, failed, group_checks, group_failed;
+static int line_now;            /* of the check, for the message and for a touched guard page */
+static int row = -1;            /* in the table that a check is made from, if any */
+static const char *call_now;
+static enum placement placed_now;
+static int good;
+
+static void group(const char *name)
+{
+    printf("host: %-58s %4u checks%s\n", name, checks - group_checks, failed != group_failed ? ", FAILED" : "");
+    fflush(stdout);
+    group_checks = checks;
+    group_failed = failed;
+    row = -1;
+}
+
+static void complain(const char *what, uint64_t got, uint64_t wanted)
+{
+    static const char *const at[] = {"against the guard behind", "against the guard before", "at an odd address", "aligned"};
+    if (good) {
+        printf("host: FAILED tests/host.c:%d", line_now);
+        if (row >= 0)
+            printf(" row %d", row);
+        printf(": %s: %s is %" PRId64 ", not %" PRId64 " (%s)\n", call_now, what, (int64_t)got, (int64_t)wanted, at[placed_now]);
+    }
+    good = 0;
+}
+
+static void want(const char *what, uint64_t got, uint64_t wanted)
+{
+    if (got != wanted)
+        complain(what, got, wanted);
+}
+
+static void touched(int sig)
+{
+    printf("host: FAILED tests/host.c:%d row %d: %s: signal %d, a guard page was touched or the call gave up\n", line_now, row, call_now, sig);
+    fflush(stdout);
+    _exit(1);
+}
+
+static void begin(int line, const char *call)
+{
+    line_now = line;
+    call_now = call;
+    good = 1;
+}
+
+static void end(void)
+{
+    checks++;
+    failed += !good;
+}
+
+/* ---- the cells: each stands between two others that must stay ---- */
+
+static uint64_t cells[7];
+static const uint64_t garbage = 0x9e3779b97f4a7c15u;
+
+static void soil_cells(void)
+{
+    for (size_t i = 0; i < 7; i++)
+        cells[i] = garbage * (i + 1);
+}
+
+static void want_cells_kept(size_t used)
+{
+    for (size_t i = 0; i < 7; i++)
+        if (i % 2 == 0 || i > 2 * used)
+            want("a cell's neighbour", cells[i], garbage * (i + 1));
+}
+
+#define CELL(k) (&cells[2 * (k) + 1])
+
+/* ---- one function each: the call at every placement, and all that must hold after it ---- */
+
+static struct area in1, in2, in_series, lent;
+
+static const uint8_t *lay(struct area *a, enum placement where, const void *bytes, size_t len)
+{
+    return area_lend(a, where, bytes, len, 0x51);
+}
+
+static void want_input_kept(const struct area *a, const void *bytes, size_t len)
+{
+    want("input kept", (uint64_t)area_holds(a, bytes, len, 0x51), 1);
+}
+
+#define FOR_PLACEMENTS for (placed_now = END; placed_now <= ODD; placed_now = (enum placement)(placed_now + 1))
+
+static void expect_check(int line, const uint8_t *book, size_t len, uint32_t no, uint64_t place)
+{
+    begin(line, "check");
+    FOR_PLACEMENTS {
+        const uint8_t *b = lay(&in1, placed_now, book, len);
+        soil_cells();
+        want("number", nwb_check(book ? b : NULL, len, CELL(0)), no);
+        want("place", *CELL(0), place);
+        want_cells_kept(1);
+        want_input_kept(&in1, book, len);
+    }
+    end();
+}
+
+/* `bytes` is the book expected, of `len` bytes; on a refusal there is none. */
+static void want_written(const uint8_t *bytes, size_t len)
+{
+    want("place", *CELL(0), 0);
+    want("length", *CELL(1), len);
+    want_cells_kept(2);
+    want("bytes as promised and nothing else touched", (uint64_t)area_holds(&lent, bytes, len, 0xe7), 1);
+}
+
+static void expect_none(int line, uint8_t area, uint16_t year, uint8_t month, size_t out_len, uint32_t no)
+{
+    uint8_t book[16];
+    put_book(book, area, year, month, NULL, 0);
+    begin(line, "none");
+    FOR_PLACEMENTS {
+        uint8_t *out = area_lend(&lent, placed_now, NULL, out_len, 0xe7);
+        soil_cells();
+        want("number", nwb_none(area, year, month, out_len ? out : NULL, out_len, CELL(0), CELL(1)), no);
+        want_written(book, no == 0 ? 16 : 0);
+    }
+    end();
+}
+
+static void expect_one(int line, uint8_t area, uint16_t year, uint8_t month, struct call c, size_t out_len, uint32_t no)
+{
+    uint8_t book[48];
+    put_book(book, area, year, month, &c, 1);
+    begin(line, "one");
+    FOR_PLACEMENTS {
+        uint8_t *out = area_lend(&lent, placed_now, NULL, out_len, 0xe7);
+        soil_cells();
+        want("number", nwb_one(area, year, month, c.participant, c.service, c.state, c.number, c.revision, c.start, c.minutes,
+                               c.a, c.b, c.c, out_len ? out : NULL, out_len, CELL(0), CELL(1)), no);
+        want_written(book, no == 0 ? 48 : 0);
+    }
+    end();
+}
+
+static void expect_join(int line, const uint8_t *first, size_t first_len, const uint8_t *second, size_t second_len, size_t out_len,
+                        uint32_t no, uint64_t place, const uint8_t *joined, size_t joined_len)
+{
+    begin(line, "join");
+    FOR_PLACEMENTS {
+        const uint8_t *x = lay(&in1, placed_now, first, first_len), *y = lay(&in2, placed_now, second, second_len);
+        uint8_t *out = area_lend(&lent, placed_now, NULL, out_len, 0xe7);
+        soil_cells();
+        want("number", nwb_join(first ? x : NULL, first_len, second ? y : NULL, second_len, out_len ? out : NULL, out_len,
+                                CELL(0), CELL(1)), no);
+        want("place", *CELL(0), place);
+        want("length", *CELL(1), no == 0 ? joined_len : 0);
+        want_cells_kept(2);
+        want("bytes as promised and nothing else touched",
+             (uint64_t)area_holds(&lent, joined, no == 0 ? joined_len : 0, 0xe7), 1);
+        want_input_kept(&in1, first, first_len);
+        want_input_kept(&in2, second, second_len);
+    }
+    end();
+}
+
+static void expect_find(int line, const uint8_t *first, size_t first_len, const uint8_t *second, size_t second_len,
+                        uint16_t participant, uint32_t number, uint32_t answer, uint64_t offset)
+{
+    begin(line, "find");
+    FOR_PLACEMENTS {
+        const uint8_t *x = lay(&in1, placed_now, first, first_len), *y = lay(&in2, placed_now, second, second_len);
+        soil_cells();
+        want("answer", nwb_find(first ? x : NULL, first_len, second ? y : NULL, second_len, participant, number, CELL(0)), answer);
+        want("offset", *CELL(0), offset);
+        want_cells_kept(1);
+        want_input_kept(&in1, first, first_len);
+        want_input_kept(&in2, second, second_len);
+    }
+    end();
+}
+
+static void expect_score(int line, uint16_t participant, uint8_t kind, uint32_t rated, const uint8_t *book, size_t len,
+                         const uint32_t *series, size_t series_len, uint32_t no, uint64_t place, uint64_t grains, uint64_t fen)
+{
+    begin(line, "score");
+    FOR_PLACEMENTS {
+        const uint8_t *b = lay(&in1, placed_now, book, len);
+        const void *s = lay(&in_series, placed_now == ODD ? ALIGNED : placed_now, series, series_len * sizeof *series);
+        soil_cells();
+        want("number", nwb_score(participant, kind, rated, book ? b : NULL, len, series_len ? s : NULL, series_len,
+                                 CELL(0), CELL(1), CELL(2)), no);
+        want("place", *CELL(0), place);
+        want("grains", *CELL(1), grains);
+        want("fen", *CELL(2), fen);
+        want_cells_kept(3);
+        want_input_kept(&in1, book, len);
+        want_input_kept(&in_series, series, series_len * sizeof *series);
+    }
+    end();
+}
+
+/* `outcome` is share and amount of each line in turn, 2 * n numbers; on a refusal there is none. */
+static void expect_share_bytes(int line, const uint8_t *lines, size_t len, size_t out_len, uint32_t no, uint64_t place,
+                               int64_t gap, const int64_t *outcome)
+{
+    uint8_t bytes[64 * 16];
+    size_t n = no == 0 ? len / 24 : 0;
+    for (size_t i = 0; i < 2 * n; i++)
+        put_bytes(bytes + 8 * i, (uint64_t)outcome[i], 8);
+    begin(line, "share");
+    FOR_PLACEMENTS {
+        const uint8_t *l = lay(&in1, placed_now, lines, len);
+        uint8_t *out = area_lend(&lent, placed_now, NULL, out_len, 0xe7);
+        soil_cells();
+        want("number", nwb_share(lines ? l : NULL, len, out_len ? out : NULL, out_len, CELL(0), (int64_t *)CELL(1)), no);
+        want("place", *CELL(0), place);
+        want("gap", *CELL(1), (uint64_t)gap);
+        want_cells_kept(2);
+        want("bytes as promised and nothing else touched", (uint64_t)area_holds(&lent, bytes, 16 * n, 0xe7), 1);
+        want_input_kept(&in1, lines, len);
+    }
+    end();
+}
+
+static void expect_share(int line, const struct line *lines, size_t n, size_t out_len, uint32_t no, uint64_t place, int64_t gap,
+                         const int64_t *outcome)
+{
+    uint8_t bytes[70 * 24];
+    expect_share_bytes(line, bytes, put_lines(bytes, lines, n), out_len, no, place, gap, outcome);
+}
+
+#define CHECK(...) expect_check(__LINE__, __VA_ARGS__)
+#define NONE(...) expect_none(__LINE__, __VA_ARGS__)
+#define ONE(...) expect_one(__LINE__, __VA_ARGS__)
+#define JOIN(...) expect_join(__LINE__, __VA_ARGS__)
+#define FIND(...) expect_find(__LINE__, __VA_ARGS__)
+#define SCORE(...) expect_score(__LINE__, __VA_ARGS__)
+#define SHARE(...) expect_share(__LINE__, __VA_ARGS__)
+#define ROWS(t) (sizeof(t) / sizeof *(t))
+
+/* ---- short forms ---- */
+
+static struct call live(uint16_t participant, uint32_t number, uint32_t revision, uint8_t service, uint16_t start, uint16_t minutes,
+                        int32_t a, uint32_t b, uint32_t c)
+{
+    struct call k = {participant, service, 0, number, revision, start, minutes, a, b, c};
+    return k;
+}
+
+static struct call empty(uint16_t participant, uint32_t number, uint32_t revision, uint8_t state)
+{
+    struct call k = {participant, 0, state, number, revision, 0, 0, 0, 0, 0};
+    return k;
+}
+
+static uint32_t series[2977]; /* January has 2,976 quarter hours; one more for a length that is wrong */
+
+static void output(uint32_t p)
+{
+    for (size_t i = 0; i < 2977; i++)
+        series[i] = p;
+}
+
+/* The score of participant 1 in January 2025 with these calls and the series as it stands. */
+static void expect_pay(int line, uint8_t kind, uint32_t rated, const struct call *calls, size_t n, uint64_t grains, uint64_t fen)
+{
+    static uint8_t book[BOOK_MOST];
+    size_t len = put_book(book, 7, 2025, 1, calls, n);
+    expect_score(line, 1, kind, rated, book, len, series, 2976, 0, 0, grains, fen);
+}
+
+static void expect_pay_1(int line, uint8_t kind, uint32_t rated, struct call c, uint64_t grains)
+{
+    expect_pay(line, kind, rated, &c, 1, grains, grains / 60000 + (grains % 60000 >= 30000));
+}
+
+#define PAY(...) expect_pay(__LINE__, __VA_ARGS__)
+#define PAY_1(...) expect_pay_1(__LINE__, __VA_ARGS__)
+
+/* Joins two books of one record each, with one key, both ways round. */
+static void expect_rule(int line, struct call x, struct call y, struct call stands)
+{
+    uint8_t first[48], second[48], joined[48];
+    put_book(first, 7, 2025, 1, &x, 1);
+    put_book(second, 7, 2025, 1, &y, 1);
+    put_book(joined, 7, 2025, 1, &stands, 1);
+    expect_join(line, first, 48, second, 48, 48, 0, 0, joined, 48);
+    expect_join(line, second, 48, first, 48, 60, 0, 0, joined, 48);
+}
+
+#define RULE(...) expect_rule(__LINE__, __VA_ARGS__)
+
+/* ---- the paper's worked sums ---- */
+
+static void worked_sums(void)
+{
+    output(0);
+    series[0] = 150000;
+    struct call deep = live(1, 1, 1, 1, 0, 15, 0, 0, 0);
+    PAY(1, 300001, &deep, 1, 225000, 4);
+
+    struct call reserve = live(1, 1, 1, 2, 0, 15, 300000, 0, 0);
+    series[0] = 209999;
+    PAY_1(1, 300000, reserve, 4725052500);
+    series[0] = 210000;
+    PAY_1(1, 300000, reserve, 0);
+    series[0] = 210001;
+    PAY_1(1, 300000, reserve, 944989500);
+
+    PAY_1(1, 300000, live(1, 1, 1, 3, 0, 4320, 0, 0, 0), 3600000000000);
+    PAY_1(1, 300000, live(1, 1, 1, 3, 0, 4321, 0, 0, 0), 0);
+    PAY_1(3, 3000000, live(1, 1, 1, 5, 0, 0, 0, 0, 0), 1800000000000);
+    PAY_1(3, 3000001, live(1, 1, 1, 5, 0, 0, 0, 0, 0), 1800000000000);
+
+    PAY_1(4, 100000, live(1, 1, 1, 8, 0, 0, 0, 7999, 0), 0);
+    PAY_1(4, 100000, live(1, 1, 1, 8, 0, 0, 0, 8000, 0), 300000000000);
+    PAY_1(4, 100000, live(1, 1, 1, 8, 0, 0, 0, 8999, 0), 539760000000);
+    PAY_1(4, 100000, live(1, 1, 1, 8, 0, 0, 0, 9000, 0), 540000000000);
+
+    struct call events[] = {live(1, 1, 1, 8, 0, 0, -500, 400, 0), live(1, 2, 1, 8, 0, 0, 300, 400, 0)};
+    PAY(1, 100000, events, 2, 0, 0);
+    PAY_1(1, 100000, live(1, 1, 1, 8, 0, 0, 500, 400, 0), 48000000);
+
+    RULE(empty(1, 1, 2, 2), live(1, 1, 7, 5, 0, 0, 0, 0, 0), empty(1, 1, 2, 2));
+    struct call x = live(1, 1, 3, 5, 0, 0, 0, 0, 0), y = live(1, 1, 3, 10, 9, 0, 0, 0, 0), z = live(1, 1, 4, 4, 0, 60, 0, 0, 0);
+    RULE(x, y, empty(1, 1, 3, 1));
+    RULE(empty(1, 1, 3, 1), z, z); /* those two and a live at 4, grouped one way */
+    RULE(x, z, z);                 /* and the others */
+    RULE(y, z, z);
+
+    /* AVC pays a grain at a time: one hundredth of a percent, one kW, one minute. */
+    PAY(1, 29999, (struct call[]){live(1, 1, 1, 9, 0, 1, 0, 9901, 9800)}, 1, 29999, 0);
+    PAY(1, 30000, (struct call[]){live(1, 1, 1, 9, 0, 1, 0, 9901, 9800)}, 1, 30000, 1);
+
+    const struct line three[] = {{1, 0, 7, 100, 0}, {2, 0, 7, 0, 0}, {3, 0, 7, 0, 0}};
+    SHARE(three, 3, 48, 0, 0, -100, (int64_t[]){-34, 66, -33, -33, -33, -33});
+    const struct line statement[] = {{1, 0, 100, 300000, 0}, {2, 0, 200, 0, 1000}, {3, 2, 50, 0, 0}};
+    SHARE(statement, 3, 48, 0, 0, -200000, (int64_t[]){-55556, 244444, -111111, -211111, -33333, -33333});
+    group("the paper's worked sums");
+}
+
+/* ---- pay: every service, every kind, the edges of every band ---- */
+
+static void pay_by_service(void)
+{
+    /* 1: 10P < 5N, an odd N not halved first; the window and nothing else; the last quarter hour of the month. */
+    output(0);
+    PAY_1(1, 1, live(1, 1, 1, 1, 0, 15, 0, 0, 0), 5 * 45000);
+    PAY_1(1, 3, live(1, 1, 1, 1, 44625, 15, 0, 0, 0), 15 * 45000);
+    PAY_1(1, 4000000, live(1, 1, 1, 1, 0, 44640, 0, 0, 0), 20000000ull * 45000 * 2976);
+    series[3] = 1;
+    PAY_1(1, 3, live(1, 1, 1, 1, 45, 15, 0, 0, 0), 5 * 45000);
+    PAY_1(1, 2, live(1, 1, 1, 1, 45, 15, 0, 0, 0), 0); /* 10P = 5N exactly */
+    PAY_1(1, 2, live(1, 1, 1, 1, 30, 45, 0, 0, 0), 2 * 10 * 45000);
+    output(5000000);
+    PAY_1(1, 4000000, live(1, 1, 1, 1, 0, 44640, 0, 0, 0), 0);
+
+    /* 2, coal: above half, below a; 7N odd against tens, so that no P lies at exactly 70%. */
+    output(0);
+    series[1] = 150000;
+    PAY_1(1, 300000, live(1, 1, 1, 2, 15, 15, 300000, 0, 0), 0); /* 5N = 10P */
+    series[1] = 150001;
+    PAY_1(1, 300000, live(1, 1, 1, 2, 15, 15, 300000, 0, 0), (3000000ull - 1500010) * 15 * 350);
+    PAY_1(1, 300000, live(1, 1, 1, 2, 15, 15, 150001, 0, 0), 0); /* P = a */
+    PAY_1(1, 300000, live(1, 1, 1, 2, 15, 15, 150002, 0, 0), 10 * 15 * 350);
+    series[1] = 210000;
+    PAY_1(1, 300001, live(1, 1, 1, 2, 15, 15, 300001, 0, 0), (3000010ull - 2100000) * 15 * 350);
+    series[1] = 210001;
+    PAY_1(1, 300001, live(1, 1, 1, 2, 15, 15, 300001, 0, 0), (3000010ull - 2100010) * 15 * 70);
+    PAY_1(1, 300000, live(1, 1, 1, 2, 0, 15, 300000, 0, 0), 0); /* P = 0 is below half */
+    PAY_1(1, 1, live(1, 1, 1, 2, 0, 15, 1, 0, 0), 0);
+    /* 2, gas and hydro: 10P < 7N. */
+    PAY_1(2, 300000, live(1, 1, 1, 2, 0, 15, 0, 0, 0), 2100000ull * 150);
+    PAY_1(3, 300001, live(1, 1, 1, 2, 0, 30, 0, 0, 0), 2100007ull * 150); /* 210,001 in the second quarter hour pays nothing */
+    PAY_1(3, 300002, live(1, 1, 1, 2, 15, 15, 0, 0, 0), 4 * 150);
+    series[1] = 210000;
+    PAY_1(2, 300000, live(1, 1, 1, 2, 15, 15, 0, 0, 0), 0);
+    PAY_1(2, 300001, live(1, 1, 1, 2, 15, 15, 0, 0, 0), 7 * 150);
+
+    /* 3 */
+    output(0);
+    PAY_1(1, 3, live(1, 1, 1, 3, 7, 1, 0, 0, 0), 3 * 12000000);
+    PAY_1(2, 3, live(1, 1, 1, 3, 7, 4321, 0, 0, 0), 3 * 6000000);
+    PAY_1(3, 3, live(1, 1, 1, 3, 7, 44633, 0, 0, 0), 3 * 120000);
+
+    /* 4: whole days, at most 7 */
+    static const uint16_t standby[][2] = {{1, 0}, {1439, 0}, {1440, 1}, {2879, 1}, {2880, 2}, {10079, 6}, {10080, 7}, {11520, 7}, {44640, 7}};
+    for (size_t i = 0; i < ROWS(standby); i++) {
+        row = (int)i;
+        PAY_1(1, 11, live(1, 1, 1, 4, 0, standby[i][0], 0, 0, 0), 11ull * 600000 * standby[i][1]);
+    }
+
+    /* 5: per kind, and the ceiling */
+    for (uint8_t kind = 1; kind <= 8; kind++) {
+        row = kind;
+        uint64_t per_kw = kind == 3 || kind == 7 ? 600000 : 1200000;
+        PAY_1(kind, 1, live(1, 1, 1, 5, 0, 0, 0, 0, 0), per_kw);
+        PAY_1(kind, 1499999, live(1, 1, 1, 5, 0, 0, 0, 0, 0), 1499999 * per_kw);
+        PAY_1(kind, 4000000, live(1, 1, 1, 5, 0, 0, 0, 0, 0), 1800000000000);
+    }
+    PAY_1(1, 1500001, live(1, 1, 1, 5, 0, 0, 0, 0, 0), 1800000000000);
+    PAY_1(7, 2999999, live(1, 1, 1, 5, 0, 0, 0, 0, 0), 1799999400000);
+
+    /* 6: whole percent above 98; 7: straight, or whole percent above 90 */
+    static const uint32_t rate6[][2] = {{0, 0}, {9799, 0}, {9800, 0}, {9899, 0}, {9900, 1}, {9999, 1}, {10000, 2}};
+    static const uint32_t rate7[][2] = {{0, 0}, {8999, 0}, {9000, 0}, {9099, 0}, {9100, 1}, {9999, 9}, {10000, 10}};
+    for (uint8_t kind = 1; kind <= 8; kind++)
+        for (size_t i = 0; i < ROWS(rate6); i++) {
+            row = kind * 10 + (int)i;
+            if (kind != 4 && kind != 5)
+                PAY_1(kind, 7, live(1, 1, 1, 6, 0, 0, 0, rate6[i][0], 0), 7ull * 600000 * rate6[i][1]);
+            uint64_t straight = (kind == 3 || kind == 7 ? 30 : 180) * rate7[i][0];
+            PAY_1(kind, 7, live(1, 1, 1, 7, 0, 0, 0, rate7[i][0], 0), 7 * (kind == 4 || kind == 5 ? 120000ull * rate7[i][1] : straight));
+        }
+    row = -1;
+
+    /* 8, wind and photovoltaic */
+    for (uint8_t kind = 4; kind <= 5; kind++) {
+        row = kind;
+        PAY_1(kind, 3, live(1, 1, 1, 8, 5, 9, 0, 0, 0), 0);
+        PAY_1(kind, 3, live(1, 1, 1, 8, 5, 9, 0, 8001, 0), 3 * 3002400);
+        PAY_1(kind, 3, live(1, 1, 1, 8, 5, 9, 0, 10000, 0), 3 * 5400000);
+        PAY_1(kind, 3, live(1, 1, 1, 8, 5, 9, 0, 10000, 1), 0);
+        PAY(kind, 3, (struct call[]){live(1, 1, 1, 8, 5, 9, 0, 8000, 0), live(1, 2, 1, 8, 5, 9, 0, 9000, 0)}, 2, 3 * 8400000, 420);
+    }
+    /* 8, the others: the smaller of a and b; c = 1 counts 0 whatever the sign; the sum alone is clamped */
+    for (uint8_t kind = 1; kind <= 8; kind++) {
+        if (kind == 4 || kind == 5)
+            continue;
+        row = kind;
+        PAY_1(kind, 3, live(1, 1, 1, 8, 0, 0, 300, 400, 0), 300 * 120000);
+        PAY_1(kind, 3, live(1, 1, 1, 8, 0, 0, 500, 400, 1), 0);
+        PAY_1(kind, 3, live(1, 1, 1, 8, 0, 0, -1, 1000000000, 0), 0);
+        PAY_1(kind, 3, live(1, 1, 1, 8, 0, 0, 1000000000, 1000000000, 0), 120000000000000);
+    }
+    row = -1;
+    PAY(1, 3, (struct call[]){live(1, 1, 1, 8, 0, 0, -500, 400, 1), live(1, 2, 1, 8, 0, 0, 300, 400, 0)}, 2, 36000000, 600);
+    PAY(1, 3, (struct call[]){live(1, 1, 1, 8, 0, 0, -299, 0, 0), live(1, 2, 1, 8, 0, 0, 300, 400, 0)}, 2, 120000, 2);
+    PAY(1, 3, (struct call[]){live(1, 1, 1, 8, 0, 0, -1000000000, 0, 0), live(1, 2, 1, 10, 0, 0, 0, 0, 0)}, 2, 7200000, 120);
+    PAY(1, 3, (struct call[]){live(1, 1, 1, 8, 0, 0, -10, 0, 0), live(1, 2, 1, 10, 0, 0, 0, 0, 0)}, 2, 7200000, 120);
+    PAY(1, 3, (struct call[]){live(1, 1, 1, 8, 0, 0, 0, 0, 0), live(1, 2, 1, 8, 0, 0, 7, 0, 0)}, 2, 0, 0);
+
+    /* 9 */
+    PAY_1(6, 3, live(1, 1, 1, 9, 0, 100, 0, 9899, 10000), 0);
+    PAY_1(6, 3, live(1, 1, 1, 9, 0, 100, 0, 9900, 10000), 0);
+    PAY_1(6, 3, live(1, 1, 1, 9, 0, 100, 0, 10000, 9799), 0);
+    PAY_1(6, 3, live(1, 1, 1, 9, 0, 100, 0, 10000, 9800), 30000);
+    PAY_1(6, 4000000, live(1, 1, 1, 9, 0, 44640, 0, 10000, 10000), 17856000000000);
+    /* 10, as often as it comes */
+    PAY_1(8, 3, live(1, 1, 1, 10, 44640, 0, 0, 0, 0), 7200000);
+    PAY(8, 3, (struct call[]){live(1, 1, 1, 10, 5, 0, 0, 0, 0), live(1, 2, 1, 10, 5, 0, 0, 0, 0)}, 2, 14400000, 240);
+    group("pay by service, kind and band");
+}
+
+static void fen_once(void)
+{
+    static const uint64_t rows[][2] = {{29999, 0}, {30000, 1}, {59999, 1}, {60000, 1}, {89999, 1}, {90000, 2}, {90001, 2}};
+    for (size_t i = 0; i < ROWS(rows); i++) {
+        row = (int)i;
+        PAY(1, (uint32_t)rows[i][0], (struct call[]){live(1, 1, 1, 9, 0, 1, 0, 9901, 9800)}, 1, rows[i][0], rows[i][1]);
+    }
+    row = -1;
+    /* Two services of 21,000 grains each, 0 fen one by one, are one fen together; two of 31,500, one each, are one. */
+    output(0);
+    PAY(2, 1, (struct call[]){live(1, 1, 1, 2, 0, 300, 0, 0, 0), live(1, 2, 1, 9, 0, 210, 0, 10000, 10000)}, 2, 42000, 1);
+    PAY(2, 1, (struct call[]){live(1, 1, 1, 2, 0, 450, 0, 0, 0), live(1, 2, 1, 9, 0, 315, 0, 10000, 10000)}, 2, 63000, 1);
+    PAY(2, 1, (struct call[]){live(1, 1, 1, 2, 0, 300, 0, 0, 0), live(1, 2, 1, 2, 300, 300, 0, 0, 0)}, 2, 42000, 1);
+    PAY(2, 1, NULL, 0, 0, 0);
+    group("fen from the month's grains, once");
+}
+
+/* ---- the book ---- */
+
+static const uint16_t ends[12] = {44640, 40320, 44640, 43200, 44640, 43200, 44640, 44640, 43200, 44640, 43200, 44640};
+
+/* A record by itself, by writing it, and in a book as its first and as its second record. */
+static void expect_record(int line, uint8_t month, struct call c, uint32_t no)
+{
+    uint8_t book[80];
+    expect_one(line, 7, 2025, month, c, 48, no);
+    expect_check(line, book, put_book(book, 7, 2025, month, &c, 1), no, 0);
+    struct call two[] = {empty(1, 0, 1, 1), c};
+    expect_check(line, book, put_book(book, 7, 2025, month, two, 2), no, no == 0 ? 0 : 1);
+}
+
+static void records(void)
+{
+    static const struct { struct call c; uint32_t no; } rows[] = {
+        /* participant, state, number, revision: in all three states */
+        {{1, 5, 0, 1, 1, 0, 0, 0, 0, 0}, 0}, {{64, 5, 0, 1, 1, 0, 0, 0, 0, 0}, 0}, {{0, 5, 0, 1, 1, 0, 0, 0, 0, 0}, 5},
+        {{65, 5, 0, 1, 1, 0, 0, 0, 0, 0}, 5}, {{257, 5, 0, 1, 1, 0, 0, 0, 0, 0}, 5}, {{65535, 5, 0, 1, 1, 0, 0, 0, 0, 0}, 5},
+        {{1, 5, 0, 0xffffffff, 0xffffffff, 0, 0, 0, 0, 0}, 0}, {{1, 5, 0, 1, 0, 0, 0, 0, 0, 0}, 5},
+        {{1, 0, 1, 1, 1, 0, 0, 0, 0, 0}, 0}, {{1, 0, 2, 1, 1, 0, 0, 0, 0, 0}, 0}, {{1, 0, 3, 1, 1, 0, 0, 0, 0, 0}, 5},
+        {{1, 5, 3, 1, 1, 0, 0, 0, 0, 0}, 5}, {{1, 0, 255, 1, 1, 0, 0, 0, 0, 0}, 5}, {{65, 0, 1, 1, 1, 0, 0, 0, 0, 0}, 5},
+        {{0, 0, 2, 1, 1, 0, 0, 0, 0, 0}, 5}, {{1, 0, 1, 1, 0, 0, 0, 0, 0, 0}, 5}, {{1, 0, 2, 1, 0, 0, 0, 0, 0, 0}, 5},
+        /* contested and withdrawn records carry nothing */
+        {{1, 1, 1, 1, 1, 0, 0, 0, 0, 0}, 5}, {{1, 0, 1, 1, 1, 15, 0, 0, 0, 0}, 5}, {{1, 0, 1, 1, 1, 0, 15, 0, 0, 0}, 5},
+        {{1, 0, 1, 1, 1, 0, 0, 1, 0, 0}, 5}, {{1, 0, 1, 1, 1, 0, 0, 0, 1, 0}, 5}, {{1, 0, 1, 1, 1, 0, 0, 0, 0, 1}, 5},
+        {{1, 5, 2, 1, 1, 0, 0, 0, 0, 0}, 5}, {{1, 0, 2, 1, 1, 15, 0, 0, 0, 0}, 5}, {{1, 0, 2, 1, 1, 0, 15, 0, 0, 0}, 5},
+        {{1, 0, 2, 1, 1, 0, 0, -1, 0, 0}, 5}, {{1, 0, 2, 1, 1, 0, 0, 0, 0x1000000, 0}, 5}, {{1, 0, 2, 1, 1, 0, 0, 0, 0, 0x80000000}, 5},
+        /* no such service */
+        {{1, 0, 0, 1, 1, 0, 0, 0, 0, 0}, 5}, {{1, 11, 0, 1, 1, 0, 0, 0, 0, 0}, 5}, {{1, 255, 0, 1, 1, 0, 0, 0, 0, 0}, 5},
+        /* 1: multiples of 15, at least 15, a, b and c 0; up to the last minute and not past it, without wrapping */
+        {{1, 1, 0, 1, 1, 0, 15, 0, 0, 0}, 0}, {{1, 1, 0, 1, 1, 0, 0, 0, 0, 0}, 5}, {{1, 1, 0, 1, 1, 0, 14, 0, 0, 0}, 5},
+        {{1, 1, 0, 1, 1, 0, 16, 0, 0, 0}, 5}, {{1, 1, 0, 1, 1, 14, 15, 0, 0, 0}, 5}, {{1, 1, 0, 1, 1, 44625, 15, 0, 0, 0}, 0},
+        {{1, 1, 0, 1, 1, 44625, 30, 0, 0, 0}, 5}, {{1, 1, 0, 1, 1, 44640, 15, 0, 0, 0}, 5}, {{1, 1, 0, 1, 1, 0, 44640, 0, 0, 0}, 0},
+        {{1, 1, 0, 1, 1, 0, 44655, 0, 0, 0}, 5}, {{1, 1, 0, 1, 1, 65520, 30, 0, 0, 0}, 5}, {{1, 1, 0, 1, 1, 65520, 65520, 0, 0, 0}, 5},
+        {{1, 1, 0, 1, 1, 0, 15, 1, 0, 0}, 5}, {{1, 1, 0, 1, 1, 0, 15, 0, 1, 0}, 5}, {{1, 1, 0, 1, 1, 0, 15, 0, 0, 1}, 5},
+        /* 2: the same, and a */
+        {{1, 2, 0, 1, 1, 15, 15, 0, 0, 0}, 0}, {{1, 2, 0, 1, 1, 15, 15, 4000000, 0, 0}, 0}, {{1, 2, 0, 1, 1, 15, 15, 4000001, 0, 0}, 5},
+        {{1, 2, 0, 1, 1, 15, 15, -1, 0, 0}, 5}, {{1, 2, 0, 1, 1, 15, 15, INT32_MIN, 0, 0}, 5}, {{1, 2, 0, 1, 1, 15, 0, 0, 0, 0}, 5},
+        {{1, 2, 0, 1, 1, 1, 15, 0, 0, 0}, 5}, {{1, 2, 0, 1, 1, 15, 29, 0, 0, 0}, 5}, {{1, 2, 0, 1, 1, 44625, 30, 0, 0, 0}, 5},
+        {{1, 2, 0, 1, 1, 15, 15, 0, 1, 0}, 5}, {{1, 2, 0, 1, 1, 15, 15, 0, 0, 1}, 5},
+        /* 3, 4: length at least 1, start free */
+        {{1, 3, 0, 1, 1, 44639, 1, 0, 0, 0}, 0}, {{1, 3, 0, 1, 1, 7, 0, 0, 0, 0}, 5}, {{1, 3, 0, 1, 1, 44639, 2, 0, 0, 0}, 5},
+        {{1, 3, 0, 1, 1, 44640, 1, 0, 0, 0}, 5}, {{1, 3, 0, 1, 1, 7, 1, 1, 0, 0}, 5}, {{1, 3, 0, 1, 1, 7, 1, 0, 1, 0}, 5},
+        {{1, 3, 0, 1, 1, 7, 1, 0, 0, 1}, 5}, {{1, 4, 0, 1, 1, 0, 44640, 0, 0, 0}, 0}, {{1, 4, 0, 1, 1, 0, 44641, 0, 0, 0}, 5},
+        {{1, 4, 0, 1, 1, 0, 0, 0, 0, 0}, 5}, {{1, 4, 0, 1, 1, 65535, 65535, 0, 0, 0}, 5}, {{1, 4, 0, 1, 1, 0, 1, 1, 0, 0}, 5},
+        {{1, 4, 0, 1, 1, 0, 1, 0, 1, 0}, 5}, {{1, 4, 0, 1, 1, 0, 1, 0, 0, 1}, 5},
+        /* 5, 6, 7: no time; a rate for 6 and 7 */
+        {{1, 5, 0, 1, 1, 1, 0, 0, 0, 0}, 5}, {{1, 5, 0, 1, 1, 0, 1, 0, 0, 0}, 5}, {{1, 5, 0, 1, 1, 0, 0, 1, 0, 0}, 5},
+        {{1, 5, 0, 1, 1, 0, 0, 0, 1, 0}, 5}, {{1, 5, 0, 1, 1, 0, 0, 0, 0, 1}, 5},
+        {{1, 6, 0, 1, 1, 0, 0, 0, 0, 0}, 0}, {{1, 6, 0, 1, 1, 0, 0, 0, 10000, 0}, 0}, {{1, 6, 0, 1, 1, 0, 0, 0, 10001, 0}, 5},
+        {{1, 6, 0, 1, 1, 1, 0, 0, 0, 0}, 5}, {{1, 6, 0, 1, 1, 0, 1, 0, 0, 0}, 5}, {{1, 6, 0, 1, 1, 0, 0, 1, 0, 0}, 5}, {{1, 6, 0, 1, 1, 0, 0, 0, 0, 1}, 5},
+        {{1, 7, 0, 1, 1, 0, 0, 0, 10000, 0}, 0}, {{1, 7, 0, 1, 1, 0, 0, 0, 10001, 0}, 5}, {{1, 7, 0, 1, 1, 0, 0, 0, 0xffffffff, 0}, 5},
+        {{1, 7, 0, 1, 1, 1, 0, 0, 0, 0}, 5}, {{1, 7, 0, 1, 1, 0, 1, 0, 0, 0}, 5}, {{1, 7, 0, 1, 1, 0, 0, 1, 0, 0}, 5}, {{1, 7, 0, 1, 1, 0, 0, 0, 0, 1}, 5},
+        /* 8: any time within the month, its last minute included */
+        {{1, 8, 0, 1, 1, 44640, 0, 0, 0, 0}, 0}, {{1, 8, 0, 1, 1, 44641, 0, 0, 0, 0}, 5}, {{1, 8, 0, 1, 1, 44640, 1, 0, 0, 0}, 5},
+        {{1, 8, 0, 1, 1, 7, 44633, 0, 0, 0}, 0}, {{1, 8, 0, 1, 1, 7, 44634, 0, 0, 0}, 5}, {{1, 8, 0, 1, 1, 65535, 1, 0, 0, 0}, 5},
+        {{1, 8, 0, 1, 1, 0, 0, 1000000000, 0, 0}, 0}, {{1, 8, 0, 1, 1, 0, 0, -1000000000, 0, 0}, 0}, {{1, 8, 0, 1, 1, 0, 0, 1000000001, 0, 0}, 5},
+        {{1, 8, 0, 1, 1, 0, 0, -1000000001, 0, 0}, 5}, {{1, 8, 0, 1, 1, 0, 0, INT32_MIN, 0, 0}, 5}, {{1, 8, 0, 1, 1, 0, 0, INT32_MAX, 0, 0}, 5},
+        {{1, 8, 0, 1, 1, 0, 0, 0, 1000000000, 0}, 0}, {{1, 8, 0, 1, 1, 0, 0, 0, 1000000001, 0}, 5}, {{1, 8, 0, 1, 1, 0, 0, 0, 0xffffffff, 0}, 5},
+        {{1, 8, 0, 1, 1, 0, 0, 0, 0, 1}, 0}, {{1, 8, 0, 1, 1, 0, 0, 0, 0, 2}, 5},
+        /* 9: minutes in use from 0 */
+        {{1, 9, 0, 1, 1, 0, 0, 0, 0, 0}, 0}, {{1, 9, 0, 1, 1, 0, 44640, 0, 10000, 10000}, 0}, {{1, 9, 0, 1, 1, 0, 44641, 0, 0, 0}, 5},
+        {{1, 9, 0, 1, 1, 1, 1, 0, 0, 0}, 5}, {{1, 9, 0, 1, 1, 0, 1, 1, 0, 0}, 5}, {{1, 9, 0, 1, 1, 0, 1, 0, 10001, 0}, 5}, {{1, 9, 0, 1, 1, 0, 1, 0, 0, 10001}, 5},
+        /* 10: length 0 */
+        {{1, 10, 0, 1, 1, 44640, 0, 0, 0, 0}, 0}, {{1, 10, 0, 1, 1, 44641, 0, 0, 0, 0}, 5}, {{1, 10, 0, 1, 1, 0, 1, 0, 0, 0}, 5},
+        {{1, 10, 0, 1, 1, 0, 0, 1, 0, 0}, 5}, {{1, 10, 0, 1, 1, 0, 0, 0, 1, 0}, 5}, {{1, 10, 0, 1, 1, 0, 0, 0, 0, 1}, 5},
+    };
+    for (size_t i = 0; i < ROWS(rows); i++) {
+        row = (int)i;
+        expect_record(__LINE__, 1, rows[i].c, rows[i].no);
+    }
+    /* Each of the four last bytes, in each state. */
+    for (uint8_t state = 0; state <= 2; state++)
+        for (size_t at = 28; at < 32; at++) {
+            struct call c = state == 0 ? live(1, 1, 1, 5, 0, 0, 0, 0, 0) : empty(1, 1, 1, state);
+            uint8_t book[48];
+            put_book(book, 7, 2025, 1, &c, 1);
+            book[16 + at] = 0x80;
+            row = state * 100 + (int)at;
+            CHECK(book, 48, 5, 0);
+        }
+    group("a record's fields at their edges: 5");
+}
+
+static void headers(void)
+{
+    uint8_t book[17];
+    static const struct { uint8_t area; uint16_t year; uint8_t month; uint32_t no; } rows[] = {
+        {1, 2024, 1, 0}, {99, 2099, 12, 0}, {0, 2024, 1, 4}, {100, 2024, 1, 4}, {255, 2024, 1, 4}, {1, 2023, 1, 4}, {1, 2100, 1, 4},
+        {1, 0, 1, 4}, {1, 65535, 1, 4}, {1, 2024 + 256, 1, 4}, {1, 2024, 0, 4}, {1, 2024, 13, 4}, {1, 2024, 255, 4}};
+    for (size_t i = 0; i < ROWS(rows); i++) {
+        row = (int)i;
+        put_book(book, rows[i].area, rows[i].year, rows[i].month, NULL, 0);
+        CHECK(book, 16, rows[i].no, 0);
+        NONE(rows[i].area, rows[i].year, rows[i].month, 16, rows[i].no);
+        ONE(rows[i].area, rows[i].year, rows[i].month, empty(1, 1, 1, 1), 48, rows[i].no);
+    }
+    /* Every bit of the header wrong alone. Area, year and month may still be sound then; a count is not as the length says, or
+     * above 512. A book of none whose count has bit 9 says 512, and is too short; those from bit 10 on are above 512. */
+    for (size_t bit = 0; bit < 128; bit++) {
+        size_t byte = bit / 8;
+        put_book(book, 7, 2025, 1, NULL, 0);
+        book[byte] ^= (uint8_t)(1u << bit % 8);
+        uint32_t year = book[6] | (uint32_t)book[7] << 8;
+        uint32_t no = byte < 3 ? 2 : byte == 4 || byte == 5 ? 3 : byte == 9 || byte > 11 ? 4 : bit >= 80 + 10 ? 4 : byte >= 10 ? 1
+                    : byte == 3 ? (book[3] < 1 || book[3] > 99 ? 4 : 0) : byte == 8 ? (book[8] < 1 || book[8] > 12 ? 4 : 0)
+                    : year < 2024 || year > 2099 ? 4 : 0;
+        row = (int)bit;
+        CHECK(book, 16, no, 0);
+    }
+    row = -1;
+    put_book(book, 7, 2025, 1, NULL, 0);
+    for (size_t len = 0; len < 16; len++) {
+        row = (int)len;
+        CHECK(book, len, 1, 0);
+    }
+    row = -1;
+    book[16] = 0;
+    CHECK(book, 17, 1, 0);
+    book[10] = 1; /* one record, none there; 513 is 4 before the length is looked at */
+    CHECK(book, 16, 1, 0);
+    book[11] = 2;
+    CHECK(book, 16, 4, 0);
+    group("header fields: 1, 2, 3, 4");
+}
+
+static void months(void)
+{
+    static uint8_t book[48];
+    output(0);
+    for (uint16_t year = 2024; year <= 2099; year++)
+        for (uint8_t month = 1; month <= 12; month++) {
+            uint32_t minutes = ends[month - 1] + (month == 2 && year % 4 == 0 ? 1440u : 0u); /* 2100 is out of range */
+            row = year * 100 + month;
+            ONE(3, year, month, live(1, 1, 1, 10, (uint16_t)minutes, 0, 0, 0, 0), 48, 0);
+            ONE(3, year, month, live(1, 1, 1, 10, (uint16_t)(minutes + 1), 0, 0, 0, 0), 48, 5);
+            if (year > 2025 && year < 2096)
+                continue;
+            struct call last = live(1, 1, 1, 4, (uint16_t)(minutes - 1440), 1440, 0, 0, 0);
+            put_book(book, 3, year, month, &last, 1);
+            SCORE(1, 1, 1, book, 48, series, minutes / 15, 0, 0, 600000, 10);
+            SCORE(1, 1, 1, book, 48, series, minutes / 15 + 1, 11, 65535, 0, 0);
+            SCORE(1, 1, 1, book, 48, series, minutes / 15 - 1, 11, 65535, 0, 0);
+        }
+    group("the minutes of every month, leap years");
+}
+
+/* ---- faults that meet ----
+ * Each fault alone, then with every later one: the earlier is the answer. The later is made first, so that a fault that
+ * cuts the book does not hide the making of another. */
+
+struct book_fault { uint32_t no; uint64_t place; void (*make)(uint8_t *book, size_t *len); };
+
+static uint8_t *rec(uint8_t *book, size_t i) { return book + 16 + 32 * i; }
+static void f_short(uint8_t *b, size_t *len) { (void)b; *len = 15; }
+static void f_mark(uint8_t *b, size_t *len) { (void)len; b[1] = 'w'; }
+static void f_version(uint8_t *b, size_t *len) { (void)len; b[5] = 1; }
+static void f_header(uint8_t *b, size_t *len) { (void)len; b[15] = 1; }
+static void f_length(uint8_t *b, size_t *len) { (void)b; *len -= 1; }
+static void f_5_0(uint8_t *b, size_t *len) { (void)len; rec(b, 0)[31] = 1; }
+static void f_5_1(uint8_t *b, size_t *len) { (void)len; put_bytes(rec(b, 1) + 8, 0, 4); }
+static void f_6_1(uint8_t *b, size_t *len) { (void)len; memcpy(rec(b, 1) + 4, rec(b, 0) + 4, 4); }
+static void f_5_2(uint8_t *b, size_t *len) { (void)len; rec(b, 2)[3] = 3; }
+static void f_6_2(uint8_t *b, size_t *len) { (void)len; put_bytes(rec(b, 2) + 4, 5, 4); }
+static void f_5_3(uint8_t *b, size_t *len) { (void)len; rec(b, 3)[2] = 11; }
+static void f_6_3(uint8_t *b, size_t *len) { (void)len; rec(b, 3)[0] = 2; }
+
+static const struct book_fault book_faults[] = {
+    {1, 0, f_short}, {2, 0, f_mark}, {3, 0, f_version}, {4, 0, f_header}, {1, 0, f_length}, {5, 0, f_5_0}, {5, 1, f_5_1}, {6, 1, f_6_1},
+    {5, 2, f_5_2}, {6, 2, f_6_2}, {5, 3, f_5_3}, {6, 3, f_6_3}};
+enum { BOOK_FAULTS = sizeof book_faults / sizeof *book_faults };
+
+/* n start-stop calls of participant 3, numbered 10, 20, 30 and so on, or 15, 25, 35: disjoint from the former. */
+static size_t tens(uint8_t *book, uint32_t from, size_t n)
+{
+    static struct call calls[512];
+    for (size_t i = 0; i < n; i++)
+        calls[i] = live(3, from + 10 * (uint32_t)i, 1, 3, (uint16_t)(60 * i), 60, 0, 0, 0);
+    return put_book(book, 7, 2025, 1, calls, n);
+}
+
+static void check_order(void)
+{
+    uint8_t book[16 + 32 * 4];
+    for (int i = 0; i < BOOK_FAULTS; i++)
+        for (int j = i; j < BOOK_FAULTS; j++) {
+            size_t len = tens(book, 10, 4);
+            book_faults[j].make(book, &len);
+            if (i != j)
+                book_faults[i].make(book, &len);
+            row = i * 100 + j;
+            CHECK(book, len, book_faults[i].no, book_faults[i].place);
+        }
+    row = -1;
+    /* A count of 513 against length, mark and version. */
+    static uint8_t full[BOOK_MOST + 32];
+    size_t len = tens(full, 1, 512);
+    CHECK(full, len, 0, 0);
+    full[len - 1] = 1;
+    CHECK(full, len, 5, 511);
+    full[len - 1] = 0;
+    memcpy(rec(full, 511), rec(full, 510), 32);
+    CHECK(full, len, 6, 511);
+    put_bytes(full + 10, 513, 2);
+    CHECK(full, len + 32, 4, 0);
+    CHECK(full, len, 4, 0);
+    full[4] = 0;
+    CHECK(full, len, 3, 0);
+    full[2] = 0;
+    CHECK(full, len, 2, 0);
+    CHECK(full, 15, 1, 0);
+    /* Participants rise before numbers do; a participant's two bytes and a number's four are no strings of bytes. */
+    struct call two[] = {live(1, 0xffffffff, 1, 5, 0, 0, 0, 0, 0), live(2, 0, 1, 5, 0, 0, 0, 0, 0)};
+    CHECK(full, put_book(full, 7, 2025, 1, two, 2), 0, 0);
+    two[1].participant = 1;
+    CHECK(full, put_book(full, 7, 2025, 1, two, 2), 6, 1);
+    two[0].number = 0x00ff, two[1].number = 0x0100;
+    CHECK(full, put_book(full, 7, 2025, 1, two, 2), 0, 0);
+    two[0].number = 0x7fffffff, two[1].number = 0x80000000;
+    CHECK(full, put_book(full, 7, 2025, 1, two, 2), 0, 0);
+    group("check: every number alone, and the order of two");
+}
+
+static void writers(void)
+{
+    for (size_t out_len = 0; out_len <= 50; out_len++) {
+        row = (int)out_len;
+        NONE(7, 2025, 1, out_len, out_len < 16 ? 9 : 0);
+        ONE(7, 2025, 1, live(3, 0xfedcba98, 0x89abcdef, 8, 0x1234, 0x0567, -500, 0x01020304, 1), out_len, out_len < 48 ? 9 : 0);
+        ONE(7, 2025, 1, empty(64, 0, 1, 2), out_len, out_len < 48 ? 9 : 0);
+    }
+    row = -1;
+    NONE(7, 2025, 1, 60000, 0);
+    ONE(7, 2025, 1, live(1, 2, 3, 8, 0, 0, -1000000000, 5, 0), 60000, 0);
+    /* 4 before 5 before 9 */
+    NONE(0, 2025, 1, 0, 4);
+    ONE(0, 2025, 1, empty(0, 1, 1, 1), 0, 4);
+    ONE(0, 2025, 1, empty(1, 1, 1, 1), 0, 4);
+    ONE(7, 2025, 13, live(1, 1, 1, 10, 60000, 0, 0, 0, 0), 48, 4);
+    ONE(7, 2025, 1, empty(0, 1, 1, 1), 0, 5);
+    ONE(7, 2025, 1, empty(1, 1, 0, 1), 47, 5);
+    /* The very bytes, once by hand. */
+    static const uint8_t by_hand[48] = {'N', 'W', 'B', 42, 1, 0, 0xf7, 7, 12, 0, 1, 0, 0, 0, 0, 0,
+                                        33, 0, 8, 0, 0x44, 0x33, 0x22, 0x11, 0x88, 0x77, 0x66, 0x55, 0xaa, 0x99, 2, 1,
+                                        0x0c, 0xfe, 0xff, 0xff, 0x00, 0xca, 0x9a, 0x3b, 1, 0, 0, 0, 0, 0, 0, 0};
+    uint8_t out[48];
+    begin(__LINE__, "one");
+    placed_now = ODD;
+    soil_cells();
+    want("number", nwb_one(42, 2039, 12, 33, 8, 0, 0x11223344, 0x55667788, 0x99aa, 0x0102, -500, 1000000000, 1, out, 48, CELL(0), CELL(1)), 0);
+    want("bytes", (uint64_t)(memcmp(out, by_hand, 48) == 0), 1);
+    end();
+    group("writing a book of none and of one: 4, 5, 9");
+}
+
+/* ---- joining ---- */
+
+static uint8_t book1[BOOK_MOST + 64], book2[BOOK_MOST + 64], joined[BOOK_MOST + 64];
+
+static void join_rule(void)
+{
+    struct call x = live(9, 5, 3, 8, 10, 20, -7, 8, 0);
+    RULE(x, x, x);
+    /* Unequal in any one field, at one revision. */
+    struct call others[] = {x, x, x, x, x, x};
+    others[0].service = 10, others[0].minutes = 0, others[0].a = 0, others[0].b = 0;
+    others[1].start = 11;
+    others[2].minutes = 21;
+    others[3].a = -8;
+    others[4].b = 0x1000008;
+    others[5].c = 1;
+    for (size_t i = 0; i < ROWS(others); i++) {
+        row = (int)i;
+        RULE(x, others[i], empty(9, 5, 3, 1));
+        others[i].revision = 4;
+        RULE(x, others[i], others[i]);
+        others[i].revision = 2;
+        RULE(x, others[i], x);
+        others[i].revision = 0xffffffff; /* revisions have no sign */
+        RULE(x, others[i], others[i]);
+    }
+    row = -1;
+    struct call y = x;
+    y.revision = 4; /* the same content at a higher revision */
+    RULE(x, y, y);
+    RULE(x, empty(9, 5, 3, 1), empty(9, 5, 3, 1));
+    RULE(x, empty(9, 5, 2, 1), x);
+    RULE(x, empty(9, 5, 4, 1), empty(9, 5, 4, 1));
+    RULE(empty(9, 5, 4, 1), empty(9, 5, 4, 1), empty(9, 5, 4, 1));
+    RULE(empty(9, 5, 3, 1), empty(9, 5, 4, 1), empty(9, 5, 4, 1));
+    for (uint32_t revision = 1; revision <= 5; revision++) {
+        row = (int)revision;
+        RULE(empty(9, 5, 3, 2), live(9, 5, revision, 5, 0, 0, 0, 0, 0), empty(9, 5, 3, 2));
+        RULE(empty(9, 5, 3, 2), empty(9, 5, revision, 1), empty(9, 5, 3, 2));
+        RULE(empty(9, 5, 3, 2), empty(9, 5, revision, 2), empty(9, 5, revision > 3 ? revision : 3, 2));
+    }
+    RULE(empty(9, 5, 1, 2), live(9, 5, 0xffffffff, 5, 0, 0, 0, 0, 0), empty(9, 5, 1, 2));
+    RULE(empty(9, 5, 0x7fffffff, 2), empty(9, 5, 0x80000000, 2), empty(9, 5, 0x80000000, 2));
+    row = -1;
+
+    /* Several keys: before, between, behind, in both. */
+    struct call a[] = {live(1, 7, 1, 5, 0, 0, 0, 0, 0), live(2, 3, 1, 6, 0, 0, 0, 99, 0), empty(2, 4, 2, 2), live(64, 0xffffffff, 1, 7, 0, 0, 0, 1, 0)};
+    struct call b[] = {live(1, 8, 1, 9, 0, 1, 0, 2, 3), live(2, 3, 1, 6, 0, 0, 0, 98, 0), live(2, 4, 9, 1, 0, 15, 0, 0, 0), empty(3, 0, 1, 1)};
+    struct call u[] = {a[0], b[0], empty(2, 3, 1, 1), a[2], b[3], a[3]};
+    size_t la = put_book(book1, 99, 2099, 12, a, 4), lb = put_book(book2, 99, 2099, 12, b, 4), lu = put_book(joined, 99, 2099, 12, u, 6);
+    JOIN(book1, la, book2, lb, lu, 0, 0, joined, lu);
+    JOIN(book2, lb, book1, la, lu + 1, 0, 0, joined, lu);
+    JOIN(book1, la, book1, la, la, 0, 0, book1, la);
+    put_book(book2, 99, 2099, 12, NULL, 0);
+    JOIN(book1, la, book2, 16, la, 0, 0, book1, la);
+    JOIN(book2, 16, book1, la, la + 31, 0, 0, book1, la);
+    JOIN(book2, 16, book2, 16, 16, 0, 0, book2, 16);
+    group("the joining rule");
+}
+
+static void join_limits(void)
+{
+    static struct call calls[1024];
+    /* From n keys here and m there, `common` of them in both. */
+    static const struct { size_t n, m, common; } rows[] = {
+        {512, 512, 512}, {512, 0, 0}, {0, 512, 0}, {511, 1, 0}, {256, 256, 0}, {257, 256, 1}, {512, 1, 1}, {512, 1, 0}, {1, 512, 0},
+        {257, 256, 0}, {512, 512, 511}, {512, 512, 0}, {510, 2, 0}, {510, 3, 0}, {510, 3, 1}};
+    for (size_t i = 0; i < ROWS(rows); i++) {
+        size_t keys = rows[i].n + rows[i].m - rows[i].common, take = rows[i].n - rows[i].common;
+        for (size_t k = 0; k < 1024; k++)
+            calls[k] = live(5, (uint32_t)k, 1, 10, 0, 0, 0, 0, 0);
+        size_t l1 = put_book(book1, 7, 2025, 1, calls, rows[i].n), l2 = put_book(book2, 7, 2025, 1, calls + take, rows[i].m);
+        row = (int)i;
+        if (keys > 512) {
+            JOIN(book1, l1, book2, l2, 60000, 8, 0, NULL, 0);
+            JOIN(book1, l1, book2, l2, 0, 8, 0, NULL, 0);
+            JOIN(book2, l2, book1, l1, 16 + 32 * 512, 8, 0, NULL, 0);
+        } else {
+            size_t l = put_book(joined, 7, 2025, 1, calls, keys);
+            JOIN(book1, l1, book2, l2, l, 0, 0, joined, l);
+            JOIN(book2, l2, book1, l1, l + 77, 0, 0, joined, l);
+            JOIN(book1, l1, book2, l2, l - 1, 9, 0, NULL, 0);
+            JOIN(book1, l1, book2, l2, 16, keys == 0 ? 0 : 9, 0, NULL, 0);
+            JOIN(book2, l2, book1, l1, 0, 9, 0, NULL, 0);
+        }
+    }
+    group("512 keys and room for them: 8, 9");
+}
+
+static void join_order(void)
+{
+    enum { SEVEN = 2 * BOOK_FAULTS, EIGHT, NINE, ALL };
+    for (int i = 0; i < ALL; i++)
+        for (int j = i; j < ALL; j++) {
+            int eight = i == EIGHT || j == EIGHT, nine = i == NINE || j == NINE, seven = i == SEVEN || j == SEVEN;
+            size_t l1 = tens(book1, 10, eight ? 300 : 4), l2 = tens(book2, 15, eight ? 213 : 4);
+            if (seven)
+                book2[3]++;
+            if (j < SEVEN && j >= BOOK_FAULTS)
+                book_faults[j - BOOK_FAULTS].make(book2, &l2);
+            if (i < SEVEN && i >= BOOK_FAULTS && i != j)
+                book_faults[i - BOOK_FAULTS].make(book2, &l2);
+            if (j < BOOK_FAULTS)
+                book_faults[j].make(book1, &l1);
+            if (i < BOOK_FAULTS && i != j)
+                book_faults[i].make(book1, &l1);
+            row = i * 100 + j;
+            if (i < BOOK_FAULTS)
+                JOIN(book1, l1, book2, l2, nine ? 100 : 60000, book_faults[i].no, book_faults[i].place, NULL, 0);
+            else if (i < SEVEN)
+                JOIN(book1, l1, book2, l2, nine ? 100 : 60000, book_faults[i - BOOK_FAULTS].no + 20, book_faults[i - BOOK_FAULTS].place, NULL, 0);
+            else
+                JOIN(book1, l1, book2, l2, nine ? 100 : 60000, i == SEVEN ? 7 : i == EIGHT ? 8 : 9, 0, NULL, 0);
+        }
+    row = -1;
+    /* 7 for each of the three alone; books that differ join nowhere, empty or not. */
+    put_book(book1, 7, 2025, 1, NULL, 0);
+    put_book(book2, 8, 2025, 1, NULL, 0);
+    JOIN(book1, 16, book2, 16, 100, 7, 0, NULL, 0);
+    put_book(book2, 7, 2026, 1, NULL, 0);
+    JOIN(book1, 16, book2, 16, 100, 7, 0, NULL, 0);
+    put_book(book2, 7, 2025, 3, NULL, 0);
+    JOIN(book1, 16, book2, 16, 100, 7, 0, NULL, 0);
+    put_book(book2, 7, 2025 + 16, 1, NULL, 0);
+    JOIN(book1, 16, book2, 16, 0, 7, 0, NULL, 0);
+    group("join: every number alone, and the order of two");
+}
+
+/* ---- asking for a key ---- */
+
+static void find(void)
+{
+    /* (participant, number) and what stands of it */
+    struct call a[] = {live(1, 1, 1, 5, 0, 0, 0, 0, 0), live(2, 1, 3, 6, 0, 0, 0, 5, 0), live(2, 2, 3, 6, 0, 0, 0, 5, 0),
+                       live(2, 3, 3, 6, 0, 0, 0, 5, 0), live(2, 4, 4, 6, 0, 0, 0, 5, 0), live(2, 5, 9, 6, 0, 0, 0, 5, 0),
+                       empty(2, 6, 1, 2), empty(2, 7, 2, 2), empty(2, 8, 3, 2), empty(2, 9, 3, 1), live(2, 10, 3, 10, 0, 0, 0, 0, 0),
+                       empty(2, 11, 3, 1), live(64, 0xffffffff, 1, 5, 0, 0, 0, 0, 0)};
+    struct call b[] = {live(1, 2, 1, 5, 0, 0, 0, 0, 0), live(2, 1, 3, 6, 0, 0, 0, 5, 0), live(2, 2, 3, 6, 0, 0, 0, 6, 0),
+                       live(2, 3, 4, 6, 0, 0, 0, 5, 0), live(2, 4, 3, 6, 0, 0, 0, 6, 0), empty(2, 5, 1, 2),
+                       live(2, 6, 9, 6, 0, 0, 0, 5, 0), empty(2, 7, 3, 2), empty(2, 8, 3, 2), live(2, 9, 3, 10, 0, 0, 0, 0, 0), empty(2, 10, 3, 1),
+                       empty(2, 11, 3, 1)};
+    static const struct { uint16_t participant; uint32_t number, answer; uint64_t record; } rows[] = {
+        {1, 1, 1, 0},            /* in the first only */
+        {1, 2, 2, 0},            /* in the second only */
+        {2, 1, 1, 1},            /* equal: the first */
+        {2, 2, 0, 0},            /* unequal at one revision: in neither */
+        {2, 3, 2, 3}, {2, 4, 1, 4}, {2, 5, 2, 5}, {2, 6, 1, 6}, {2, 7, 2, 7}, {2, 8, 1, 8},
+        {2, 9, 1, 9}, {2, 10, 2, 10}, {2, 11, 1, 11}, /* the contested one, from the book that has it */
+        {64, 0xffffffff, 1, 12}, {1, 3, 0, 0}, {1, 0, 0, 0}, {3, 1, 0, 0}, {64, 0xfffffffe, 0, 0},
+        {0, 1, 0, 0}, {65, 1, 0, 0}, {257, 1, 0, 0}, {65535, 0xffffffff, 0, 0}};
+    size_t la = put_book(book1, 7, 2025, 1, a, ROWS(a)), lb = put_book(book2, 7, 2025, 1, b, ROWS(b));
+    for (size_t i = 0; i < ROWS(rows); i++) {
+        row = (int)i;
+        FIND(book1, la, book2, lb, rows[i].participant, rows[i].number, rows[i].answer, rows[i].answer ? 16 + 32 * rows[i].record : 0);
+    }
+    row = -1;
+    put_book(joined, 7, 2025, 1, NULL, 0);
+    FIND(book1, la, joined, 16, 2, 11, 1, 16 + 32 * 11);
+    FIND(joined, 16, book1, la, 2, 11, 2, 16 + 32 * 11);
+    FIND(joined, 16, joined, 16, 2, 11, 0, 0);
+    FIND(book1, la, book1, la, 2, 2, 1, 16 + 32 * 2);
+
+    /* Where joining would refuse with 1 to 7 or 21 to 26: nothing is found, though the key lies before the fault. */
+    for (int i = 0; i < BOOK_FAULTS; i++) {
+        row = i;
+        size_t l1 = tens(book1, 10, 5), l2 = tens(book2, 10, 5);
+        FIND(book1, l1, book2, l2, 3, 50, 1, 16 + 32 * 4);
+        book_faults[i].make(book1, &l1);
+        FIND(book1, l1, book2, l2, 3, 50, 0, 0);
+        FIND(book1, l1, book2, l2, 3, 10, 0, 0);
+        FIND(book2, l2, book1, l1, 3, 50, 0, 0);
+        FIND(book2, l2, book1, l1, 3, 10, 0, 0);
+    }
+    row = -1;
+    size_t l1 = tens(book1, 10, 2), l2 = tens(book2, 10, 2);
+    book2[3]++;
+    FIND(book1, l1, book2, l2, 3, 10, 0, 0);
+    book2[3]--, book2[6]++;
+    FIND(book1, l1, book2, l2, 3, 10, 0, 0);
+    book2[6]--, book2[8]++;
+    FIND(book1, l1, book2, l2, 3, 10, 0, 0);
+    /* 8 plays no part. */
+    l1 = tens(book1, 10, 512), l2 = tens(book2, 15, 512);
+    FIND(book1, l1, book2, l2, 3, 10 + 10 * 511, 1, 16 + 32 * 511);
+    FIND(book1, l1, book2, l2, 3, 15 + 10 * 511, 2, 16 + 32 * 511);
+    FIND(book1, l1, book2, l2, 3, 15, 2, 16);
+    FIND(book1, l1, book2, l2, 3, 16, 0, 0);
+    group("asking for one key in two books");
+}
+
+/* ---- scoring: refusals ---- */
+
+static void expect_number(int line, uint8_t kind, uint32_t rated, const struct call *calls, size_t n, uint32_t no, uint64_t place)
+{
+    size_t len = put_book(book1, 7, 2025, 1, calls, n);
+    expect_score(line, 1, kind, rated, book1, len, series, 2976, no, place, 0, 0);
+}
+#define NUMBER(...) expect_number(__LINE__, __VA_ARGS__)
+
+static void score_refusals(void)
+{
+    output(0);
+    size_t len = put_book(book1, 7, 2025, 1, NULL, 0);
+    static const struct { uint16_t participant; uint8_t kind; uint32_t rated, no; } lines[] = {
+        {1, 1, 1, 0}, {64, 8, 4000000, 0}, {0, 1, 1, 10}, {65, 1, 1, 10}, {257, 1, 1, 10}, {1, 0, 1, 10}, {1, 9, 1, 10}, {1, 255, 1, 10},
+        {1, 1, 0, 10}, {1, 1, 4000001, 10}, {1, 1, 0xffffffff, 10}};
+    for (size_t i = 0; i < ROWS(lines); i++) {
+        row = (int)i;
+        SCORE(lines[i].participant, lines[i].kind, lines[i].rated, book1, len, series, 2976, lines[i].no, 0, 0, 0);
+    }
+    row = -1;
+    SCORE(1, 1, 1, book1, len, series, 0, 11, 65535, 0, 0);
+    SCORE(1, 1, 1, book1, len, series, 1, 11, 65535, 0, 0);
+    series[2975] = 5000000;
+    SCORE(1, 1, 1, book1, len, series, 2976, 0, 0, 0, 0);
+    series[2975] = 5000001;
+    SCORE(1, 1, 1, book1, len, series, 2976, 11, 2975, 0, 0);
+    series[1000] = 0xffffffff;
+    SCORE(1, 1, 1, book1, len, series, 2976, 11, 1000, 0, 0);
+    series[0] = 0x80000000;
+    SCORE(1, 1, 1, book1, len, series, 2976, 11, 0, 0, 0);
+    SCORE(1, 1, 1, book1, len, series, 2977, 11, 65535, 0, 0);
+    output(0);
+
+    /* 12: which service is open to which kind; rows are services 1 to 10, columns kinds 1 to 8. */
+    static const char *const open[] = {"1.......", "1.......", "123.....", "1.......", "12345678", "123..678", "12345678", "12345678", "12345678", "12345678"};
+    for (uint8_t service = 1; service <= 10; service++)
+        for (uint8_t kind = 1; kind <= 8; kind++) {
+            struct call c = live(1, 1, 1, service, 0, 0, 0, 0, 0);
+            if (service <= 4)
+                c.minutes = 15;
+            if (service == 2)
+                c.a = 1;
+            if (service == 10)
+                c.start = 9;
+            row = service * 10 + kind;
+            if (open[service - 1][kind - 1] == '.')
+                NUMBER(kind, 10, &c, 1, 12, 0);
+            else { /* whatever it pays, it is no refusal: with a contested call behind, that one is reached */
+                struct call two[] = {c, empty(1, 2, 1, 1)};
+                NUMBER(kind, 10, two, 2, 14, 1);
+            }
+        }
+    row = -1;
+    static const struct { uint8_t kind; int32_t a; uint32_t no; } reserve[] = {
+        {1, 0, 12}, {1, 1, 14}, {1, 10, 14}, {1, 11, 12}, {1, 4000000, 12}, {2, 0, 14}, {2, 1, 12}, {3, 0, 14}, {3, 10, 12}, {4, 0, 12}, {8, 0, 12}};
+    for (size_t i = 0; i < ROWS(reserve); i++) {
+        struct call two[] = {live(1, 1, 1, 2, 0, 15, reserve[i].a, 0, 0), empty(1, 2, 1, 1)};
+        row = (int)i;
+        NUMBER(reserve[i].kind, 10, two, 2, reserve[i].no, reserve[i].no == 12 ? 0 : 1);
+    }
+    static const struct { int32_t a; uint32_t b, no; } event[] = {{0, 10000, 14}, {0, 10001, 12}, {1, 0, 12}, {-1, 0, 12}, {0, 0, 14}};
+    for (size_t i = 0; i < ROWS(event); i++) {
+        struct call two[] = {live(1, 1, 1, 8, 0, 15, event[i].a, event[i].b, 1), empty(1, 2, 1, 1)};
+        row = (int)i;
+        NUMBER(4, 10, two, 2, event[i].no, event[i].no == 12 ? 0 : 1);
+        NUMBER(5, 10, two, 2, event[i].no, event[i].no == 12 ? 0 : 1);
+        NUMBER(6, 10, two, 2, 14, 1);
+    }
+    row = -1;
+
+    /* 13: overlap with any earlier one, whatever lies between; meeting is none, on either side. */
+    static const struct { uint16_t start, minutes; int overlaps; } windows[] = {
+        {300, 60, 1}, {240, 60, 0}, {360, 60, 0}, {255, 60, 1}, {345, 15, 1}, {315, 15, 1}, {0, 44640, 1}, {225, 15, 0}, {0, 15, 0}, {240, 75, 1}};
+    for (uint8_t service = 1; service <= 4; service++)
+        for (size_t i = 0; i < ROWS(windows); i++) {
+            int32_t a = service == 2 ? 5 : 0;
+            struct call four[] = {live(1, 1, 1, service, 300, 60, a, 0, 0), live(1, 2, 1, service, 15000, 15, a, 0, 0),
+                                  live(1, 3, 1, service, windows[i].start, windows[i].minutes, a, 0, 0), empty(1, 4, 1, 1)};
+            row = service * 100 + (int)i;
+            NUMBER(1, 10, four, 4, windows[i].overlaps ? 13 : 14, windows[i].overlaps ? 2 : 3);
+            four[2].participant = 2; /* another member's does not count, nor does another service's */
+            four[3] = empty(1, 3, 1, 1);
+            struct call others[] = {four[0], four[1], four[3], four[2]};
+            NUMBER(1, 10, others, 4, 14, 2);
+            four[2].participant = 1;
+            four[2].service = service == 1 ? 3 : service == 3 ? 4 : 1;
+            four[2].a = 0;
+            four[3] = empty(1, 4, 1, 1);
+            NUMBER(1, 10, four, 4, 14, 3);
+        }
+    for (uint8_t service = 5; service <= 10; service++) {
+        struct call three[] = {live(1, 1, 1, service, 0, 0, 0, 0, 0), live(1, 2, 1, service, 0, 0, 0, 0, 0), empty(1, 3, 1, 1)};
+        int once = service != 8 && service != 10;
+        row = service;
+        NUMBER(1, 10, three, 3, once ? 13 : 14, once ? 1 : 2);
+        three[0] = empty(1, 1, 1, 2); /* a withdrawn one does not count */
+        NUMBER(1, 10, three, 3, 14, 2);
+    }
+    row = -1;
+
+    /* 14, 12, 13 in turn: by record first; in one record 12 before 13 (a contested one has no service to meet with). */
+    struct call turn[] = {live(1, 1, 1, 2, 0, 30, 5, 0, 0), live(1, 2, 1, 2, 15, 30, 0, 0, 0), empty(1, 3, 1, 1)};
+    NUMBER(1, 10, turn, 3, 12, 1);
+    turn[1].a = 5;
+    NUMBER(1, 10, turn, 3, 13, 1);
+    turn[1] = empty(1, 2, 9, 2);
+    NUMBER(1, 10, turn, 3, 14, 2);
+    turn[0] = empty(1, 1, 1, 1);
+    NUMBER(1, 10, turn, 3, 14, 0);
+    /* A call not paid still stands in the way. */
+    struct call zero[] = {live(1, 1, 1, 3, 0, 5000, 0, 0, 0), live(1, 2, 1, 3, 4999, 1, 0, 0, 0)};
+    NUMBER(1, 10, zero, 2, 13, 1);
+
+    /* Others' records are skipped, contested ones too, and places count in the whole book. */
+    struct call mixed[] = {empty(1, 1, 1, 1), live(1, 2, 1, 1, 0, 15, 0, 0, 0), live(1, 3, 1, 1, 0, 15, 0, 0, 0),
+                           live(2, 1, 1, 10, 0, 0, 0, 0, 0), empty(2, 2, 1, 2), live(3, 1, 1, 5, 0, 0, 0, 0, 0), live(3, 9, 1, 5, 0, 0, 0, 0, 0)};
+    len = put_book(book1, 7, 2025, 1, mixed, 7);
+    SCORE(2, 4, 10, book1, len, series, 2976, 0, 0, 24000000, 400);
+    SCORE(3, 4, 10, book1, len, series, 2976, 13, 6, 0, 0);
+    SCORE(1, 4, 10, book1, len, series, 2976, 14, 0, 0, 0);
+    SCORE(64, 4, 10, book1, len, series, 2976, 0, 0, 0, 0);
+    group("scoring: 10 to 14 by field, kind and place");
+}
+
+static void score_order(void)
+{
+    enum { TEN, BOOK, LENGTH = BOOK + BOOK_FAULTS, VALUE_5, VALUE_7, R14_0, R12_1, R13_2, R14_3, ALL };
+    for (int i = 0; i < ALL; i++)
+        for (int j = i; j < ALL; j++) {
+            struct call calls[] = {live(3, 10, 1, 1, 0, 60, 0, 0, 0), live(3, 20, 1, 5, 0, 0, 0, 0, 0), live(3, 30, 1, 10, 0, 0, 0, 0, 0),
+                                   live(3, 40, 1, 4, 0, 60, 0, 0, 0)};
+#define MADE(f) (i == (f) || j == (f))
+            if (MADE(R14_0))
+                calls[0] = empty(3, 10, 1, 1);
+            if (MADE(R12_1))
+                calls[1] = live(3, 20, 1, 2, 0, 15, 0, 0, 0);
+            if (MADE(R13_2))
+                calls[2] = live(3, 30, 1, 1, 45, 30, 0, 0, 0);
+            if (MADE(R14_3))
+                calls[3] = empty(3, 40, 1, 1);
+            size_t len = put_book(book1, 7, 2025, 1, calls, 4);
+            if (j >= BOOK && j < LENGTH)
+                book_faults[j - BOOK].make(book1, &len);
+            if (i >= BOOK && i < LENGTH && i != j)
+                book_faults[i - BOOK].make(book1, &len);
+            output(0);
+            if (MADE(VALUE_5))
+                series[5] = 5000001;
+            if (MADE(VALUE_7))
+                series[7] = 5000001;
+            uint32_t no = i == TEN ? 10 : i < LENGTH ? book_faults[i - BOOK].no : i <= VALUE_7 ? 11 : i == R12_1 ? 12 : i == R13_2 ? 13 : 14;
+            uint64_t place = i == TEN ? 0 : i < LENGTH ? book_faults[i - BOOK].place : i == LENGTH ? 65535 : i == VALUE_5 ? 5 : i == VALUE_7 ? 7
+                           : (uint64_t)(i - R14_0);
+            row = i * 100 + j;
+            for (int how = 0; how < (i == TEN ? 3 : 1); how++)
+                SCORE(i == TEN && how == 0 ? 65 : 3, i == TEN && how == 1 ? 0 : 1, i == TEN && how == 2 ? 4000001 : 1000, book1, len, series,
+                      MADE(LENGTH) ? 2975 : 2976, no, place, 0, 0);
+#undef MADE
+        }
+    group("score: every number alone, and the order of two");
+}
+
+static void score_512(void)
+{
+    static struct call calls[512];
+    for (uint32_t i = 0; i < 512; i++)
+        calls[i] = live(1, i, 1, 8, (uint16_t)i, 3, 1000000000, 1000000000, 0);
+    PAY(7, 1, calls, 512, 61440000000000000, 1024000000000); /* the most that energy can bring: 512 * 10^9 Wh * 120,000 */
+    for (uint32_t i = 0; i < 512; i++)
+        calls[i].a = i % 2 ? -1000000000 : 999999999;
+    PAY(7, 1, calls, 512, 0, 0);
+    for (uint32_t i = 0; i < 512; i++)
+        calls[i] = live(1, i, 1, 3, (uint16_t)(87 * (511 - i)), 87, 0, 0, 0); /* all meet, latest first */
+    PAY(1, 4000000, calls, 512, 24576000000000000, 409600000000);
+    calls[511].minutes = 88;
+    NUMBER(1, 4000000, calls, 512, 13, 511);
+    group("scoring 512 records");
+}
+
+/* ---- sharing ---- */
+
+static void share_sums(void)
+{
+    SHARE(NULL, 0, 0, 0, 0, 0, NULL);
+    SHARE(NULL, 0, 100, 0, 0, 0, NULL);
+    /* R above 0: 3 thousandths of a point are 300 fen; status 2 weighs 10, as A is not below C. */
+    const struct line above[] = {{1, 0, 1, 0, 3}, {5, 1, 1, 0, 0}, {64, 2, 1, 0, 0}};
+    SHARE(above, 3, 60, 0, 0, 300, (int64_t[]){120, -180, 60, 60, 120, 120});
+    /* R below 0: weights 10, 5, 12 */
+    const struct line below[] = {{1, 0, 1, 270, 0}, {5, 1, 1, 0, 0}, {64, 2, 1, 0, 0}};
+    SHARE(below, 3, 48, 0, 0, -270, (int64_t[]){-100, 170, -50, -50, -120, -120});
+    /* R = 0 */
+    const struct line even[] = {{2, 0, 5, 100, 0}, {3, 2, 5, 0, 1}};
+    SHARE(even, 2, 32, 0, 0, 0, (int64_t[]){0, 100, 0, -100});
+    const struct line idle[] = {{2, 0, 0, 100, 0}, {3, 2, 0, 0, 1}};
+    SHARE(idle, 2, 32, 0, 0, 0, (int64_t[]){0, 100, 0, -100});
+    /* Ties go to the lower number, not to the larger weight: remainders 1/2 each of weights 10 and 30 at R = -2. */
+    const struct line tie[] = {{1, 0, 1, 2, 0}, {2, 0, 3, 0, 0}};
+    SHARE(tie, 2, 32, 0, 0, -2, (int64_t[]){-1, 1, -1, -1});
+    const struct line tie2[] = {{1, 0, 3, 2, 0}, {2, 0, 1, 0, 0}};
+    SHARE(tie2, 2, 32, 0, 0, -2, (int64_t[]){-2, 0, 0, 0});
+    /* The largest remainders first: weights 20, 30, 50 of 100 at R = -3 leave 60, 90, 50 and two fen. */
+    const struct line three[] = {{1, 0, 2, 3, 0}, {2, 0, 3, 0, 0}, {3, 0, 5, 0, 0}};
+    SHARE(three, 3, 48, 0, 0, -3, (int64_t[]){-1, 2, -1, -1, -1, -1});
+    /* A line of no weight gets nothing. */
+    const struct line bare[] = {{1, 0, 0, 0, 0}, {2, 0, 1, 1, 0}, {3, 0, 1, 0, 0}, {4, 0, 1, 0, 0}};
+    SHARE(bare, 4, 64, 0, 0, -1, (int64_t[]){0, 0, -1, 0, 0, 0, 0, 0});
+
+    /* The extremes: 64 lines of the largest energies. A = 64 * 10^9 fen; and C = 10^11, all of it on one line. */
+    struct line most[64];
+    int64_t outcome[128];
+    for (int i = 0; i < 64; i++) {
+        most[i] = (struct line){(uint16_t)(i + 1), 0, 5000000, 0, 10000000};
+        outcome[2 * i] = 1000000000;
+        outcome[2 * i + 1] = 0;
+    }
+    SHARE(most, 64, 1024, 0, 0, 64000000000, outcome);
+    for (int i = 0; i < 64; i++) {
+        most[i] = (struct line){(uint16_t)(i + 1), 2, 5000000, i == 63 ? 100000000000 : 0, 0};
+        outcome[2 * i] = -1562500000;
+        outcome[2 * i + 1] = i == 63 ? 98437500000 : -1562500000;
+    }
+    SHARE(most, 64, 1024, 0, 0, -100000000000, outcome);
+    /* One fen over 64 equal lines, and 63. */
+    for (int fen = 1; fen <= 63; fen += 62) {
+        for (int i = 0; i < 64; i++) {
+            most[i] = (struct line){(uint16_t)(i + 1), 1, 5000000, i == 0 ? (uint64_t)fen : 0, 0};
+            outcome[2 * i] = i < fen ? -1 : 0;
+            outcome[2 * i + 1] = outcome[2 * i] + (i == 0 ? fen : 0);
+        }
+        SHARE(most, 64, 1030, 0, 0, -fen, outcome);
+    }
+    const struct line alone[] = {{64, 2, 5000000, 100000000000, 0}};
+    SHARE(alone, 1, 16, 0, 0, -100000000000, (int64_t[]){-100000000000, 0});
+    group("sharing: sums, a negative R, ties, extremes");
+}
+
+static void share_refusals(void)
+{
+    const struct line sound[] = {{1, 0, 1, 5, 1}, {3, 1, 2, 6, 2}, {7, 2, 3, 7, 3}, {64, 0, 4, 8, 4}};
+    uint8_t bytes[70 * 24];
+    size_t len = put_lines(bytes, sound, 4);
+    for (size_t cut = 1; cut < 24; cut++) {
+        row = (int)cut;
+        expect_share_bytes(__LINE__, bytes, len - cut, 64, 1, 0, 0, NULL);
+        expect_share_bytes(__LINE__, bytes, cut, 64, 1, 0, 0, NULL);
+    }
+    row = -1;
+    /* 10: every field at and past its edge, on the third line. */
+    static const struct { struct line l; uint32_t no; } rows[] = {
+        {{4, 0, 0, 0, 0}, 0}, {{63, 2, 5000000, 0, 0}, 0}, {{3, 0, 0, 0, 0}, 10}, {{2, 0, 0, 0, 0}, 10}, {{0, 0, 0, 0, 0}, 10},
+        {{65, 0, 0, 0, 0}, 10}, {{260, 0, 0, 0, 0}, 10}, {{4, 3, 0, 0, 0}, 10}, {{4, 255, 0, 0, 0}, 10}, {{4, 0, 5000001, 0, 0}, 10},
+        {{4, 0, 0xffffffff, 0, 0}, 10}, {{4, 0, 0, 100000000001, 0}, 10}, {{4, 0, 0, 0xffffffffffffffff, 0}, 10}, {{4, 0, 0, (uint64_t)1 << 63, 0}, 10},
+        {{4, 0, 0, 0, 10000001}, 10}, {{4, 0, 0, 0, 0xffffffff}, 10}};
+    for (size_t i = 0; i < ROWS(rows); i++) {
+        struct line l[] = {{1, 0, 0, 0, 0}, {3, 0, 0, 0, 0}, rows[i].l, {64, 0, 0, 0, 0}};
+        row = (int)i;
+        SHARE(l, 4, 64, rows[i].no, rows[i].no ? 2 : 0, 0, (int64_t[8]){0});
+    }
+    /* Reserved bytes, each alone, on each line. */
+    static const size_t reserved[] = {3, 20, 21, 22, 23};
+    for (size_t i = 0; i < 4; i++)
+        for (size_t k = 0; k < ROWS(reserved); k++) {
+            put_lines(bytes, sound, 4);
+            bytes[24 * i + reserved[k]] = 0x80;
+            row = (int)(i * 10 + k);
+            expect_share_bytes(__LINE__, bytes, len, 64, 10, i, 0, NULL);
+        }
+    row = -1;
+    /* The edges of compensation and assessment, sound. */
+    SHARE((struct line[]){{1, 0, 1, 100000000000, 10000000}}, 1, 16, 0, 0, -99000000000, (int64_t[]){-99000000000, 0});
+    /* A 65th line, a 66th; an earlier bad line wins. */
+    struct line many[66];
+    for (int i = 0; i < 66; i++)
+        many[i] = (struct line){(uint16_t)(i + 1), 0, 1, 0, 0};
+    SHARE(many, 65, 2000, 10, 64, 0, NULL);
+    SHARE(many, 66, 2000, 10, 64, 0, NULL);
+    many[64].number = 64;
+    SHARE(many, 65, 2000, 10, 64, 0, NULL);
+    many[64].number = 0;
+    SHARE(many, 65, 0, 10, 64, 0, NULL);
+    many[10].status = 3;
+    SHARE(many, 66, 2000, 10, 10, 0, NULL);
+    /* 15: 10^11 in all is sound, one more is not. */
+    struct line over[] = {{1, 0, 1, 60000000000, 0}, {2, 0, 0, 40000000001, 0}};
+    SHARE(over, 2, 32, 15, 0, 0, NULL);
+    over[1].compensation--;
+    SHARE(over, 2, 32, 0, 0, -100000000000, (int64_t[]){-100000000000, -40000000000, 0, 40000000000});
+    /* 16 */
+    struct line weightless[] = {{1, 0, 0, 0, 1}, {2, 2, 0, 0, 0}};
+    SHARE(weightless, 2, 32, 16, 0, 0, NULL);
+    weightless[0].compensation = 101;
+    SHARE(weightless, 2, 32, 16, 0, 0, NULL);
+    weightless[0].compensation = 100;
+    SHARE(weightless, 2, 32, 0, 0, 0, (int64_t[]){0, 0, 0, 0});
+    /* 9: every length up to the one needed */
+    put_lines(bytes, sound, 4);
+    for (size_t out_len = 0; out_len < 64; out_len++) {
+        row = (int)out_len;
+        expect_share_bytes(__LINE__, bytes, len, out_len, 9, 0, 0, NULL);
+    }
+    row = -1;
+
+    /* Two that meet. */
+    enum { ONE_, TEN_0, TEN_1, TEN_2, FIFTEEN, SIXTEEN, NINE, ALL };
+    static const uint32_t no[] = {1, 10, 10, 10, 15, 16, 9}, place[] = {0, 0, 1, 2, 0, 0, 0};
+    for (int i = 0; i < ALL; i++)
+        for (int j = i; j < ALL; j++) {
+            struct line l[] = {{1, 0, 1, 5, 1}, {3, 1, 2, 6, 2}, {7, 2, 3, 7, 3}, {64, 0, 4, 8, 4}};
+#define MADE(f) (i == (f) || j == (f))
+            if (MADE(SIXTEEN))
+                l[0].energy = l[1].energy = l[2].energy = l[3].energy = 0;
+            if (MADE(FIFTEEN))
+                l[3].compensation = 100000000000;
+            if (MADE(TEN_2))
+                l[2].status = 3;
+            if (MADE(TEN_1))
+                l[1].number = 1;
+            if (MADE(TEN_0))
+                l[0].assessment = 10000001;
+            put_lines(bytes, l, 4);
+            row = i * 100 + j;
+            expect_share_bytes(__LINE__, bytes, len - MADE(ONE_), MADE(NINE) ? 63 : 64, no[i], place[i], 0, NULL);
+#undef MADE
+        }
+    group("share: every number alone, and the order of two");
+}
+
+/* ---- null with length 0, and registers ---- */
+
+static void nulls(void)
+{
+    size_t len = tens(book1, 10, 2);
+    output(0);
+    CHECK(NULL, 0, 1, 0);
+    NONE(7, 2025, 1, 0, 9); /* the helpers lend null where the length is 0 */
+    ONE(7, 2025, 1, empty(1, 1, 1, 1), 0, 9);
+    JOIN(NULL, 0, NULL, 0, 0, 1, 0, NULL, 0);
+    JOIN(NULL, 0, book1, len, 100, 1, 0, NULL, 0);
+    JOIN(book1, len, NULL, 0, 0, 21, 0, NULL, 0);
+    JOIN(book1, len, book1, len, 0, 9, 0, NULL, 0);
+    FIND(NULL, 0, NULL, 0, 3, 10, 0, 0);
+    FIND(book1, len, NULL, 0, 3, 10, 0, 0);
+    FIND(NULL, 0, book1, len, 3, 10, 0, 0);
+    SCORE(3, 1, 1, NULL, 0, NULL, 0, 1, 0, 0, 0);
+    SCORE(0, 1, 1, NULL, 0, NULL, 0, 10, 0, 0, 0);
+    SCORE(3, 1, 1, book1, len, NULL, 0, 11, 65535, 0, 0);
+    SCORE(3, 1, 1, NULL, 0, series, 2976, 1, 0, 0, 0);
+    SHARE(NULL, 0, 0, 0, 0, 0, NULL);
+    expect_share_bytes(__LINE__, NULL, 0, 0, 0, 0, 0, NULL);
+    expect_share_bytes(__LINE__, NULL, 0, 16, 0, 0, 0, NULL);
+    SHARE((struct line[]){{1, 0, 1, 1, 0}}, 1, 0, 9, 0, 0, NULL);
+    group("null with length 0");
+}
+
+/* A caller may leave anything in the upper half of the register or stack slot that carries a number of 32 bits or less. */
+static void upper_halves(void)
+{
+#if defined __x86_64__
+    typedef void any(void);
+    /* Read from memory, so that the compiler does not see the two types meet. */
+    any *volatile none = (any *)nwb_none, *volatile one = (any *)nwb_one, *volatile find = (any *)nwb_find, *volatile score = (any *)nwb_score;
+    typedef uint32_t none_wide(uint64_t, uint64_t, uint64_t, uint8_t *, size_t, uint64_t *, uint64_t *);
+    typedef uint32_t one_wide(uint64_t, uint64_t, uint64_t, uint64_t, uint64_t, uint64_t, uint64_t, uint64_t, uint64_t, uint64_t, uint64_t, uint64_t,
+                              uint64_t, uint8_t *, size_t, uint64_t *, uint64_t *);
+    typedef uint32_t find_wide(const uint8_t *, size_t, const uint8_t *, size_t, uint64_t, uint64_t, uint64_t *);
+    typedef uint32_t score_wide(uint64_t, uint64_t, uint64_t, const uint8_t *, size_t, const uint32_t *, size_t, uint64_t *, uint64_t *, uint64_t *);
+    const uint64_t dirt = 0xdeadbeef00000000u;
+    uint8_t out[48], expected[48];
+    struct call c = live(3, 0xfedcba98, 0x89abcdef, 8, 0x1234, 0x0567, -500, 0x01020304, 1);
+    placed_now = ALIGNED;
+
+    begin(__LINE__, "none");
+    put_book(expected, 7, 2025, 1, NULL, 0);
+    want("number", ((none_wide *)none)(dirt | 7, dirt | 2025, dirt | 1, out, 48, CELL(0), CELL(1)), 0);
+    want("bytes", (uint64_t)(memcmp(out, expected, 16) == 0), 1);
+    end();
+
+    begin(__LINE__, "one");
+    put_book(expected, 7, 2025, 1, &c, 1);
+    want("number", ((one_wide *)one)(dirt | 7, dirt | 2025, dirt | 1, dirt | c.participant, dirt | c.service, dirt | c.state, dirt | c.number,
+                                                dirt | c.revision, dirt | c.start, dirt | c.minutes, dirt | (uint32_t)c.a, dirt | c.b, dirt | c.c,
+                                                out, 48, CELL(0), CELL(1)), 0);
+    want("bytes", (uint64_t)(memcmp(out, expected, 48) == 0), 1);
+    end();
+
+    begin(__LINE__, "find");
+    size_t len = tens(book1, 10, 2);
+    want("answer", ((find_wide *)find)(book1, len, book1, len, dirt | 3, dirt | 20, CELL(0)), 1);
+    want("offset", *CELL(0), 48);
+    end();
+
+    begin(__LINE__, "score");
+    output(0);
+    want("number", ((score_wide *)score)(dirt | 3, dirt | 1, dirt | 5, book1, len, series, 2976, CELL(0), CELL(1), CELL(2)), 0);
+    want("grains", *CELL(1), 120000000);
+    want("fen", *CELL(2), 2000);
+    end();
+#endif
+    group("upper halves of registers");
+}
+
+int main(void)
+{
+    area_open(&in1, 60000);
+    area_open(&in2, 60000);
+    area_open(&in_series, 60000);
+    area_open(&lent, 60000);
+    on_touched_guard(touched);
+
+    worked_sums();
+    pay_by_service();
+    fen_once();
+    headers();
+    records();
+    months();
+    check_order();
+    writers();
+    join_rule();
+    join_limits();
+    join_order();
+    find();
+    score_refusals();
+    score_order();
+    score_512();
+    share_sums();
+    share_refusals();
+    nulls();
+    upper_halves();
+    printf("host: %u checks, %u failed\n", checks, failed);
+    return failed != 0;
+}
