@@ -1,0 +1,78 @@
+-- `lines::Reader::feed` meets its contract.
+use mathlib.Core.Path.{_≡_, refl}
+use mathlib.Core.List.{List, _++_}
+use mathlib.Core.Logic.{⊎-elim}
+use Prim.Native.Nat.{ℕ, _-_, _≤_}
+use native.Mathlib.Omega.{arith}
+use lib.ListN.{length, drop, getD}
+use Rattle.lines.specs.declared.Reader.{Reader}
+use Rattle.lines.specs.Meaning.{meaning}
+use Rattle.lines.proofs.Sheets.{feed-on, feed-end, line-arm, other-arm}
+use Rattle.lines.proofs.Reader.feed.Statement.{statement}
+use Rattle.lines.proofs.Reader.feed.Tie as tie
+
+abbrev Inv-loop : tie.InvT-loop
+Inv-loop bytes row₀ sheet₀ i₀ row sheet i =
+    (i ≤ length bytes) × ((rest : List ℕ) → meaning (record { row = row; sheet = sheet }) (drop i bytes ++ rest) ≡ meaning (record { row = row₀; sheet = sheet₀ }) (bytes ++ rest))
+
+abbrev μ-loop : tie.MeasureT-loop
+μ-loop bytes row₀ sheet₀ i₀ row sheet i = length bytes - i
+
+loop-holds : tie.Need-loop-holds Inv-loop μ-loop
+loop-holds c = (omega arith, λ rest. refl)
+
+shared-slice-read-b : tie.Need-shared-slice-read-b Inv-loop μ-loop
+shared-slice-read-b c = omega arith
+
+with-requires : tie.Need-with-requires Inv-loop μ-loop
+with-requires c κs = tt
+
+start-requires : tie.Need-start-requires Inv-loop μ-loop
+start-requires c κs = tt
+
+step-requires : tie.Need-step-requires Inv-loop μ-loop
+step-requires c κs = tt
+
+add-i : tie.Need-add-i Inv-loop μ-loop
+add-i c = omega arith
+
+loop-less : tie.Need-loop-less Inv-loop μ-loop
+loop-less c = omega arith
+
+loop-again : tie.Need-loop-again Inv-loop μ-loop
+loop-again c =
+    let a = c .before .before .before .before .before .before .before .args in
+    let b = a .bytes .now in
+    let l = c .before .before .before .loop in
+    let t = c .if1 in
+    let s : Reader = record { row = l .row; sheet = l .sheet } in (
+      omega arith,
+      feed-on b (l .i) (a .self) s (record { row = t .row; sheet = t .sheet }) (omega arith)
+          (⊎-elim
+          (λ w. line-arm (l .row) (t .row) (w .2 .result) (l .sheet) (t .sheet) (w .1 .result) (getD b (l .i) 0) (w .0 .taken) (w .4) (w .3) (w .2 .ensures) (w .1 .ensures))
+          (λ w. other-arm (l .row) (t .row) (w .1 .result) (l .sheet) (t .sheet) (getD b (l .i) 0) (w .0 .left) (w .3) (w .2) (w .1 .ensures))
+          (t .came))
+          (l .inv .1),
+    )
+
+returns : tie.Need-returns Inv-loop μ-loop
+returns c =
+    let a = c .before .before .before .before .before .args in
+    let l = c .before .loop in
+    feed-end (a .bytes .now) (l .i) (a .self) (record { row = l .row; sheet = l .sheet }) (omega arith) (l .inv .1)
+
+pub feed-spec : {M : Type 1} → statement M
+feed-spec =
+    tie.close
+    (tie.spec
+    Inv-loop
+    μ-loop
+    loop-holds
+    shared-slice-read-b
+    with-requires
+    start-requires
+    step-requires
+    add-i
+    loop-less
+    loop-again
+    returns)

@@ -1,0 +1,27 @@
+-- `lines::Reader::step` meets its contract.
+use Rattle.lines.proofs.Sheets.{step-feed, step-other}
+use borrow.Author.Needs.{needs}
+use Rattle.lines.proofs.Reader.step.Statement.{statement}
+use Rattle.lines.proofs.Reader.step.Tie as tie
+
+with-requires : tie.Need-with-requires
+with-requires c κs = search needs
+
+start-requires : tie.Need-start-requires
+start-requires c κs = search needs
+
+returns : tie.Need-returns
+returns c =
+    let a = c .before .before .before .before .before .args in
+    step-feed (a .self .row) (c .start .result) (a .self .sheet) (c .before .with .result) (a .b) (c .before .before .if1 .taken) (c .start .ensures) (c .before .with .ensures)
+
+step-requires : tie.Need-step-requires
+step-requires c κs = search needs
+
+returns-2 : tie.Need-returns-2
+returns-2 c =
+    let a = c .before .before .before .before .args in
+    step-other (a .self .row) (c .step .result) (a .self .sheet) (a .b) (c .before .if1 .left) (c .step .ensures)
+
+pub step-spec : {M : Type 1} → statement M
+step-spec = tie.close (tie.spec with-requires start-requires returns step-requires returns-2)

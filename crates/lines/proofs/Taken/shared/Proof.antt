@@ -1,0 +1,18 @@
+-- `lines::Taken::shared` meets its contract.
+use mathlib.Core.Path.{_∙_}
+use Rattle.lines.proofs.Sheets.{shared-yes, shared-no}
+use borrow.Author.Needs.{needs}
+use Rattle.lines.proofs.Taken.shared.Statement.{statement}
+use Rattle.lines.proofs.Taken.shared.Tie as tie
+
+share-requires : tie.Need-share-requires
+share-requires c κs = search needs
+
+returns : tie.Need-returns
+returns c = c .share .ensures ∙ shared-yes (c .before .before .before .before .args .self) (c .before .if1 .taken)
+
+returns-2 : tie.Need-returns-2
+returns-2 c = shared-no (c .before .before .before .args .self) (c .if1 .left)
+
+pub shared-spec : {M : Type 1} → statement M
+shared-spec = tie.close (tie.spec share-requires returns returns-2)

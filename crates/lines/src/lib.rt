@@ -1,0 +1,133 @@
+// Sharing lines read from text, a byte at a time, in fixed memory, whatever the text's length.
+mod row;
+mod sheet;
+
+use row::Row;
+use share::Line;
+use share::Shared;
+use sheet::Sheet;
+use units::SignedFen;
+ghost use mathlib.Core.Path.{_≡_};
+ghost use mathlib.Core.List.{List, [], _∷_, _++_};
+ghost use Prim.Native.Nat.{ℕ};
+ghost use Rattle.lines.specs.Text.{readText, sharedOf};
+ghost use Rattle.lines.specs.Meaning.{meaning};
+ghost use Rattle.lines.specs.Settling.{Tells};
+
+// The answer: 10 and a place, or zeros, how many lines there are, and the lines.
+pub struct Taken {
+    pub number: u32,
+    pub place: usize,
+    pub count: usize,
+    pub lines: [Line; 64],
+}
+
+// All that is kept of the text so far: the line that is being read, and the lines before it.
+pub struct Reader {
+    row: Row,
+    sheet: Sheet,
+}
+
+impl Reader {
+    // The reader before any byte.
+    pub fn start() -> Reader
+        ensures { λ r. ⌜ ((text : List ℕ) → meaning r text ≡ readText text) ⌝ }
+    {
+        let row = Row::start();
+        let sheet = Sheet::start();
+        Reader { row, sheet }
+    }
+
+    // The reader after one byte more.
+    pub fn step(self, b: u8) -> Reader
+        ensures { λ r. ⌜ ((rest : List ℕ) → meaning r rest ≡ meaning self (b ∷ rest)) ⌝ }
+    {
+        let row = self.row;
+        let sheet = self.sheet;
+        if b == b'\n' {
+            let closed = sheet.with(row);
+            let fresh = Row::start();
+            return Reader {
+                row: fresh,
+                sheet: closed,
+            };
+        }
+        let next = row.step(b);
+        Reader { row: next, sheet }
+    }
+
+    // The reader after some bytes more. The sheet is large: between line feeds only the row moves.
+    pub fn feed(self, bytes: &[u8]) -> Reader
+        ensures { λ r. ⌜ ((rest : List ℕ) → meaning r rest ≡ meaning self (now (bytes .entry) ++ rest)) ⌝ }
+    {
+        let mut row = self.row;
+        let mut sheet = self.sheet;
+        let mut i: usize = 0;
+        while i < bytes.len() {
+            let b = bytes[i];
+            if b == b'\n' {
+                sheet = sheet.with(row);
+                row = Row::start();
+            } else {
+                row = row.step(b);
+            }
+            i += 1;
+        }
+        Reader { row, sheet }
+    }
+
+    // Whether the answer is known, whatever follows.
+    pub fn is_settled(self) -> bool
+        ensures { λ r. ⌜ Tells self r ⌝ }
+    {
+        let row = self.row;
+        let sheet = self.sheet;
+        if sheet.refused {
+            return true;
+        }
+        if !row.is_begun() {
+            return false;
+        }
+        !sheet.takes(row.best())
+    }
+
+    // The answer, if the text ends here.
+    pub fn finish(self) -> Taken
+        ensures { λ r. ⌜ r ≡ meaning self [] ⌝ }
+    {
+        let row = self.row;
+        let sheet = self.sheet;
+        if row.is_begun() {
+            let closed = sheet.with(row);
+            return closed.answer();
+        }
+        sheet.answer()
+    }
+}
+
+// What a whole text says.
+pub fn read_text(text: &[u8]) -> Taken
+    ensures { λ r. ⌜ r ≡ readText (now (text .entry)) ⌝ }
+{
+    let first = Reader::start();
+    let last = first.feed(text);
+    last.finish()
+}
+
+impl Taken {
+    // The sharing of what was read, or its refusal.
+    pub fn shared(self) -> Shared
+        ensures { λ r. ⌜ r ≡ sharedOf self ⌝ }
+    {
+        let lines = self.lines;
+        if self.number == 0 {
+            return share::share(lines, self.count);
+        }
+        Shared {
+            number: self.number,
+            place: self.place,
+            gap: SignedFen(0),
+            lines,
+        }
+    }
+}

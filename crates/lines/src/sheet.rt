@@ -1,0 +1,105 @@
+// The lines taken so far, or that one of them was bad.
+use crate::Taken;
+use crate::row::Row;
+use crate::row::blank_line;
+use share::Line;
+ghost use mathlib.Core.Path.{_≡_};
+ghost use mathlib.Core.Bool.{true, _&&_};
+ghost use lib.Dec.{ltb};
+ghost use mathlib.Core.List.{List, [], _∷_};
+ghost use Rattle.share.specs.declared.Line.{Line};
+ghost use Rattle.share.specs.Sharing.{soundLine, mostNumber};
+ghost use Rattle.lines.specs.Text.{arrayFrom};
+ghost use Rattle.lines.specs.Meaning.{judgeFrom, outcome, rowLine};
+
+// How many lines were sound, the number of the last of them (else 0), and the lines; `refused`: the one after them was not.
+pub struct Sheet {
+    pub refused: bool,
+    pub before: u16,
+    pub count: usize,
+    pub lines: [Line; 64],
+}
+
+fn blank_lines() -> [Line; 64]
+    ensures { λ r. ⌜ r ≡ arrayFrom [] ⌝ }
+{
+    let none = blank_line();
+    [none; 64]
+}
+
+impl Sheet {
+    // The sheet before any line.
+    pub fn start() -> Sheet
+        ensures { λ r. ⌜ ((ls : List Line) → outcome r ls ≡ judgeFrom 0 (arrayFrom []) 0 ls) ⌝ }
+    {
+        let lines = blank_lines();
+        Sheet {
+            refused: false,
+            before: 0,
+            count: 0,
+            lines,
+        }
+    }
+
+    fn refuse(mut self) -> Sheet
+        ensures { λ r. ⌜ (r .refused ≡ true) × (r .count ≡ self .count) ⌝ }
+    {
+        self.refused = true;
+        self
+    }
+
+    // Whether the line is taken, if it ends here. A line that was read is within its limits or blank: its number decides.
+    pub fn takes(self, row: Row) -> bool
+        ensures { λ r. ⌜ r ≡ (soundLine (self .before) (rowLine row []) && ltb (self .count) mostNumber) ⌝ }
+    {
+        let l = row.line();
+        (self.before < l.number) & (self.count < 64)
+    }
+
+    // The sheet after the end of a line.
+    pub fn with(self, row: Row) -> Sheet
+        ensures { λ r. ⌜ ((ls : List Line) → outcome r ls ≡ outcome self (rowLine row [] ∷ ls)) ⌝ }
+    {
+        if self.refused {
+            return self;
+        }
+        let l = row.line();
+        if l.number <= self.before {
+            return self.refuse();
+        }
+        let at = self.count;
+        if 63 < at {
+            return self.refuse();
+        }
+        let mut lines = self.lines;
+        lines[at] = l;
+        Sheet {
+            refused: false,
+            before: l.number,
+            count: at + 1,
+            lines,
+        }
+    }
+
+    // The answer where no line follows.
+    pub fn answer(self) -> Taken
+        ensures { λ r. ⌜ r ≡ outcome self [] ⌝ }
+    {
+        if self.refused {
+            let none = blank_lines();
+            return Taken {
+                number: 10,
+                place: self.count,
+                count: 0,
+                lines: none,
+            };
+        }
+        let lines = self.lines;
+        Taken {
+            number: 0,
+            place: 0,
+            count: self.count,
+            lines,
+        }
+    }
+}
