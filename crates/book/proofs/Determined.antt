@@ -23,7 +23,7 @@ call-determined b i r s e f = e ∙ sym f
 pub outcome-determined : (r s : Written) (o p : List ℕ) (w : Outcome) → outcome r o ≡ w → outcome s p ≡ w → (r ≡ s) × (o ≡ p)
 outcome-determined r s o p w e f =
     let g = e ∙ sym f in (
-      λ i. record { number = ap (λ (x : Outcome). x .number) g i; place = ap (λ (x : Outcome). x .place) g i; length = ap (λ (x : Outcome). x .length) g i },
+      λ i. record { number = ap (λ (x : Outcome). x .number) g i; place = ap (λ (x : Outcome). x .place) g i; length = ap (λ (x : Outcome). x .size) g i },
       ap (λ (x : Outcome). x .out) g,
     )
 

@@ -84,11 +84,12 @@ records-accepted m low (c ∷ cs) p i k w r e =
     ∙ records-accepted m (suc (keyOf c)) cs (p ++ callBytes c) (suc i) k (w .1) (r .1) (longer p i e c t) in
     rw (v, head) tail
 
--- and records that pass are those that were written
-stop-none : (v i : ℕ) (f : Verdict) → cond (eqb v 0) f (refuse v i) ≡ accepted → (v ≡ 0) × (f ≡ accepted)
-stop-none zero i f e = (refl, e)
-stop-none (suc v) i f e = absurd (let z : suc v ≡ 0 = ap (λ (x : Verdict). x .number) (rw (ne-eqb (suc v) 0 (λ x. omega arith)) at e) in omega arith)
+-- a turn that does not end the check
+pub went-on : (v i : ℕ) (f : Verdict) → cond (eqb v 0) f (refuse v i) ≡ accepted → (v ≡ 0) × (f ≡ accepted)
+went-on zero i f e = (refl, e)
+went-on (suc v) i f e = absurd (let z : suc v ≡ 0 = ap (λ (x : Verdict). x .number) (rw (ne-eqb (suc v) 0 (λ x. omega arith)) at e) in omega arith)
 
+-- and records that pass are those that were written
 module _ (m : ℕ) (b : List ℕ) (small : IsBytes b) where
   pub record-within : (i : ℕ) → soundCall m (callOf b i) ≡ true → Within m (callOf b i)
   unfolding callOf
@@ -99,7 +100,7 @@ module _ (m : ℕ) (b : List ℕ) (small : IsBytes b) where
   unfolding checkFrom callsFrom recordBytes callOf
   records-sound zero low i l e = let k : sizeOf i ≡ length b = omega arith in (tt, tt, ap (λ (j : ℕ). drop j b) k ∙ drop-length b)
   records-sound (suc n) low i l e =
-      let p = stop-none (judge m b low i) i _ e in
+      let p = went-on (judge m b low i) i _ e in
       let q = judge-zero m b low i (p .0) in
       let r = records-sound n (suc (keyOf (callOf b i))) (suc i) (omega arith) (p .1) in
       let k : sizeOf i + 32 ≡ sizeOf (suc i) = omega arith in (

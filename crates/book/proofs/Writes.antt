@@ -28,13 +28,13 @@ module _ (h : Header) (cs : List Call) (out : List ℕ) where
 
   -- no number: the book is stored at the start of the output
   pub writes : (n len : ℕ) (after : List ℕ) → n ≡ writeFault h cs (length out) → n ≡ 0 → len ≡ sizeOf (length cs) → sizeOf (length cs) ≤ length out → Stores out 0 (bookBytes h cs) after
-      → record { number = 0; place = 0; length = len; out = after } ≡ writing h cs out
+      → record { number = 0; place = 0; size = len; out = after } ≡ writing h cs out
   unfolding writing
   writes n len after e z k room s =
       let size = length-book h cs in
       let bytes : after ≡ bookBytes h cs ++ drop (length (bookBytes h cs)) out =
       s .is ∙ sets-eq (bookBytes h cs) out 0 (omega (arith, size)) ∙ ap (λ (j : ℕ). bookBytes h cs ++ drop j out) (zero-add (length (bookBytes h cs))) in
-      rw (← e, eq-eqb n 0 z) (λ i. record { number = 0; place = 0; length = (k ∙ sym size) i; out = bytes i })
+      rw (← e, eq-eqb n 0 z) (λ i. record { number = 0; place = 0; size = (k ∙ sym size) i; out = bytes i })
 
 -- where nothing is refused there is room
 pub room-of : (h : Header) (cs : List Call) (room : ℕ) → writeFault h cs room ≡ 0 → sizeOf (length cs) ≤ room

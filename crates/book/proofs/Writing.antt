@@ -76,11 +76,11 @@ module _ (h : Header) (cs : List Call) (out : List ℕ) (ok : writeFault h cs (l
   wrote = simp (eq-eqb _ _ ok)
 
   -- the book stands at the start of the output
-  pub book-written : take (writing h cs out .length) (writing h cs out .out) ≡ bookBytes h cs
+  pub book-written : take (writing h cs out .size) (writing h cs out .out) ≡ bookBytes h cs
   book-written = rw wrote (take-append-seam (bookBytes h cs) (drop (length (bookBytes h cs)) out))
 
   -- and the bytes behind it stay
-  pub rest-kept : drop (writing h cs out .length) (writing h cs out .out) ≡ drop (writing h cs out .length) out
+  pub rest-kept : drop (writing h cs out .size) (writing h cs out .out) ≡ drop (writing h cs out .size) out
   rest-kept = rw wrote (drop-append-seam (bookBytes h cs) (drop (length (bookBytes h cs)) out))
 
   -- DEMAND 2: what was written is a sound book, and reads back as the same header and calls.

@@ -15,20 +15,20 @@ use Rattle.book.specs.Check.{soundHeader, monthOf}
 pub record Outcome : Type 0 where
   pub number : ℕ
   pub place : ℕ
-  pub length : ℕ
+  pub size : ℕ
   pub out : List ℕ
 
 -- the answer and the output at exit, as one outcome
 abbrev pub outcome : Written → List ℕ → Outcome
-outcome answer after = record { number = answer .number; place = answer .place; length = answer .length; out = after }
+outcome answer after = record { number = answer .number; place = answer .place; size = answer .length; out = after }
 
 -- a refusal: number and place, otherwise zeros; the output keeps its contents
 abbrev pub refusedOut : ℕ → ℕ → List ℕ → Outcome
-refusedOut number place out = record { number = number; place = place; length = 0; out = out }
+refusedOut number place out = record { number = number; place = place; size = 0; out = out }
 
 -- accepted: the book stands at the start of the output, and the bytes after it stay
 abbrev pub wroteOut : List ℕ → List ℕ → Outcome
-wroteOut book out = record { number = 0; place = 0; length = length book; out = book ++ drop (length book) out }
+wroteOut book out = record { number = 0; place = 0; size = length book; out = book ++ drop (length book) out }
 
 -- each call is sound, in a month of so many minutes
 unfoldable pub soundCalls : ℕ → List Call → Bool

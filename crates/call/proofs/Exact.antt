@@ -92,10 +92,10 @@ module _ (c : Call) where
   At s = Allowed (limitsOf s) c
 
   window : c .start % 15 ≡ 0 → c .length % 15 ≡ 0 → 15 ≤ c .length → Window c
-  window p q r = record { start = p; length = q; shortest = r }
+  window p q r = record { starts = p; lasts = q; shortest = r }
 
   no-time : c .start ≤ 0 → c .length ≤ 0 → NoTime c
-  no-time p q = record { start = none _ p; length = none _ q }
+  no-time p q = record { no-start = none _ p; no-length = none _ q }
 
   row-of : (s : ℕ) → c .service ≡ s → 1 ≤ s → At s → Row c
   unfolding limitsOf table
@@ -145,13 +145,13 @@ module _ (c : Call) (start : c .start ≤ 65535) (long : c .length ≤ 65535) wh
 
   row-meets : Row c → Meets
   unfolding limitsOf table
-  row-meets (deep-peak e w a b d) = let z = from-a _ 0 0 a (lit≤ tt) in meets 1 e (lit≤ tt) (record { quarters = λ x. (w .start, w .length); latest = start; shortest = w .shortest; longest = long; low = z .0; high = z .1; most-b = at-most _ _ b; most-c = at-most _ _ d })
-  row-meets (reserve e w n a k b d) = let z = from-a _ n 4000000 a k in meets 2 e (lit≤ tt) (record { quarters = λ x. (w .start, w .length); latest = start; shortest = w .shortest; longest = long; low = z .0; high = z .1; most-b = at-most _ _ b; most-c = at-most _ _ d })
+  row-meets (deep-peak e w a b d) = let z = from-a _ 0 0 a (lit≤ tt) in meets 1 e (lit≤ tt) (record { quarters = λ x. (w .starts, w .lasts); latest = start; shortest = w .shortest; longest = long; low = z .0; high = z .1; most-b = at-most _ _ b; most-c = at-most _ _ d })
+  row-meets (reserve e w n a k b d) = let z = from-a _ n 4000000 a k in meets 2 e (lit≤ tt) (record { quarters = λ x. (w .starts, w .lasts); latest = start; shortest = w .shortest; longest = long; low = z .0; high = z .1; most-b = at-most _ _ b; most-c = at-most _ _ d })
   row-meets (start-stop e l a b d) = let z = from-a _ 0 0 a (lit≤ tt) in meets 3 e (lit≤ tt) (record { quarters = λ x. never x; latest = start; shortest = l; longest = long; low = z .0; high = z .1; most-b = at-most _ _ b; most-c = at-most _ _ d })
   row-meets (standby e l a b d) = let z = from-a _ 0 0 a (lit≤ tt) in meets 4 e (lit≤ tt) (record { quarters = λ x. never x; latest = start; shortest = l; longest = long; low = z .0; high = z .1; most-b = at-most _ _ b; most-c = at-most _ _ d })
-  row-meets (black-start e w a b d) = let z = from-a _ 0 0 a (lit≤ tt) in meets 5 e (lit≤ tt) (record { quarters = λ x. never x; latest = at-most _ _ (w .start); shortest = omega arith; longest = at-most _ _ (w .length); low = z .0; high = z .1; most-b = at-most _ _ b; most-c = at-most _ _ d })
-  row-meets (agc-availability e w a b d) = let z = from-a _ 0 0 a (lit≤ tt) in meets 6 e (lit≤ tt) (record { quarters = λ x. never x; latest = at-most _ _ (w .start); shortest = omega arith; longest = at-most _ _ (w .length); low = z .0; high = z .1; most-b = b; most-c = at-most _ _ d })
-  row-meets (agc-contribution e w a b d) = let z = from-a _ 0 0 a (lit≤ tt) in meets 7 e (lit≤ tt) (record { quarters = λ x. never x; latest = at-most _ _ (w .start); shortest = omega arith; longest = at-most _ _ (w .length); low = z .0; high = z .1; most-b = b; most-c = at-most _ _ d })
+  row-meets (black-start e w a b d) = let z = from-a _ 0 0 a (lit≤ tt) in meets 5 e (lit≤ tt) (record { quarters = λ x. never x; latest = at-most _ _ (w .no-start); shortest = omega arith; longest = at-most _ _ (w .no-length); low = z .0; high = z .1; most-b = at-most _ _ b; most-c = at-most _ _ d })
+  row-meets (agc-availability e w a b d) = let z = from-a _ 0 0 a (lit≤ tt) in meets 6 e (lit≤ tt) (record { quarters = λ x. never x; latest = at-most _ _ (w .no-start); shortest = omega arith; longest = at-most _ _ (w .no-length); low = z .0; high = z .1; most-b = b; most-c = at-most _ _ d })
+  row-meets (agc-contribution e w a b d) = let z = from-a _ 0 0 a (lit≤ tt) in meets 7 e (lit≤ tt) (record { quarters = λ x. never x; latest = at-most _ _ (w .no-start); shortest = omega arith; longest = at-most _ _ (w .no-length); low = z .0; high = z .1; most-b = b; most-c = at-most _ _ d })
   row-meets (frequency-event e a b d) = let z = from-swing (c .a) a in meets 8 e (lit≤ tt) (record { quarters = λ x. never x; latest = start; shortest = omega arith; longest = long; low = z .0; high = z .1; most-b = b; most-c = d })
   row-meets (avc e s a b d) = let z = from-a _ 0 0 a (lit≤ tt) in meets 9 e (lit≤ tt) (record { quarters = λ x. never x; latest = at-most _ _ s; shortest = omega arith; longest = long; low = z .0; high = z .1; most-b = b; most-c = d })
   row-meets (stability-trip e l a b d) = let z = from-a _ 0 0 a (lit≤ tt) in meets 10 e (lit≤ tt) (record { quarters = λ x. never x; latest = start; shortest = omega arith; longest = at-most _ _ l; low = z .0; high = z .1; most-b = at-most _ _ b; most-c = at-most _ _ d })
@@ -161,7 +161,7 @@ unfolding limitsOf table
 blank-allowed c w =
     let z = from-a _ 0 0 (w .no-a) (lit≤ tt) in
     subst (λ (s : ℕ). allows (limitsOf s) c ≡ true) (sym (w .service))
-    (allowing (limitsOf 0) c (record { quarters = λ x. never x; latest = at-most _ _ (w .time .start); shortest = omega arith; longest = at-most _ _ (w .time .length); low = z .0; high = z .1; most-b = at-most _ _ (w .no-b); most-c = at-most _ _ (w .no-c) }))
+    (allowing (limitsOf 0) c (record { quarters = λ x. never x; latest = at-most _ _ (w .time .no-start); shortest = omega arith; longest = at-most _ _ (w .time .no-length); low = z .0; high = z .1; most-b = at-most _ _ (w .no-b); most-c = at-most _ _ (w .no-c) }))
 
 -- The whole test
 
@@ -212,7 +212,7 @@ module _ (m : ℕ) (c : Call) where
   blank-passes : 1 ≤ c .state → c .state ≤ 2 → Blank c → Passes
   blank-passes p q w =
       let s : stateTest ≡ true = struck-test (eqb (c .state) 0) (leb 1 (c .service)) (leb 1 (c .state)) (eqb (c .service) 0) (le-leb _ _ p) (eq-eqb _ _ (w .service)) in
-      (q, s, omega (arith, w .time .start, w .time .length), blank-allowed c w)
+      (q, s, omega (arith, w .time .no-start, w .time .no-length), blank-allowed c w)
     where
       struck-test : (t u v w : Bool) → v ≡ true → w ≡ true → (t && u || v && w) ≡ true
       struck-test true true v w e f = refl
@@ -288,5 +288,5 @@ within-sized m c k w = go (w .content)
 
     go : Stated m c → Sized c
     go (is-live e l r) = size (row-small c r) (omega arith) l
-    go (is-contested e v) = size (blank-small c v) (omega arith) (omega (arith, v .time .start, v .time .length))
-    go (is-withdrawn e v) = size (blank-small c v) (omega arith) (omega (arith, v .time .start, v .time .length))
+    go (is-contested e v) = size (blank-small c v) (omega arith) (omega (arith, v .time .no-start, v .time .no-length))
+    go (is-withdrawn e v) = size (blank-small c v) (omega arith) (omega (arith, v .time .no-start, v .time .no-length))

@@ -7,14 +7,14 @@ use Rattle.call.specs.Revising.{live, contested, withdrawn}
 
 -- start and length are multiples of 15, and length is at least 15
 pub record Window (c : Call) : Type 0 where
-  pub start : c .start % 15 ≡ 0
-  pub length : c .length % 15 ≡ 0
+  pub starts : c .start % 15 ≡ 0
+  pub lasts : c .length % 15 ≡ 0
   pub shortest : 15 ≤ c .length
 
 -- start and length are 0
 pub record NoTime (c : Call) : Type 0 where
-  pub start : c .start ≡ 0
-  pub length : c .length ≡ 0
+  pub no-start : c .start ≡ 0
+  pub no-length : c .length ≡ 0
 
 -- a rate in hundredths of a percent
 abbrev pub Rate : ℕ → Type 0

@@ -1,28 +1,19 @@
 -- What a check that accepts says of each record's bytes. Assumes nothing.
-use mathlib.Core.Path.{_≡_, refl, sym, _∙_, ap, subst}
-use mathlib.Core.Bool.{cond}
+use mathlib.Core.Path.{_≡_, sym, _∙_, ap, subst}
 use mathlib.Core.List.{List}
 use Prim.Native.Nat.{ℕ, zero, suc, _+_, _<_, _≤_}
 use native.Mathlib.Nat.{zero-add}
 use native.Mathlib.Omega.{arith}
-use lib.Dec.{eqb}
 use lib.ListN.{length}
-use borrow.Author.Tests.{ne-eqb}
 use Rattle.call.specs.Key.{keyOf}
 use Rattle.call.specs.Layout.{reserved}
-use Rattle.book.specs.declared.Verdict.{Verdict}
 use Rattle.book.specs.Book.{sizeOf, headerOf, countOf, callOf}
-use Rattle.book.specs.Check.{refuse, accepted, monthOf, judge, checkFrom, checkOf}
-use Rattle.book.proofs.Records.{judge-zero}
+use Rattle.book.specs.Check.{accepted, monthOf, judge, checkFrom, checkOf}
+use Rattle.book.proofs.Records.{judge-zero, went-on}
 use Rattle.book.proofs.Exact.{accepted-tests}
 use Rattle.rule.specs.declared.Decision.{Decision}
 use Rattle.rule.specs.declared.Decision.the-variants.{First, Second, Struck}
 use Rattle.join.specs.Steps.{Has, Offered, Left}
-
--- a turn that does not end the check
-went-on : (v i : ℕ) (f : Verdict) → cond (eqb v 0) f (refuse v i) ≡ accepted → (v ≡ 0) × (f ≡ accepted)
-went-on zero i f e = (refl, e)
-went-on (suc v) i f e = absurd (let z : suc v ≡ 0 = ap (λ (x : Verdict). x .number) (rw (ne-eqb (suc v) 0 (λ x. omega arith)) at e) in omega arith)
 
 zeros : (m : ℕ) (b : List ℕ) (n low i : ℕ) → checkFrom m b low i n ≡ accepted → (j : ℕ) → j < n → reserved b (sizeOf (i + j)) ≡ 0
 unfolding checkFrom

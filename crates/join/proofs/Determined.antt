@@ -24,7 +24,7 @@ pub join-determined : (first second before : List ℕ) (r s : Written) (after ag
     → (r ≡ s) × (after ≡ again)
 join-determined first second before r s after again e f =
     let g = e ∙ sym f in
-    (λ i. record { number = g i .number; place = g i .place; length = g i .length }, ap (λ (o : Outcome). o .out) g)
+    (λ i. record { number = g i .number; place = g i .place; length = g i .size }, ap (λ (o : Outcome). o .out) g)
 
 -- the inner lookup: which book, and which record
 pub which-determined : (first second : List ℕ) (participant number : ℕ) (p q : Place) → p ≡ whichOf first second participant number → q ≡ whichOf first second participant number → p ≡ q

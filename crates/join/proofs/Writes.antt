@@ -17,7 +17,7 @@ use Rattle.book.specs.Write.{outcome, refusedOut, wroteOut}
 use Rattle.book.proofs.Lengths.{length-head, length-records, length-book}
 
 pub as-refused : (r : Written) (n p : ℕ) (out : List ℕ) → (r .number ≡ n) × (r .place ≡ p) × (r .length ≡ 0) → outcome r out ≡ refusedOut n p out
-as-refused r n p out e = λ i. record { number = e .0 i; place = e .1 i; length = e .2 i; out = out }
+as-refused r n p out e = λ i. record { number = e .0 i; place = e .1 i; size = e .2 i; out = out }
 
 -- a header, and the records in the part of the output behind it, are a book
 pub stores-book : (h : Header) (cs : List Call) (n : ℕ) (out mid part : List ℕ) → n ≡ length cs → sizeOf n ≤ length mid
@@ -29,9 +29,9 @@ stores-book h cs n out mid part e room s t =
     (whole 16 (length mid - 16) 0 mid (recordBytes cs) part (omega (arith, length-records cs)) t)
 
 pub as-written : (h : Header) (cs : List Call) (n : ℕ) (out after : List ℕ) → n ≡ length cs → sizeOf n ≤ length out → Stores out 0 (bookBytes h cs) after
-    → record { number = 0; place = 0; length = sizeOf n; out = after } ≡ wroteOut (bookBytes h cs) out
+    → record { number = 0; place = 0; size = sizeOf n; out = after } ≡ wroteOut (bookBytes h cs) out
 as-written h cs n out after e room s =
     let size = length-book h cs in
     let bytes : after ≡ bookBytes h cs ++ drop (length (bookBytes h cs)) out =
     s .is ∙ sets-eq (bookBytes h cs) out 0 (omega (arith, size)) ∙ ap (λ (j : ℕ). bookBytes h cs ++ drop j out) (zero-add (length (bookBytes h cs))) in
-    λ i. record { number = 0; place = 0; length = (ap sizeOf e ∙ sym size) i; out = bytes i }
+    λ i. record { number = 0; place = 0; size = (ap sizeOf e ∙ sym size) i; out = bytes i }

@@ -24,7 +24,7 @@ books (join l r out) = books l ++ books r
 
 -- the book that an outcome has written
 abbrev pub written : Outcome → List ℕ
-written o = take (o .length) (o .out)
+written o = take (o .size) (o .out)
 
 -- the join of what two outcomes have written; a refusal ends it
 unfoldable pub joinBoth : Outcome → Outcome → List ℕ → Outcome
@@ -32,7 +32,7 @@ joinBoth l r out = cond (eqb (l .number) 0) (cond (eqb (r .number) 0) (joining (
 
 -- what a tree gives: each node is the outcome of a join
 unfoldable pub result : Plan → Outcome
-result (book b) = record { number = 0; place = 0; length = length b; out = b }
+result (book b) = record { number = 0; place = 0; size = length b; out = b }
 result (join l r out) = joinBoth (result l) (result r) out
 
 -- every join of a tree is accepted

@@ -17,7 +17,7 @@ wrote o r out e =
     record {
       number-is = ap (λ (x : Outcome). x .number) e;
       place-is = ap (λ (x : Outcome). x .place) e;
-      length-is = ap (λ (x : Outcome). x .length) e;
+      length-is = ap (λ (x : Outcome). x .size) e;
       out-is = ap (λ (x : Outcome). x .out) e;
     }
 

@@ -50,7 +50,7 @@ pub record Checked (v : Verdict) (number place : ℕ) : Type 0 where
 pub record Wrote (o : Outcome) (number place length : ℕ) (out : List ℕ) : Type 0 where
   pub number-is : number ≡ o .number
   pub place-is : place ≡ o .place
-  pub length-is : length ≡ o .length
+  pub length-is : length ≡ o .size
   pub out-is : out ≡ o .out
 
 -- a lookup: 0 none, 1 first, 2 second, and the offset of the 32 bytes, else 0

@@ -118,8 +118,8 @@ struck-own {m} c p h = go (p .content)
           state = c .state;
           number = c .number;
           revision = c .revision;
-          start = b .time .start i;
-          length = b .time .length i;
+          start = b .time .no-start i;
+          length = b .time .no-length i;
           a = b .no-a i;
           b = b .no-b i;
           c = b .no-c i;
@@ -261,7 +261,7 @@ module _ {m : ℕ} (x y : Call) (p : Within m x) (q : Within m y) (k : keyOf x �
   struck-within s c = record { participant = p .participant; number = p .number; revision = p .revision; content = c }
 
   empty : (s : ℕ) → Blank (struckOf s x)
-  empty s = record { service = refl; time = record { start = refl; length = refl }; no-a = refl; no-b = refl; no-c = refl }
+  empty s = record { service = refl; time = record { no-start = refl; no-length = refl }; no-a = refl; no-b = refl; no-c = refl }
 
   blank-within : Within m (blank x)
   blank-within = go (is x)
