@@ -28,9 +28,11 @@ begun row = row .bad || row .digit || ltb 0 (row .at)
 abbrev pub isFive : Row → List ℕ → List (List ℕ) → Bool
 isFive row p ps = not (row .bad) && digits p && (row .digit || some p) && numbers ps && eqb (row .at + length ps) 4
 
+-- the line of those five numbers; where they are not five it is bad
 abbrev pub rowAt : Row → List ℕ → List (List ℕ) → Line
 rowAt row p ps = cond (isFive row p ps) (fair (asLine (take (row .at) (row .ended) ++ value (row .value) p ∷ map (value 0) ps))) blank
 
+-- the same by all its pieces that are left, the open number first
 abbrev pub rowPieces : Row → List (List ℕ) → Line
 rowPieces row [] = rowAt row [] []
 rowPieces row (p ∷ ps) = rowAt row p ps
@@ -50,6 +52,7 @@ pub record Follows (row : Row) (b : ℕ) (r : Row) : Type 0 where
 
 -- The whole text
 
+-- a whole line of text, as it is judged
 abbrev pub fairLine : List ℕ → Line
 fairLine bytes = fair (lineOf bytes)
 
@@ -68,8 +71,10 @@ judgeFrom before all n [] = record { number = 0; place = 0; count = n; lines = a
 judgeFrom before all n (l ∷ ls) =
     cond (soundLine before l && ltb n mostNumber) (judgeFrom (l .number) (set all n l) (n + 1) ls) (refusedAt n)
 
+-- the answer, if these lines are left: a refusal stays at its place
 abbrev pub outcome : Sheet → List Line → Taken
 outcome sheet ls = cond (sheet .refused) (refusedAt (sheet .count)) (judgeFrom (sheet .before) (sheet .lines) (sheet .count) ls)
 
+-- the answer of a text of which the reader has read all but the rest
 unfoldable pub meaning : Reader → List ℕ → Taken
 meaning reader rest = outcome (reader .sheet) (linesFrom (reader .row) (linesOf rest))

@@ -32,5 +32,6 @@ abbrev pub zeros : ℕ → List ℕ
 zeros zero = []
 zeros (suc n) = 32 ∷ 48 ∷ zeros n
 
+-- the open number ended, and the missing ones
 abbrev pub bestBytes : Row → List ℕ
 bestBytes row = numberBytes row ++ zeros (4 - row .at)

@@ -43,10 +43,12 @@ piecesOf (b ∷ bs) = cond (eqb b space) ([] ∷ piecesOf bs) (onto b (piecesOf 
 abbrev pub isDigit : ℕ → Bool
 isDigit b = leb 48 b && leb b 57
 
+-- every byte is a digit
 abbrev pub digits : List ℕ → Bool
 digits [] = true
 digits (b ∷ bs) = isDigit b && digits bs
 
+-- there is a byte
 abbrev pub some : List ℕ → Bool
 some [] = false
 some (b ∷ bs) = true
@@ -55,6 +57,7 @@ some (b ∷ bs) = true
 abbrev pub isNumber : List ℕ → Bool
 isNumber p = digits p && some p
 
+-- every piece is a decimal number
 abbrev pub numbers : List (List ℕ) → Bool
 numbers [] = true
 numbers (p ∷ ps) = isNumber p && numbers ps
@@ -97,6 +100,7 @@ arrayFrom ls = ls ++ replicate (mostNumber - length ls) blank
 abbrev pub refusedAt : ℕ → Taken
 refusedAt place = record { number = 10; place = place; count = 0; lines = arrayFrom [] }
 
+-- the lines, and how many there are
 abbrev pub accepted : List Line → Taken
 accepted ls = record { number = 0; place = 0; count = length ls; lines = arrayFrom ls }
 
