@@ -4,7 +4,7 @@ use mathlib.Core.Bool.{Bool, true, false, cond, _||_, _&&_}
 use Prim.Native.Nat.{ℕ, _+_, _*_, _/_, _%_, _≤_, _<_}
 use native.Mathlib.Omega.{arith}
 use lib.Dec.{eqb, leb}
-use Rattle.units.specs.Money.{fenOf, fenPerThousandth}
+use Rattle.units.specs.Money.{grainsPerFen, grainsPerPoint, fenOf, fenPerThousandth}
 use Rattle.units.specs.Month.{leap, daysOf, minutesOf, quartersOf}
 
 -- half a fen may be added to the remainder alone
@@ -27,6 +27,15 @@ fen-determined g x y p q = cc
 
 pub thousandths-determined : (t x y : ℕ) → x ≡ t * fenPerThousandth → y ≡ t * fenPerThousandth → x ≡ y
 thousandths-determined t x y p q = cc
+
+-- 60,000 grains are a fen, and a point is 1,000 yuan, 100,000 fen, by both conversions
+pub one-fen : fenOf grainsPerFen ≡ 1
+unfolding fenOf grainsPerFen
+one-fen = refl
+
+pub one-point : (fenOf grainsPerPoint ≡ 100000) × (1000 * fenPerThousandth ≡ 100000)
+unfolding fenOf grainsPerPoint fenPerThousandth
+one-point = (refl, refl)
 
 -- the paper's two sums: 29,999 grains are 0 fen, 30,000 are 1
 pub below-half : fenOf 29999 ≡ 0
