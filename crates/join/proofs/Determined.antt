@@ -14,6 +14,7 @@ use Rattle.book.specs.declared.write.Written.{Written}
 use Rattle.book.specs.Book.{mostRecords, sizeOf, headerOf}
 use Rattle.book.specs.Check.{checkOf}
 use Rattle.book.specs.Write.{Outcome, outcome}
+use Rattle.book.proofs.Determined.{outcome-determined}
 use Rattle.join.specs.declared.lookup.Place.{Place}
 use Rattle.join.specs.Joining.{sameMonth, screened, joinedOf, joining}
 use Rattle.join.specs.Lookup.{whichOf, Lies, Found}
@@ -22,9 +23,7 @@ use Rattle.join.proofs.Screening.{Judged, check-judged, screen-first, s
 -- a join: number, place and length, and every byte of the output
 pub join-determined : (first second before : List ℕ) (r s : Written) (after again : List ℕ) → outcome r after ≡ joining first second before → outcome s again ≡ joining first second before
     → (r ≡ s) × (after ≡ again)
-join-determined first second before r s after again e f =
-    let g = e ∙ sym f in
-    (λ i. record { number = g i .number; place = g i .place; length = g i .size }, ap (λ (o : Outcome). o .out) g)
+join-determined first second before r s after again e f = outcome-determined r s after again (joining first second before) e f
 
 -- the inner lookup: which book, and which record
 pub which-determined : (first second : List ℕ) (participant number : ℕ) (p q : Place) → p ≡ whichOf first second participant number → q ≡ whichOf first second participant number → p ≡ q
