@@ -241,6 +241,12 @@ remainder-at n all [] i h = absurd (not-suc-le-zero h)
 remainder-at n all (w ∷ ws) zero h = refl
 remainder-at n all (w ∷ ws) (suc i) h = remainder-at n all ws i (omega arith)
 
+-- no remainder is above what is divided by
+pub remainder-le : (n all : ℕ) (ws : List ℕ) (i : ℕ) → 0 < all → getD (remainders n all ws) i 0 ≤ all
+remainder-le n all [] i h = omega arith
+remainder-le n all (w ∷ ws) zero h = omega (arith, mod-lt (n * w) h)
+remainder-le n all (w ∷ ws) (suc i) h = remainder-le n all ws i h
+
 -- a product that fits: n times w is at most m where n is at most m over w
 pub product-fits : (n w m : ℕ) → n ≤ m / w → n * w ≤ m
 product-fits n w m h = omega (arith, mul-le-mul-right w h, div-add-mod' m w)

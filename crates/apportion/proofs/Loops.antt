@@ -76,6 +76,16 @@ module _ {A : Type 0} where
   pub over-step : (d s out : List A) (i : ℕ) (z v : A) → out ≡ over d s i → i < length d → i < length s → getD s i z ≡ v → set out i v ≡ over d s (i + 1)
   over-step d s out i z v e h k g = rw (add-one, e, ← g) (over-suc d s i z h k)
 
+  -- what has not been written over yet
+  pub over-here : (d s out : List A) (i : ℕ) (z : A) → out ≡ over d s i → i < length d → i ≤ length s → getD out i z ≡ getD d i z
+  over-here d s out i z e h k = rw e (go d s i h k)
+    where
+      go : (d s : List A) (i : ℕ) → i < length d → i ≤ length s → getD (over d s i) i z ≡ getD d i z
+      go d s zero h k = refl
+      go [] s (suc i) h k = absurd (not-suc-le-zero h)
+      go (x ∷ d) [] (suc i) h k = absurd (not-suc-le-zero k)
+      go (x ∷ d) (y ∷ s) (suc i) h k = go d s i (omega arith) (omega arith)
+
   pub over-end : (d s out : List A) (i : ℕ) → out ≡ over d s i → length s ≤ i → length d ≤ i → out ≡ s
   over-end d s out i e h k = e ∙ (rw (take-all i s h, drop-of-length-le d k) (append-nil s))
 

@@ -1,2 +1,4 @@
 pub mod Apportion
 pub mod Rank
+pub mod Bar
+pub mod Turn

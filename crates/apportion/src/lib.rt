@@ -1,11 +1,18 @@
 // The largest remainder rule: an amount shared by weights, exact to the unit. It knows nothing of what is shared.
+mod bar;
 mod muldiv;
+mod ties;
 
+use crate::bar::bar_for;
+use crate::bar::count_above;
+use crate::bar::give_above;
 use crate::muldiv::product_over;
+use crate::ties::give_equal;
 ghost use mathlib.Core.Path.{_≡_};
 ghost use Prim.Native.Nat.{ℕ, _+_, _^_, _<_, _≤_};
 ghost use lib.ListN.{length, getD};
 ghost use Rattle.apportion.specs.Apportion.{total, largest, roundedDown, remainders, give, apportion};
+ghost use Rattle.apportion.specs.Turn.{Given};
 
 // The sum of the numbers.
 pub fn sum_of(xs: &[u64]) -> u64
@@ -54,6 +61,18 @@ fn split(amount: u64, all: u64, weights: &[u64], shares: &mut [u64], rests: &mut
     }
 }
 
+// One unit to the first of the largest remainders, which counts as 0 from then on, and to those as large behind it; how many are left.
+fn give_most(left: u64, rests: &mut [u64], shares: &mut [u64]) -> u64
+    requires { ⌜ (0 < left) × (0 < length (now rests)) × (length (now shares) ≡ length (now rests)) × (total (now shares) + left < 2 ^ 64) ⌝ }
+    ensures { λ r. ⌜ (r < left) × Given left (now (rests .entry)) (now (shares .entry)) r (now (rests .exit)) (now (shares .exit)) ⌝ }
+{
+    let b = largest_at(rests);
+    let most = rests[b];
+    rests[b] = 0;
+    shares[b] = shares[b] + 1;
+    give_equal(left - 1, most, rests, shares)
+}
+
 // One unit each to the largest remainders, `left` of them; a remainder that has been served counts as 0.
 fn give_out(left: u64, rests: &mut [u64], shares: &mut [u64])
     requires { ⌜ (0 < length (now rests)) × (length (now shares) ≡ length (now rests)) × (total (now shares) + left < 2 ^ 64) ⌝ }
@@ -61,11 +80,20 @@ fn give_out(left: u64, rests: &mut [u64], shares: &mut [u64])
 {
     let mut k = left;
     while 0 < k {
-        let b = largest_at(rests);
-        rests[b] = 0;
-        shares[b] = shares[b] + 1;
-        k -= 1;
+        k = give_most(k, rests, shares);
     }
+}
+
+// The same, in few passes: at once to the remainders above a bar, in turn what is left then.
+fn give_left(left: u64, all: u64, rests: &mut [u64], shares: &mut [u64])
+    requires { ⌜ (0 < length (now rests)) × (length (now shares) ≡ length (now rests)) × (total (now shares) + left < 2 ^ 64) ⌝ }
+    requires { ⌜ (all < 2 ^ 63) × ((k : ℕ) → getD (now rests) k 0 ≤ all) ⌝ }
+    ensures { λ _. ⌜ now (shares .exit) ≡ give left (now (rests .entry)) (now (shares .entry)) ⌝ }
+{
+    let bar = bar_for(left, all, rests);
+    let served = count_above(bar, rests);
+    give_above(bar, rests, shares);
+    give_out(left - served, rests, shares);
 }
 
 // The amount shared by the weights, into `shares`; `rests` is room to work in.
@@ -76,5 +104,5 @@ pub fn apportion_into(amount: u64, weights: &[u64], shares: &mut [u64], rests: &
     let all = sum_of(weights);
     split(amount, all, weights, shares, rests);
     let left = amount - sum_of(shares);
-    give_out(left, rests, shares);
+    give_left(left, all, rests, shares);
 }

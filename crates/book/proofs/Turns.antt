@@ -1,6 +1,6 @@
--- A turn over the records, and the ways out of the check. Assumes nothing.
+-- A record's own tests, a turn over the records, and the ways out of the check. Assumes nothing.
 use mathlib.Core.Path.{_≡_, refl, _∙_, ap}
-use mathlib.Core.Bool.{true, false, cond}
+use mathlib.Core.Bool.{Bool, true, false, cond, _&&_}
 use mathlib.Core.List.{List}
 use Prim.Native.Nat.{ℕ, suc, _+_, _-_, _<_, _≤_}
 use native.Mathlib.Omega.{arith}
@@ -8,10 +8,46 @@ use lib.ListN.{length}
 use lib.Dec.{eqb}
 use borrow.Author.Tests.{lt-ltb, le-ltb, eq-eqb, ne-eqb}
 use Rattle.call.specs.Key.{keyOf}
+use Rattle.call.specs.Layout.{reserved}
+use Rattle.call.specs.Limits.{soundCall}
 use Rattle.book.specs.Book.{sizeOf, headerOf, countOf, callOf}
-use Rattle.book.specs.Check.{refuse, accepted, marked, versioned, headed, judge, checkFrom, monthOf, checkOf}
+use Rattle.book.specs.Check.{refuse, accepted, marked, versioned, headed, soundRecord, judge, checkFrom, monthOf, checkOf}
 
 module _ (m : ℕ) (b : List ℕ) where
+  -- a record with a last byte that is not zero is not sound; one without is as its fields are
+  pub unsound : (i v : ℕ) → v ≡ reserved b (sizeOf i) → (v ≡ 0 → ⊥) → soundRecord m b i ≡ false
+  unfolding soundRecord
+  unsound i v e z = rw (← e, ne-eqb v 0 z) (never (soundCall m (callOf b i)))
+    where
+      never : (t : Bool) → (t && false) ≡ false
+      never true = refl
+      never false = refl
+
+  pub fields : (i v : ℕ) → v ≡ reserved b (sizeOf i) → v ≡ 0 → soundRecord m b i ≡ soundCall m (callOf b i)
+  unfolding soundRecord
+  fields i v e z = rw (← e, eq-eqb v 0 z) (same (soundCall m (callOf b i)))
+    where
+      same : (t : Bool) → (t && true) ≡ t
+      same true = refl
+      same false = refl
+
+  -- 5, 6 and 0, by the lowest key of the next record
+  pub five : (low i : ℕ) → soundRecord m b i ≡ false → judge m b low i ≡ 5
+  unfolding judge
+  five low i e = rw e refl
+
+  pub six : (low i next : ℕ) → soundRecord m b i ≡ true → next ≡ suc (keyOf (callOf b i)) → next ≤ low → judge m b low i ≡ 6
+  unfolding judge
+  six low i next e k h =
+      let below : keyOf (callOf b i) < low = omega arith in
+      rw (e, lt-ltb (keyOf (callOf b i)) low below) refl
+
+  pub none : (low i next : ℕ) → soundRecord m b i ≡ true → next ≡ suc (keyOf (callOf b i)) → low < next → judge m b low i ≡ 0
+  unfolding judge
+  none low i next e k h =
+      let not-below : low ≤ keyOf (callOf b i) = omega arith in
+      rw (e, le-ltb (keyOf (callOf b i)) low not-below) refl
+
   one : (low i n : ℕ) → i < n → checkFrom m b low i (n - i) ≡ cond (eqb (judge m b low i) 0) (checkFrom m b (suc (keyOf (callOf b i))) (suc i) (n - (i + 1))) (refuse (judge m b low i) i)
   unfolding checkFrom
   one low i n h = let e : n - i ≡ suc (n - (i + 1)) = omega arith in ap (checkFrom m b low i) e

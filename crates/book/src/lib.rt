@@ -6,11 +6,11 @@ use le::u16_at;
 use le::u32_at;
 use units::month::minutes;
 ghost use mathlib.Core.Path.{_≡_};
-ghost use mathlib.Core.Bool.{cond, not};
 ghost use Prim.Native.Nat.{suc, _+_, _*_, _<_, _≤_};
 ghost use lib.ListN.{length};
 ghost use Rattle.call.specs.Key.{keyOf};
-ghost use Rattle.book.specs.Book.{headerOf, countOf, callOf, headerIn, callIn, noCall};
+ghost use Rattle.call.specs.Layout.{reserved};
+ghost use Rattle.book.specs.Book.{sizeOf, headerOf, countOf, callOf, headerIn, callIn, noCall};
 ghost use Rattle.book.specs.Check.{refuse, marked, versioned, soundHeader, headed, soundRecord, judge, checkFrom, checkOf};
 
 pub mod write;
@@ -98,34 +98,63 @@ fn is_headed(b: &[u8]) -> bool
     fields & (zero == 0) & (n <= 512) & (zeros == 0)
 }
 
+// The last four bytes of record i.
+fn reserved_at(b: &[u8], i: usize) -> u32
+    requires { ⌜ 16 + 32 * i + 32 ≤ length (now b) ⌝ }
+    ensures { λ r. ⌜ r ≡ reserved (now (b .entry)) (sizeOf i) ⌝ }
+{
+    u32_at(b, 16 + 32 * i + 28)
+}
+
+fn is_record(b: &[u8], i: usize, minutes: u32) -> bool
+    requires { ⌜ 16 + 32 * i + 32 ≤ length (now b) ⌝ }
+    ensures { λ r. ⌜ r ≡ soundRecord minutes (now (b .entry)) i ⌝ }
+{
+    if reserved_at(b, i) != 0 {
+        return false;
+    }
+    let x = record_at(b, i);
+    x.is_sound(minutes)
+}
+
+// The lowest key that the record after record i may have.
+fn next_at(b: &[u8], i: usize) -> u64
+    requires { ⌜ 16 + 32 * i + 32 ≤ length (now b) ⌝ }
+    ensures { λ r. ⌜ r ≡ suc (keyOf (callOf (now (b .entry)) i)) ⌝ }
+{
+    let x = record_at(b, i);
+    x.key() + 1
+}
+
 // What a record's turn gives: 5, 6 or 0, and the lowest key that the next record may have.
 pub struct Turn {
     pub number: u32,
     pub low: u64,
 }
 
-fn number_of(sound: bool, below: bool) -> u32
-    ensures { λ r. ⌜ r ≡ cond (not sound) 5 (cond below 6 0) ⌝ }
-{
-    if !sound {
-        return 5;
-    }
-    if below {
-        return 6;
-    }
-    0
-}
-
+// The key is read once the record is known to be sound, so that the tests before it do not have to keep it.
 fn turn_at(b: &[u8], i: usize, minutes: u32, low: u64) -> Turn
     requires { ⌜ 16 + 32 * i + 32 ≤ length (now b) ⌝ }
     ensures { λ r. ⌜ (r .number ≡ judge minutes (now (b .entry)) low i) × (r .low ≡ suc (keyOf (callOf (now (b .entry)) i))) ⌝ }
 {
-    let x = record_at(b, i);
-    let zeros = u32_at(b, 16 + 32 * i + 28);
-    let sound = x.is_sound(minutes) & (zeros == 0);
-    let k = x.key();
-    let number = number_of(sound, k < low);
-    Turn { number, low: k + 1 }
+    if !is_record(b, i, minutes) {
+        let after = next_at(b, i);
+        return Turn {
+            number: 5,
+            low: after,
+        };
+    }
+    let next = next_at(b, i);
+    if next <= low {
+        return Turn {
+            number: 6,
+            low: next,
+        };
+    }
+    Turn {
+        number: 0,
+        low: next,
+    }
 }
 
 fn check_records(b: &[u8], n: usize, minutes: u32) -> Verdict

@@ -1,5 +1,5 @@
 -- What a check that accepts says of each record's bytes. Assumes nothing.
-use mathlib.Core.Path.{_≡_, sym, _∙_, ap, subst}
+use mathlib.Core.Path.{_≡_, sym, _∙_, ap}
 use mathlib.Core.List.{List}
 use Prim.Native.Nat.{ℕ, zero, suc, _+_, _<_, _≤_}
 use native.Mathlib.Nat.{zero-add}
@@ -11,9 +11,7 @@ use Rattle.book.specs.Book.{sizeOf, headerOf, countOf, callOf}
 use Rattle.book.specs.Check.{accepted, monthOf, judge, checkFrom, checkOf}
 use Rattle.book.proofs.Records.{judge-zero, went-on}
 use Rattle.book.proofs.Exact.{accepted-tests}
-use Rattle.rule.specs.declared.Decision.{Decision}
-use Rattle.rule.specs.declared.Decision.the-variants.{First, Second, Struck}
-use Rattle.join.specs.Steps.{Has, Offered, Left}
+use Rattle.join.specs.Steps.{Whole}
 
 zeros : (m : ℕ) (b : List ℕ) (n low i : ℕ) → checkFrom m b low i n ≡ accepted → (j : ℕ) → j < n → reserved b (sizeOf (i + j)) ≡ 0
 unfolding checkFrom
@@ -34,22 +32,5 @@ module _ (b : List ℕ) (e : checkOf b ≡ accepted) where
   pub size : length b ≡ sizeOf (countOf b)
   size = accepted-tests b e .count
 
-  pub has : (i : ℕ) → i < countOf b → Has b i
+  pub has : (i : ℕ) → i < countOf b → Whole b (sizeOf i)
   has i h = record { long = omega (arith, size); zeros = ap (λ (j : ℕ). reserved b (sizeOf j)) (sym (zero-add i)) ∙ zeros (monthOf (headerOf b)) b (countOf b) 0 0 (accepted-tests b e .records) i h }
-
-pub offered : (d : Decision) (a : List ℕ) (n i : ℕ) (b : List ℕ) (m j : ℕ) → checkOf a ≡ accepted → checkOf b ≡ accepted → n ≡ countOf a → m ≡ countOf b
-    → Left d n i m j → Offered d a i b j
-offered First a n i b m j p q e f l = has a p i (omega arith)
-offered Second a n i b m j p q e f l = has b q j (omega arith)
-offered Struck a n i b m j p q e f l = has a p i (omega arith)
-
--- what a decision is offered, once it is known
-module _ (d : Decision) (a : List ℕ) (i : ℕ) (b : List ℕ) (j : ℕ) (o : Offered d a i b j) where
-  pub offers-first : d ≡ First → Has a i
-  offers-first e = subst (λ (x : Decision). Offered x a i b j) e o
-
-  pub offers-second : d ≡ Second → Has b j
-  offers-second e = subst (λ (x : Decision). Offered x a i b j) e o
-
-  pub offers-struck : d ≡ Struck → Has a i
-  offers-struck e = subst (λ (x : Decision). Offered x a i b j) e o

@@ -1,14 +1,16 @@
 -- The 32 bytes of a sound record, copied, are its encoding. Assumes nothing.
 use mathlib.Core.Path.{_≡_, refl, sym, _∙_, ap}
 use mathlib.Core.List.{List, _++_}
-use Prim.Native.Nat.{ℕ, zero, suc, _+_, _*_, _<_, _≤_}
+use Prim.Native.Nat.{ℕ, zero, suc, _+_, _≤_}
 use native.Mathlib.Omega.{arith}
-use lib.ListN.{length, take, drop, length-drop}
-use lib.Seq.{take-at, take-add, drop-drop, length-take-le}
-use Rattle.le.specs.Le.{leAt, leBytes, IsBytes, Stores}
-use Rattle.le.proofs.Laws.{bytesAt, again, split, then}
+use lib.ListN.{length, take, drop}
+use lib.Seq.{take-at, take-add, drop-drop}
+use Rattle.le.specs.Le.{leAt, leBytes, IsBytes}
+use Rattle.le.proofs.Laws.{bytesAt, again, cat, split}
 use Rattle.call.specs.Layout.{reserved, callAt, callBytes}
 use Rattle.call.proofs.Bytes.{length-call, record-again}
+use Rattle.join.specs.declared.Words.{Words}
+use Rattle.join.specs.Steps.{Whole, Spells, wordBytes}
 
 length-bytes : (w : ℕ) (s : List ℕ) (o : ℕ) → length (bytesAt s o w) ≡ w
 unfolding bytesAt
@@ -24,26 +26,16 @@ pub eight-bytes : (s : List ℕ) → IsBytes s → (o : ℕ) → o + 8 ≤ lengt
 eight-bytes s small o h =
     again 8 s o small ∙ sym (take-at (bytesAt s o 8) (drop (o + 8) s) 8 (length-bytes 8 s o)) ∙ ap (take 8) (sym (split 8 s o h))
 
--- so many times eight bytes are copied
-pub record Copying (s : List ℕ) (from : ℕ) (out₀ : List ℕ) (at : ℕ) (out : List ℕ) (k : ℕ) : Type 0 where
-  pub few : k ≤ 4
-  pub stored : Stores out₀ at (take (8 * k) (drop from s)) out
-
-pub none-copied : (s : List ℕ) (from : ℕ) (out : List ℕ) (at : ℕ) → Copying s from out at out 0
-none-copied s from out at = record { few = omega arith; stored = record { is = refl } }
-
-module _ {s : List ℕ} {from : ℕ} {out₀ : List ℕ} {at : ℕ} {out : List ℕ} {k : ℕ} (g : Copying s from out₀ at out k) (h : from + 32 ≤ length s) where
-  pub more-copied : {out′ : List ℕ} → k < 4 → Stores out (at + 8 * k) (take 8 (drop (from + 8 * k) s)) out′ → Copying s from out₀ at out′ (k + 1)
-  more-copied l t =
-      let e : 8 * (k + 1) ≡ 8 * k + 8 = omega arith in
-      let long : length (take (8 * k) (drop from s)) ≡ 8 * k = length-take-le (8 * k) (drop from s) (omega (arith, length-drop from s)) in
-      let parts : take (8 * (k + 1)) (drop from s) ≡ take (8 * k) (drop from s) ++ take 8 (drop (from + 8 * k) s) =
-      ap (λ (n : ℕ). take n (drop from s)) e ∙ take-add (8 * k) 8 (drop from s)
-      ∙ ap (λ (l : List ℕ). take (8 * k) (drop from s) ++ take 8 l) (drop-drop (8 * k) from s) in
-      record { few = omega arith; stored = rw parts (then (at + 8 * k) (omega (arith, long)) (g .stored) t) }
-
-  pub all-copied : IsBytes s → 4 ≤ k → reserved s from ≡ 0 → Stores out₀ at (callBytes (callAt s from)) out
-  all-copied small l z =
-      let f = g .few in
-      let e : 8 * k ≡ 32 = omega arith in
-      rw (ap (λ (n : ℕ). take n (drop from s)) e ∙ record-part s small from h z) at (g .stored)
+-- four times eight bytes of a sound record are its encoding
+pub words-record : (s : List ℕ) → IsBytes s → (o : ℕ) → Whole s o → (w : Words) → Spells s o w → wordBytes w ≡ callBytes (callAt s o)
+words-record s small o whole w e =
+    let h = whole .long in
+    cat
+    (cat (cat (ap (leBytes 8) (e .who) ∙ eight-bytes s small o (omega arith)) (ap (leBytes 8) (e .time) ∙ eight-bytes s small (o + 8) (omega arith)))
+    (ap (leBytes 8) (e .terms) ∙ eight-bytes s small (o + 16) (omega arith)))
+    (ap (leBytes 8) (e .rest) ∙ eight-bytes s small (o + 24) (omega arith))
+    ∙ sym (more 24 ∙ ap (λ (l : List ℕ). l ++ take 8 (drop (o + 24) s)) (more 16 ∙ ap (λ (l : List ℕ). l ++ take 8 (drop (o + 16) s)) (more 8)))
+    ∙ record-part s small o h (whole .zeros)
+  where
+    more : (k : ℕ) → take (k + 8) (drop o s) ≡ take k (drop o s) ++ take 8 (drop (o + k) s)
+    more k = take-add k 8 (drop o s) ∙ ap (λ (l : List ℕ). take k (drop o s) ++ take 8 l) (drop-drop k o s)

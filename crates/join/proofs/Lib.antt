@@ -2,6 +2,7 @@ pub mod Screening
 pub mod Steps
 pub mod Books
 pub mod Copies
+pub mod Equal
 pub mod Places
 pub mod Writes
 pub mod Trees

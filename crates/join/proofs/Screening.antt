@@ -5,6 +5,7 @@ use mathlib.Core.Logic.{_⊎_, inl, inr, ⊎-elim}
 use mathlib.Core.List.{List}
 use Prim.Native.Nat.{ℕ, zero, suc, _+_, _<_, _≤_}
 use native.Mathlib.Omega.{arith}
+use native.Mathlib.Decide.{decLe}
 use lib.Dec.{eqb, ltb}
 use lib.ListN.{length}
 use borrow.Author.Tests.{ne-eqb, lt-ltb, le-ltb}
@@ -13,7 +14,7 @@ use Rattle.book.specs.declared.Verdict.{Verdict}
 use Rattle.book.specs.Book.{mostRecords, sizeOf, headerOf, countOf, callOf, bookBytes}
 use Rattle.book.specs.Check.{refuse, accepted, marked, versioned, headed, soundRecord, monthOf, judge, checkFrom, checkOf}
 use Rattle.book.specs.Write.{refusedOut, wroteOut}
-use Rattle.join.specs.Joining.{raised, sameMonth, screened, joinedOf, joinFault, joining}
+use Rattle.join.specs.Joining.{raised, sameMonth, screened, joinedOf, joinFault, overfull, joining}
 
 -- A verdict is acceptance, or one of the numbers 1 to 6
 
@@ -119,3 +120,37 @@ module _ (a b out : List ℕ) where
 
 pub zero-screened : (a b : List ℕ) → screened a b .number ≡ 0 → screened a b ≡ accepted
 zero-screened a b z = let s = passed-screen a b z in sym (screen-passes a b (s .first) (s .second) (s .month))
+
+-- 8 and 9 by the number of keys
+module _ (n room : ℕ) where
+  pub over-many : mostRecords < n → 8 ≡ overfull n room
+  unfolding overfull
+  over-many h = rw (lt-ltb mostRecords n h) refl
+
+  pub over-short : n ≤ mostRecords → room < sizeOf n → 9 ≡ overfull n room
+  unfolding overfull
+  over-short f h = rw (le-ltb mostRecords n f, lt-ltb room (sizeOf n) h) refl
+
+  pub over-none : n ≤ mostRecords → sizeOf n ≤ room → 0 ≡ overfull n room
+  unfolding overfull
+  over-none f h = rw (le-ltb mostRecords n f, le-ltb room (sizeOf n) h) refl
+
+  pub never-over : overfull n room ≡ 0 → (n ≤ mostRecords) × (sizeOf n ≤ room)
+  never-over z = go (decLe n mostRecords) (decLe (sizeOf n) room)
+    where
+      go : Dec (n ≤ mostRecords) → Dec (sizeOf n ≤ room) → (n ≤ mostRecords) × (sizeOf n ≤ room)
+      go (no f) r = absurd (let e : 8 ≡ overfull n room = over-many (omega arith) in omega arith)
+      go (yes f) (no r) = absurd (let e : 9 ≡ overfull n room = over-short f (omega arith) in omega arith)
+      go (yes f) (yes r) = (f, r)
+
+-- a join that is refused by them
+pub refuse-over : (a b out : List ℕ) → screened a b ≡ accepted → (v : ℕ) → v ≡ overfull (length (joinedOf a b)) (length out) → (v ≡ 0 → ⊥) → refusedOut v 0 out ≡ joining a b out
+refuse-over a b out p v e z = go (decLe n mostRecords) (decLe (sizeOf n) (length out))
+  where
+    n : ℕ
+    n = length (joinedOf a b)
+
+    go : Dec (n ≤ mostRecords) → Dec (sizeOf n ≤ length out) → refusedOut v 0 out ≡ joining a b out
+    go (no f) r = ap (λ (k : ℕ). refusedOut k 0 out) (e ∙ sym (over-many n (length out) (omega arith))) ∙ refuse-many a b out p n refl (omega arith)
+    go (yes f) (no r) = ap (λ (k : ℕ). refusedOut k 0 out) (e ∙ sym (over-short n (length out) f (omega arith))) ∙ refuse-short a b out p n refl f (omega arith)
+    go (yes f) (yes r) = absurd (z (e ∙ sym (over-none n (length out) f r)))

@@ -1,26 +1,31 @@
--- One step of a join, and the run of steps. Assumes nothing.
+-- One step of a join, the run of steps, and the rest of a book behind it. Assumes nothing.
 use mathlib.Core.Path.{_≡_, refl, sym, _∙_, ap, ap₂}
+use mathlib.Core.Bool.{Bool, true, false, _&&_}
+use mathlib.Core.Logic.{_⊎_, inl, inr}
 use mathlib.Core.List.{List, [], _∷_, _++_, append-nil, append-assoc}
-use Prim.Native.Nat.{ℕ, suc, _+_, _*_, _-_, _<_, _≤_}
+use Prim.Native.Nat.{ℕ, zero, suc, _+_, _*_, _-_, _/_, _<_, _≤_}
 use native.Mathlib.Nat.{sub-zero}
 use native.Mathlib.Omega.{arith}
+use lib.Dec.{ltb}
 use lib.ListN.{length, length-append}
 use lib.Seq.{append-snoc, length-sets}
+use borrow.Author.Tests.{ltb-true, ltb-false}
 use Rattle.le.specs.Le.{Stores}
 use Rattle.le.proofs.Laws.{then}
+use Rattle.le.proofs.Tests.{each}
 use Rattle.call.specs.declared.Call.{Call}
-use Rattle.call.specs.Key.{keyOf}
-use Rattle.call.specs.Layout.{callBytes}
-use Rattle.book.specs.Book.{countOf, callOf, callsFrom, callsOf, recordBytes}
+use Rattle.call.specs.Layout.{callAt, callBytes}
+use Rattle.book.specs.Book.{sizeOf, countOf, callOf, callsFrom, callsOf, recordBytes}
 use Rattle.book.proofs.Lengths.{length-records}
-use Rattle.rule.specs.declared.Decision.{Decision}
-use Rattle.rule.specs.declared.Decision.the-variants.{First, Second, Struck}
-use Rattle.rule.specs.Standing.{decision, given, standing}
+use Rattle.book.proofs.Records.{length-calls}
 use Rattle.rule.specs.Joined.{joinCalls}
-use Rattle.rule.proofs.Joins.{join-nil, join-lt, join-gt, join-eq}
-use Rattle.join.specs.declared.Step.{Step}
+use Rattle.rule.proofs.Joins.{Joins, left as gives-second, right as gives-first, lower as gives-lower, upper as gives-upper, both as gives-both, joins, joins-long, join-nil, join-lt, join-gt, join-eq}
+use Rattle.join.specs.declared.Next.{Next}
+use Rattle.join.specs.declared.Reached.{Reached}
 use Rattle.join.specs.Joining.{joinedOf}
-use Rattle.join.specs.Steps.{left, Left, Stepped}
+use Rattle.join.specs.Steps.{left, Settled, lower, upper, equal, Put, Merged}
+
+-- What is left of a book
 
 left-cons : (b : List ℕ) (n i : ℕ) → i < n → left b n i ≡ callOf b i ∷ left b n (i + 1)
 unfolding left callsFrom
@@ -32,177 +37,330 @@ left-end : (b : List ℕ) (n i : ℕ) → n ≤ i → left b n i ≡ []
 unfolding left callsFrom
 left-end b n i h = let e : n - i ≡ 0 = omega arith in ap (callsFrom b i) e
 
+pub length-left : (b : List ℕ) (n i : ℕ) → length (left b n i) ≡ n - i
+unfolding left
+length-left b n i = length-calls b (n - i) i
+
 join-none : (xs : List Call) → joinCalls [] xs ≡ xs
 unfolding joinCalls
 join-none xs = refl
 
-given-first : (x y : Call) → given First x y ≡ x
-unfolding given
-given-first x y = refl
-
-given-second : (x y : Call) → given Second x y ≡ y
-unfolding given
-given-second x y = refl
-
-given-standing : (d : Decision) (x y : Call) → d ≡ decision x y → standing x y ≡ given d x y
-unfolding standing
-given-standing d x y e = ap (λ (c : Decision). given c x y) (sym e)
-
--- a decision between two records that are there
-left-both : (d : Decision) (n i m j : ℕ) → i < n → j < m → Left d n i m j
-left-both First n i m j p q = p
-left-both Second n i m j p q = q
-left-both Struck n i m j p q = p
-
-module _ (a : List ℕ) (n i : ℕ) (b : List ℕ) (m j : ℕ) (hi : i ≤ n) (hj : j ≤ m) where
-  module _ (p : i < n) where
-    module _ (q : j < m) where
-      pub step-lower : keyOf (callOf a i) < keyOf (callOf b j) → Stepped a n i b m j (record { decision = First; first = i + 1; second = j })
-      step-lower h =
-          record {
-            in-first = omega arith;
-            in-second = hj;
-            more = omega arith;
-            taken = p;
-            joins =
-                let l = left-cons a n i p in
-                let r = left-cons b m j q in
-                cc (join-lt (callOf a i) (left a n (i + 1)) (callOf b j) (left b m (j + 1)) h, given-first (callOf a i) (callOf b j));
-          }
-
-      pub step-upper : keyOf (callOf b j) < keyOf (callOf a i) → Stepped a n i b m j (record { decision = Second; first = i; second = j + 1 })
-      step-upper h =
-          record {
-            in-first = hi;
-            in-second = omega arith;
-            more = omega arith;
-            taken = q;
-            joins =
-                let l = left-cons a n i p in
-                let r = left-cons b m j q in
-                cc (join-gt (callOf a i) (left a n (i + 1)) (callOf b j) (left b m (j + 1)) h, given-second (callOf a i) (callOf b j));
-          }
-
-      pub step-both : keyOf (callOf a i) ≡ keyOf (callOf b j) → (d : Decision) → d ≡ decision (callOf a i) (callOf b j)
-          → Stepped a n i b m j (record { decision = d; first = i + 1; second = j + 1 })
-      step-both h d e =
-          record {
-            in-first = omega arith;
-            in-second = omega arith;
-            more = omega arith;
-            taken = left-both d n i m j p q;
-            joins =
-                let l = left-cons a n i p in
-                let r = left-cons b m j q in
-                cc (join-eq (callOf a i) (left a n (i + 1)) (callOf b j) (left b m (j + 1)) h, given-standing d (callOf a i) (callOf b j) e);
-          }
-
-    pub step-first : m ≤ j → Stepped a n i b m j (record { decision = First; first = i + 1; second = j })
-    step-first h =
-        record {
-          in-first = omega arith;
-          in-second = hj;
-          more = omega arith;
-          taken = p;
-          joins =
-              let l = left-cons a n i p in
-              let r = left-end b m j h in
-              cc (join-nil (left a n i), join-nil (left a n (i + 1)), given-first (callOf a i) (callOf b j));
-        }
-
-  pub step-second : n ≤ i → j < m → Stepped a n i b m j (record { decision = Second; first = i; second = j + 1 })
-  step-second h q =
-      record {
-        in-first = hi;
-        in-second = omega arith;
-        more = omega arith;
-        taken = q;
-        joins =
-            let l = left-end a n i h in
-            let r = left-cons b m j q in
-            cc (join-none (left b m j), join-none (left b m (j + 1)), given-second (callOf a i) (callOf b j));
-      }
-
--- The run: so many steps are done, which settled the records `done`, and the rest is the join of what is left
-pub record Run (a : List ℕ) (n : ℕ) (b : List ℕ) (m i j k : ℕ) : Type 0 where
-  pub in-first : i ≤ n
-  pub in-second : j ≤ m
-  pub few : k ≤ i + j
-  pub done : List Call
-  pub count : k ≡ length done
-  pub joins : done ++ joinCalls (left a n i) (left b m j) ≡ joinCalls (left a n 0) (left b m 0)
-
-pub start : (a : List ℕ) (n : ℕ) (b : List ℕ) (m : ℕ) → Run a n b m 0 0 0
-start a n b m = record { in-first = omega arith; in-second = omega arith; few = omega arith; done = []; count = refl; joins = refl }
-
-module _ {a : List ℕ} {n : ℕ} {b : List ℕ} {m i j k : ℕ} (g : Run a n b m i j k) where
-  -- a step's record has its place
-  pub room : {s : Step} → Stepped a n i b m j s → k < length (joinCalls (left a n 0) (left b m 0))
-  room {s} t =
-      let e = g .joins in
-      let f = g .count in
-      omega (arith, ap length e, length-append (g .done) (joinCalls (left a n i) (left b m j)), ap length (t .joins))
-
-  pub again : {s : Step} → Stepped a n i b m j s → Run a n b m (s .first) (s .second) (k + 1)
-  again {s} t =
-      let z = given (s .decision) (callOf a i) (callOf b j) in
-      let f = g .count in
-      record {
-        in-first = t .in-first;
-        in-second = t .in-second;
-        few = let r = t .more in let l = g .few in omega arith;
-        done = g .done ++ (z ∷ []);
-        count = sym (length-append (g .done) (z ∷ []) ∙ omega arith);
-        joins = append-snoc (g .done) z _ ∙ ap (λ (l : List Call). g .done ++ l) (sym (t .joins)) ∙ g .joins;
-      }
-
-  pub finish : n + m ≤ i + j → g .done ≡ joinCalls (left a n 0) (left b m 0)
-  finish h =
-      let p = g .in-first in
-      let q = g .in-second in
-      let l = left-end a n i (omega arith) in
-      let r = left-end b m j (omega arith) in
-      cc (g .joins, append-nil (g .done), join-nil [])
+-- a join has at most the records of both lists
+joins-short : {xs ys zs : List Call} → Joins xs ys zs → length zs ≤ length xs + length ys
+joins-short gives-second = omega arith
+joins-short gives-first = omega arith
+joins-short (gives-lower h j) = let i = joins-short j in omega arith
+joins-short (gives-upper h j) = let i = joins-short j in omega arith
+joins-short (gives-both h j) = let i = joins-short j in omega arith
 
 -- all records of both books
-pub all-left : (a b : List ℕ) (n m : ℕ) → n ≡ countOf a → m ≡ countOf b → joinCalls (left a n 0) (left b m 0) ≡ joinedOf a b
+pub all-left : (a b : List ℕ) → joinCalls (left a (countOf a) 0) (left b (countOf b) 0) ≡ joinedOf a b
 unfolding left joinedOf callsOf
-all-left a b n m e f = ap₂ joinCalls (ap (callsFrom a 0) (sub-zero n ∙ e)) (ap (callsFrom b 0) (sub-zero m ∙ f))
+all-left a b = ap₂ joinCalls (ap (callsFrom a 0) (sub-zero (countOf a))) (ap (callsFrom b 0) (sub-zero (countOf b)))
 
--- The run writes the records that it settled
+pub most-joined : (a b : List ℕ) (n m : ℕ) → n ≡ countOf a → m ≡ countOf b → length (joinedOf a b) ≤ n + m
+most-joined a b n m e f =
+    omega (arith, joins-short (joins (left a (countOf a) 0) (left b (countOf b) 0)), length-left a (countOf a) 0, length-left b (countOf b) 0, ap length (all-left a b))
 
-record-snoc : (cs : List Call) (c : Call) → recordBytes (cs ++ (c ∷ [])) ≡ recordBytes cs ++ callBytes c
+-- One step, from record i of n and record j of m
+
+pub record Stepped (s : List ℕ) (n i : ℕ) (t : List ℕ) (m j p q : ℕ) (z : Call) : Type 0 where
+  pub first : ℕ
+  pub second : ℕ
+  pub at-first : p ≡ sizeOf first
+  pub at-second : q ≡ sizeOf second
+  pub in-first : first ≤ n
+  pub in-second : second ≤ m
+  pub more : i + j < first + second
+  pub joins : joinCalls (left s n i) (left t m j) ≡ z ∷ joinCalls (left s n first) (left t m second)
+
+module _ (s : List ℕ) (n i : ℕ) (t : List ℕ) (m j : ℕ) (hi : i < n) (hj : j < m) {p q : ℕ} {z : Call} where
+  step : Settled (callOf s i) (callOf t j) (sizeOf i) (sizeOf j) p q z → Stepped s n i t m j p q z
+  step (lower h e f g) =
+      record {
+        first = i + 1;
+        second = j;
+        at-first = omega arith;
+        at-second = f;
+        in-first = omega arith;
+        in-second = omega arith;
+        more = omega arith;
+        joins =
+            let l = left-cons s n i hi in
+            let r = left-cons t m j hj in
+            cc (join-lt (callOf s i) (left s n (i + 1)) (callOf t j) (left t m (j + 1)) h);
+      }
+  step (upper h e f g) =
+      record {
+        first = i;
+        second = j + 1;
+        at-first = e;
+        at-second = omega arith;
+        in-first = omega arith;
+        in-second = omega arith;
+        more = omega arith;
+        joins =
+            let l = left-cons s n i hi in
+            let r = left-cons t m j hj in
+            cc (join-gt (callOf s i) (left s n (i + 1)) (callOf t j) (left t m (j + 1)) h);
+      }
+  step (equal h e f g) =
+      record {
+        first = i + 1;
+        second = j + 1;
+        at-first = omega arith;
+        at-second = omega arith;
+        in-first = omega arith;
+        in-second = omega arith;
+        more = omega arith;
+        joins =
+            let l = left-cons s n i hi in
+            let r = left-cons t m j hj in
+            cc (join-eq (callOf s i) (left s n (i + 1)) (callOf t j) (left t m (j + 1)) h);
+      }
+
+-- a step goes on
+pub further : {x y : Call} {a b p q : ℕ} {z : Call} → Settled x y a b p q z → a + b < p + q
+further (lower h e f g) = omega arith
+further (upper h e f g) = omega arith
+further (equal h e f g) = omega arith
+
+-- The run: so many keys are settled, their records are `done`, and the rest is the join of what is left
+pub record Run (s : List ℕ) (n : ℕ) (t : List ℕ) (m a b k : ℕ) : Type 0 where
+  pub first : ℕ
+  pub second : ℕ
+  pub at-first : a ≡ sizeOf first
+  pub at-second : b ≡ sizeOf second
+  pub in-first : first ≤ n
+  pub in-second : second ≤ m
+  pub few : k ≤ first + second
+  pub done : List Call
+  pub count : k ≡ length done
+  pub joins : done ++ joinCalls (left s n first) (left t m second) ≡ joinCalls (left s n 0) (left t m 0)
+
+pub start : (s : List ℕ) (n : ℕ) (t : List ℕ) (m : ℕ) → Run s n t m 16 16 0
+start s n t m =
+    record { first = 0; second = 0; at-first = refl; at-second = refl; in-first = omega arith; in-second = omega arith; few = omega arith; done = []; count = refl; joins = refl }
+
+module _ {s : List ℕ} {n : ℕ} {t : List ℕ} {m a b k : ℕ} (g : Run s n t m a b k) where
+  pub stepped : {p q : ℕ} {z : Call} → a < sizeOf n → b < sizeOf m → Settled (callAt s a) (callAt t b) a b p q z → Stepped s n (g .first) t m (g .second) p q z
+  unfolding callOf
+  stepped h l d =
+      let e = g .at-first in
+      let f = g .at-second in
+      step s n (g .first) t m (g .second) (omega arith) (omega arith) (rw (e, f) at d)
+
+  -- the next record has its place
+  pub room : a < sizeOf n → b < sizeOf m → k < length (joinCalls (left s n 0) (left t m 0))
+  room h l =
+      let e = g .at-first in
+      let f = g .count in
+      let rest = joinCalls (left s n (g .first)) (left t m (g .second)) in
+      let some = joins-long (joins (left s n (g .first)) (left t m (g .second))) in
+      omega (arith, ap length (g .joins), length-append (g .done) rest, length-left s n (g .first))
+
+  pub again : {p q : ℕ} {z : Call} → Stepped s n (g .first) t m (g .second) p q z → Run s n t m p q (k + 1)
+  again {p} {q} {z} d =
+      let f = g .count in
+      record {
+        first = d .first;
+        second = d .second;
+        at-first = d .at-first;
+        at-second = d .at-second;
+        in-first = d .in-first;
+        in-second = d .in-second;
+        few = let r = d .more in let l = g .few in omega arith;
+        done = g .done ++ (z ∷ []);
+        count = sym (length-append (g .done) (z ∷ []) ∙ omega arith);
+        joins = append-snoc (g .done) z _ ∙ ap (λ (l : List Call). g .done ++ l) (sym (d .joins)) ∙ g .joins;
+      }
+
+-- one book is at its end: what is left is what the other has left
+pub last-left : (s : List ℕ) (n i : ℕ) (t : List ℕ) (m j : ℕ) → (n ≤ i) ⊎ (m ≤ j) → joinCalls (left s n i) (left t m j) ≡ left s n i ++ left t m j
+last-left s n i t m j (inl h) =
+    let e = left-end s n i h in
+    ap (λ (l : List Call). joinCalls l (left t m j)) e ∙ join-none (left t m j) ∙ sym (ap (λ (l : List Call). l ++ left t m j) e)
+last-left s n i t m j (inr h) =
+    let e = left-end t m j h in
+    ap (joinCalls (left s n i)) e ∙ join-nil (left s n i) ∙ sym (ap (λ (l : List Call). left s n i ++ l) e ∙ append-nil (left s n i))
+
+-- the test of the loop: both books have records
+pub both-left : (a e b f : ℕ) → (ltb a e && ltb b f) ≡ true → (a < e) × (b < f)
+both-left a e b f h =
+    let t = each (ltb a e) (ltb b f ∷ []) h in
+    (ltb-true a e (t .0), ltb-true b f (t .1 .0))
+
+pub one-over : (a e b f : ℕ) → (ltb a e && ltb b f) ≡ false → (e ≤ a) ⊎ (f ≤ b)
+one-over a e b f h = go (ltb a e) refl h
+  where
+    go : (x : Bool) → ltb a e ≡ x → (x && ltb b f) ≡ false → (e ≤ a) ⊎ (f ≤ b)
+    go true p q = inr (ltb-false b f q)
+    go false p q = inl (ltb-false a e p)
+
+-- the keys of a run, and what is left of both books
+pub counts-all : {s t : List ℕ} {a b k e f : ℕ} → Run s (countOf s) t (countOf t) a b k → e ≡ sizeOf (countOf s) → f ≡ sizeOf (countOf t) → (ltb a e && ltb b f) ≡ false
+    → k + (e - a) / 32 + (f - b) / 32 ≡ length (joinedOf s t)
+counts-all {s} {t} {a} {b} {k} {e} {f} g p q h = go (one-over a e b f h)
+  where
+    go : (e ≤ a) ⊎ (f ≤ b) → k + (e - a) / 32 + (f - b) / 32 ≡ length (joinedOf s t)
+    go o =
+        let n = countOf s in
+        let m = countOf t in
+        let i = g .first in
+        let j = g .second in
+        let x = g .at-first in
+        let y = g .at-second in
+        let u = g .in-first in
+        let v = g .in-second in
+        let c = g .count in
+        let l = left s n i in
+        let r = left t m j in
+        let over : (n ≤ i) ⊎ (m ≤ j) = ends o in
+        let all : length (g .done ++ joinCalls l r) ≡ length (joinedOf s t) = ap length (g .joins ∙ all-left s t) in
+        let d : (e - a) / 32 ≡ n - i = omega arith in
+        let w : (f - b) / 32 ≡ m - j = omega arith in
+        omega (arith, length-append (g .done) (joinCalls l r), ap length (last-left s n i t m j over), length-append l r, length-left s n i, length-left t m j)
+      where
+        ends : (e ≤ a) ⊎ (f ≤ b) → (countOf s ≤ g .first) ⊎ (countOf t ≤ g .second)
+        ends (inl z) = let x = g .at-first in inl (omega arith)
+        ends (inr z) = let y = g .at-second in inr (omega arith)
+
+-- Records behind records
+
+record-append : (cs ds : List Call) → recordBytes (cs ++ ds) ≡ recordBytes cs ++ recordBytes ds
 unfolding recordBytes
-record-snoc [] c = append-nil (callBytes c)
-record-snoc (d ∷ cs) c = ap (λ (l : List ℕ). callBytes d ++ l) (record-snoc cs c) ∙ sym (append-assoc (callBytes d) (recordBytes cs) (callBytes c))
+record-append [] ds = refl
+record-append (c ∷ cs) ds = ap (λ (l : List ℕ). callBytes c ++ l) (record-append cs ds) ∙ sym (append-assoc (callBytes c) (recordBytes cs) (recordBytes ds))
 
-pub start-writing : (out : List ℕ) → Stores out 0 (recordBytes []) out
+no-records : (out : List ℕ) (at : ℕ) → Stores out at (recordBytes []) out
 unfolding recordBytes
-start-writing out = record { is = refl }
+no-records out at = record { is = refl }
 
-pub write-more : (cs : List Call) (c : Call) (k : ℕ) {out₀ out out′ : List ℕ} → k ≡ length cs → Stores out₀ 0 (recordBytes cs) out → Stores out (32 * k) (callBytes c) out′ → Stores out₀ 0 (recordBytes (cs ++ (c ∷ []))) out′
-write-more cs c k e s t = rw (record-snoc cs c) (then (32 * k) (omega (arith, length-records cs)) s t)
+one-record : (c : Call) {out out′ : List ℕ} {at : ℕ} → Stores out at (callBytes c) out′ → Stores out at (recordBytes (c ∷ [])) out′
+unfolding recordBytes
+one-record c s = rw (append-nil (callBytes c)) s
+
+more-records : (cs ds : List Call) (at at′ : ℕ) {out₀ out out′ : List ℕ} → at′ ≡ at + 32 * length cs → Stores out₀ at (recordBytes cs) out → Stores out at′ (recordBytes ds) out′
+    → Stores out₀ at (recordBytes (cs ++ ds)) out′
+more-records cs ds at at′ e s t = rw (record-append cs ds) (then at′ (omega (arith, length-records cs)) s t)
 
 pub same-long : {out₀ out : List ℕ} {at : ℕ} {v : List ℕ} → Stores out₀ at v out → length out ≡ length out₀
 same-long {out₀} {out} {at} {v} s = ap length (s .is) ∙ length-sets out₀ at v
 
 -- a run, and the output in which what it settled stands
-pub record Writing (a : List ℕ) (n : ℕ) (b : List ℕ) (m : ℕ) (out₀ out : List ℕ) (i j k : ℕ) : Type 0 where
-  pub run : Run a n b m i j k
+pub record Writing (s t out₀ out : List ℕ) (a b at : ℕ) : Type 0 where
+  pub keys : ℕ
+  pub place : at ≡ 32 * keys
+  pub run : Run s (countOf s) t (countOf t) a b keys
   pub written : Stores out₀ 0 (recordBytes (run .done)) out
 
-pub begin : (a : List ℕ) (n : ℕ) (b : List ℕ) (m : ℕ) (out : List ℕ) → Writing a n b m out out 0 0 0
+pub begin : (s t out : List ℕ) → Writing s t out out 16 16 0
 unfolding start
-begin a n b m out = record { run = start a n b m; written = start-writing out }
+begin s t out = record { keys = 0; place = refl; run = start s (countOf s) t (countOf t); written = no-records out 0 }
 
-module _ {a : List ℕ} {n : ℕ} {b : List ℕ} {m : ℕ} {out₀ out : List ℕ} {i j k : ℕ} (w : Writing a n b m out₀ out i j k) where
-  pub writes-again : {s : Step} {out′ : List ℕ} → Stepped a n i b m j s → Stores out (32 * k) (callBytes (given (s .decision) (callOf a i) (callOf b j))) out′
-      → Writing a n b m out₀ out′ (s .first) (s .second) (k + 1)
-  unfolding again
-  writes-again {s} t p =
-      record { run = again (w .run) t; written = write-more (w .run .done) (given (s .decision) (callOf a i) (callOf b j)) k (w .run .count) (w .written) p }
+module _ {s t out₀ out : List ℕ} {a b at : ℕ} (w : Writing s t out₀ out a b at) where
+  module _ (h : a < sizeOf (countOf s)) (l : b < sizeOf (countOf t)) where
+    pub writes-again : {r : Next} {out′ : List ℕ} → Put s a t b r out at out′ → Writing s t out₀ out′ (r .first) (r .second) (at + 32)
+    unfolding again
+    writes-again p =
+        let e = w .place in
+        let f = w .run .count in
+        record {
+          keys = w .keys + 1;
+          place = omega arith;
+          run = again (w .run) (stepped (w .run) h l (p .settled));
+          written = more-records (w .run .done) (p .call ∷ []) 0 at (omega arith) (w .written) (one-record (p .call) (p .stored));
+        }
 
-  pub written-all : (zs : List Call) → n + m ≤ i + j → joinCalls (left a n 0) (left b m 0) ≡ zs → (k ≡ length zs) × Stores out₀ 0 (recordBytes zs) out
-  written-all zs h e =
-      let f = finish (w .run) h ∙ e in
-      (w .run .count ∙ ap length f, rw f at (w .written))
+    pub place-left : 32 * length (joinedOf s t) ≤ length out₀ → at + 32 ≤ length out
+    place-left k = let e = w .place in omega (arith, room (w .run) h l, ap length (all-left s t), same-long (w .written))
+
+  pub merged : {r : Reached} {e f : ℕ} → e ≡ sizeOf (countOf s) → f ≡ sizeOf (countOf t) → (ltb a e && ltb b f) ≡ false
+      → r .first ≡ (a - 16) / 32 → r .second ≡ (b - 16) / 32 → r .done ≡ at / 32 → Merged s t out₀ r out
+  merged {r} {e} {f} p q h x y z =
+      let g = w .run in
+      let u = g .at-first in
+      let v = g .at-second in
+      let c = w .place in
+      let i : r .first ≡ g .first = omega arith in
+      let j : r .second ≡ g .second = omega arith in
+      let k : r .done ≡ w .keys = omega arith in
+      let l = g .in-first in
+      let m = g .in-second in
+      record {
+        in-first = omega arith;
+        in-second = omega arith;
+        over = ends (one-over a e b f h);
+        done = g .done;
+        count = k ∙ g .count;
+        joins = rw (i, j) (g .joins);
+        stored = w .written;
+      }
+    where
+      ends : (e ≤ a) ⊎ (f ≤ b) → (countOf s ≤ r .first) ⊎ (countOf t ≤ r .second)
+      ends (inl o) = let u = w .run .at-first in inl (omega arith)
+      ends (inr o) = let v = w .run .at-second in inr (omega arith)
+
+-- The rest of a book
+
+calls-snoc : (b : List ℕ) (l i : ℕ) → callsFrom b i (l + 1) ≡ callsFrom b i l ++ (callOf b (i + l) ∷ [])
+unfolding callsFrom
+calls-snoc b zero i = let e : i ≡ i + 0 = omega arith in ap (λ (k : ℕ). callOf b k ∷ []) e
+calls-snoc b (suc l) i =
+    let e : suc l + 1 ≡ suc (l + 1) = omega arith in
+    let f : suc i + l ≡ i + suc l = omega arith in
+    ap (callsFrom b i) e ∙ ap (λ (cs : List Call). callOf b i ∷ cs) (calls-snoc b l (suc i) ∙ ap (λ (k : ℕ). callsFrom b (suc i) l ++ (callOf b k ∷ [])) f)
+
+-- so many records from record i on stand behind the k that the output had
+pub record Rest (s : List ℕ) (i k : ℕ) (out₀ out : List ℕ) (l : ℕ) : Type 0 where
+  pub within : i + l ≤ countOf s
+  pub stored : Stores out₀ (32 * k) (recordBytes (callsFrom s i l)) out
+
+pub rest-none : (s : List ℕ) (i k : ℕ) (out : List ℕ) → i ≤ countOf s → Rest s i k out out 0
+unfolding callsFrom
+rest-none s i k out h = record { within = omega arith; stored = no-records out (32 * k) }
+
+module _ {s : List ℕ} {i k : ℕ} {out₀ out : List ℕ} {l : ℕ} (g : Rest s i k out₀ out l) where
+  pub rest-more : {out′ : List ℕ} → i + l < countOf s → Stores out (32 * (k + l)) (callBytes (callAt s (sizeOf (i + l)))) out′ → Rest s i k out₀ out′ (l + 1)
+  unfolding callOf
+  rest-more h t =
+      record {
+        within = omega arith;
+        stored = rw (calls-snoc s l i) (more-records (callsFrom s i l) (callOf s (i + l) ∷ []) (32 * k) (32 * (k + l)) (omega (arith, length-calls s l i)) (g .stored) (one-record (callOf s (i + l)) t));
+      }
+
+  pub rest-all : countOf s ≤ i + l → (k + l ≡ k + (countOf s - i)) × Stores out₀ (32 * k) (recordBytes (left s (countOf s) i)) out
+  unfolding left
+  rest-all h =
+      let w = g .within in
+      let e : l ≡ countOf s - i = omega arith in
+      (ap (λ (n : ℕ). k + n) e, rw e at (g .stored))
+
+-- the join up to the end of one book, and the rest of both
+module _ {s t out₀ : List ℕ} {r : Reached} {out : List ℕ} (g : Merged s t out₀ r out) where
+  rests : List Call
+  rests = left s (countOf s) (r .first) ++ left t (countOf t) (r .second)
+
+  whole-join : g .done ++ rests ≡ joinedOf s t
+  unfolding rests
+  whole-join = ap (λ (l : List Call). g .done ++ l) (sym (last-left s (countOf s) (r .first) t (countOf t) (r .second) (g .over))) ∙ g .joins ∙ all-left s t
+
+  pub total : r .done + (countOf s - r .first) + (countOf t - r .second) ≡ length (joinedOf s t)
+  unfolding rests
+  total =
+      let x = left s (countOf s) (r .first) in
+      let y = left t (countOf t) (r .second) in
+      let c = g .count in
+      omega (arith, ap length whole-join, length-append (g .done) (x ++ y), length-append x y, length-left s (countOf s) (r .first), length-left t (countOf t) (r .second))
+
+  pub puts-all : {k q : ℕ} {mid after : List ℕ} → k ≡ r .done + (countOf s - r .first) → Stores out (32 * r .done) (recordBytes (left s (countOf s) (r .first))) mid
+      → q ≡ k + (countOf t - r .second) → Stores mid (32 * k) (recordBytes (left t (countOf t) (r .second))) after
+      → (q ≡ length (joinedOf s t)) × Stores out₀ 0 (recordBytes (joinedOf s t)) after
+  unfolding rests
+  puts-all {k} {q} e u f v =
+      let x = left s (countOf s) (r .first) in
+      let y = left t (countOf t) (r .second) in
+      let c = g .count in
+      let both = more-records (g .done) x 0 (32 * r .done) (omega arith) (g .stored) u in
+      let all = more-records (g .done ++ x) y 0 (32 * k) (omega (arith, length-append (g .done) x, length-left s (countOf s) (r .first))) both v in
+      (omega (arith, total), rw (append-assoc (g .done) x y ∙ whole-join) at all)

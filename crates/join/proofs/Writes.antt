@@ -1,14 +1,14 @@
 -- The outcome of a join, from its parts. Assumes nothing.
 use mathlib.Core.Path.{_≡_, sym, _∙_, ap}
-use mathlib.Core.List.{List, _++_}
-use Prim.Native.Nat.{ℕ, _-_, _≤_}
+use mathlib.Core.List.{List, _++_, append-assoc}
+use Prim.Native.Nat.{ℕ, _+_, _-_, _≤_}
 use native.Mathlib.Nat.{zero-add}
 use native.Mathlib.Omega.{arith}
-use lib.ListN.{length, drop}
-use lib.Seq.{sets-eq}
+use lib.ListN.{length, take, drop, length-append}
+use lib.Seq.{sets, sets-eq, length-sets, drop-at, length-take-le}
 use borrow.Rule.Slice.PartMut.{putMid, midOf}
 use Rattle.le.specs.Le.{Stores}
-use Rattle.le.proofs.Laws.{then, whole}
+use Rattle.le.proofs.Laws.{whole}
 use Rattle.call.specs.declared.Call.{Call}
 use Rattle.book.specs.declared.Header.{Header}
 use Rattle.book.specs.declared.write.Written.{Written}
@@ -19,14 +19,36 @@ use Rattle.book.proofs.Lengths.{length-head, length-records, length-book}
 pub as-refused : (r : Written) (n p : ℕ) (out : List ℕ) → (r .number ≡ n) × (r .place ≡ p) × (r .length ≡ 0) → outcome r out ≡ refusedOut n p out
 as-refused r n p out e = λ i. record { number = e .0 i; place = e .1 i; size = e .2 i; out = out }
 
--- a header, and the records in the part of the output behind it, are a book
-pub stores-book : (h : Header) (cs : List Call) (n : ℕ) (out mid part : List ℕ) → n ≡ length cs → sizeOf n ≤ length mid
-    → Stores out 0 (headBytes h n) mid → Stores (midOf 16 (length mid - 16) mid) 0 (recordBytes cs) part
-    → Stores out 0 (bookBytes h cs) (putMid 16 (length mid - 16) mid part)
+-- bytes stored behind a front, and then the front, are stored as one run
+front-last : (xs ys l : List ℕ) → length xs + length ys ≤ length l → sets (sets l (length xs) ys) 0 xs ≡ sets l 0 (xs ++ ys)
+front-last xs ys l h =
+    let n = length xs in
+    let e = n + length ys in
+    let mid : sets l n ys ≡ take n l ++ (ys ++ drop e l) = sets-eq ys l n h ∙ append-assoc (take n l) ys (drop e l) in
+    let behind : drop n (sets l n ys) ≡ ys ++ drop e l = ap (drop n) mid ∙ drop-at (take n l) (ys ++ drop e l) n (length-take-le n l (omega arith)) in
+    sets-eq xs (sets l n ys) 0 (omega (arith, length-sets l n ys))
+    ∙ ap (λ (k : ℕ). xs ++ drop k (sets l n ys)) (zero-add n)
+    ∙ ap (λ (r : List ℕ). xs ++ r) behind
+    ∙ sym (append-assoc xs ys (drop e l))
+    ∙ ap (λ (k : ℕ). (xs ++ ys) ++ drop k l) (sym (zero-add (length (xs ++ ys)) ∙ length-append xs ys))
+    ∙ sym (sets-eq (xs ++ ys) l 0 (omega (arith, length-append xs ys)))
+
+-- the records in the part of the output behind the header, and then a header with their number, are a book
+pub stores-book : (h : Header) (cs : List Call) (n : ℕ) (out part after : List ℕ) → n ≡ length cs → sizeOf (length cs) ≤ length out
+    → Stores (midOf 16 (length out - 16) out) 0 (recordBytes cs) part → Stores (putMid 16 (length out - 16) out part) 0 (headBytes h n) after
+    → Stores out 0 (bookBytes h cs) after
 unfolding bookBytes
-stores-book h cs n out mid part e room s t =
-    then 16 (omega (arith, length-head h (length cs))) (rw e at s)
-    (whole 16 (length mid - 16) 0 mid (recordBytes cs) part (omega (arith, length-records cs)) t)
+stores-book h cs n out part after e room s t =
+    let head = headBytes h (length cs) in
+    let mid = putMid 16 (length out - 16) out part in
+    let behind : Stores out 16 (recordBytes cs) mid = whole 16 (length out - 16) 0 out (recordBytes cs) part (omega (arith, length-records cs)) s in
+    let long : length head ≡ 16 = length-head h (length cs) in
+    record {
+      is =
+          t .is ∙ ap (λ (k : ℕ). sets mid 0 (headBytes h k)) e
+          ∙ ap (λ (l : List ℕ). sets l 0 head) (behind .is ∙ ap (λ (k : ℕ). sets out k (recordBytes cs)) (sym long))
+          ∙ front-last head (recordBytes cs) out (omega (arith, length-records cs));
+    }
 
 pub as-written : (h : Header) (cs : List Call) (n : ℕ) (out after : List ℕ) → n ≡ length cs → sizeOf n ≤ length out → Stores out 0 (bookBytes h cs) after
     → record { number = 0; place = 0; size = sizeOf n; out = after } ≡ wroteOut (bookBytes h cs) out

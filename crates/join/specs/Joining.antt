@@ -43,6 +43,10 @@ joinFault first second room =
     (cond (ltb room (sizeOf (length (joinedOf first second)))) (refuse 9 0)
     accepted))
 
+-- 8 and 9 by the number of keys alone, or 0
+unfoldable pub overfull : ℕ → ℕ → ℕ
+overfull keys room = cond (ltb mostRecords keys) 8 (cond (ltb room (sizeOf keys)) 9 0)
+
 -- the joined book stands at the start of the output, and the bytes after it stay; a refusal changes nothing
 unfoldable pub joining : List ℕ → List ℕ → List ℕ → Outcome
 joining first second out =

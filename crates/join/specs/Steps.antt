@@ -1,44 +1,64 @@
 -- A join as steps, each of which settles one key. Assumes nothing.
 use mathlib.Core.Path.{_≡_}
-use mathlib.Core.List.{List, _∷_}
+use mathlib.Core.Logic.{_⊎_}
+use mathlib.Core.List.{List, _++_}
 use Prim.Native.Nat.{ℕ, _+_, _-_, _<_, _≤_}
 use lib.ListN.{length}
+use Rattle.le.specs.Le.{leAt, leBytes, Stores}
 use Rattle.call.specs.declared.Call.{Call}
-use Rattle.call.specs.Layout.{reserved}
-use Rattle.book.specs.Book.{sizeOf, callOf, callsFrom}
-use Rattle.rule.specs.declared.Decision.{Decision}
-use Rattle.rule.specs.declared.Decision.the-variants.{First, Second, Struck}
-use Rattle.rule.specs.Standing.{given}
+use Rattle.call.specs.Key.{keyOf}
+use Rattle.call.specs.Layout.{reserved, callAt, callBytes}
+use Rattle.book.specs.Book.{countOf, callsFrom, recordBytes}
+use Rattle.rule.specs.Standing.{standing}
 use Rattle.rule.specs.Joined.{joinCalls}
-use Rattle.join.specs.declared.Step.{Step}
+use Rattle.join.specs.declared.Next.{Next}
+use Rattle.join.specs.declared.Words.{Words}
+use Rattle.join.specs.declared.Reached.{Reached}
 
 -- what is left of n records from record i on
 unfoldable pub left : List ℕ → ℕ → ℕ → List Call
 left b n i = callsFrom b i (n - i)
 
--- a book has record i, and its last four bytes are zero
-pub record Has (b : List ℕ) (i : ℕ) : Type 0 where
-  pub long : sizeOf i + 32 ≤ length b
-  pub zeros : reserved b (sizeOf i) ≡ 0
+-- a book has a record from a place on, and the record's last four bytes are zero
+pub record Whole (b : List ℕ) (at : ℕ) : Type 0 where
+  pub long : at + 32 ≤ length b
+  pub zeros : reserved b at ≡ 0
 
--- the record that a decision gives is there
-abbrev pub Offered : Decision → List ℕ → ℕ → List ℕ → ℕ → Type 0
-Offered First first i second j = Has first i
-Offered Second first i second j = Has second j
-Offered Struck first i second j = Has first i
+-- four times eight bytes, as numbers and as bytes
+pub record Spells (b : List ℕ) (at : ℕ) (w : Words) : Type 0 where
+  pub who : w .who ≡ leAt b at 8
+  pub time : w .time ≡ leAt b (at + 8) 8
+  pub terms : w .terms ≡ leAt b (at + 16) 8
+  pub rest : w .rest ≡ leAt b (at + 24) 8
 
--- a decision takes from a book that has records left
-abbrev pub Left : Decision → ℕ → ℕ → ℕ → ℕ → Type 0
-Left First n i m j = i < n
-Left Second n i m j = j < m
-Left Struck n i m j = i < n
+abbrev pub wordBytes : Words → List ℕ
+wordBytes w = leBytes 8 (w .who) ++ leBytes 8 (w .time) ++ leBytes 8 (w .terms) ++ leBytes 8 (w .rest)
 
--- a step gives the first record of the join of what is left, and says what is left after it
-pub record Stepped (first : List ℕ) (n i : ℕ) (second : List ℕ) (m j : ℕ) (s : Step) : Type 0 where
-  pub in-first : s .first ≤ n
-  pub in-second : s .second ≤ m
-  pub more : i + j < s .first + s .second
-  pub taken : Left (s .decision) n i m j
+-- the next key of two records, x from place a on and y from place b on: its record z, and the places behind it
+pub data Settled (x y : Call) (a b p q : ℕ) (z : Call) : Type 0 where
+  lower : keyOf x < keyOf y → p ≡ a + 32 → q ≡ b → z ≡ x → Settled x y a b p q z
+  upper : keyOf y < keyOf x → p ≡ a → q ≡ b + 32 → z ≡ y → Settled x y a b p q z
+  equal : keyOf x ≡ keyOf y → p ≡ a + 32 → q ≡ b + 32 → z ≡ standing x y → Settled x y a b p q z
+
+-- a key is settled, and counted
+pub record Counted (first : List ℕ) (a : ℕ) (second : List ℕ) (b : ℕ) (s : Next) : Type 0 where
+  pub call : Call
+  pub settled : Settled (callAt first a) (callAt second b) a b (s .first) (s .second) call
+
+-- a key is settled, and its record written
+pub record Put (first : List ℕ) (a : ℕ) (second : List ℕ) (b : ℕ) (s : Next) (before : List ℕ) (at : ℕ) (after : List ℕ) : Type 0 where
+  pub call : Call
+  pub settled : Settled (callAt first a) (callAt second b) a b (s .first) (s .second) call
+  pub stored : Stores before at (callBytes call) after
+
+-- the join up to the end of one book: the records `done` are written, and the rest is the join of what is left
+pub record Merged (first second before : List ℕ) (r : Reached) (after : List ℕ) : Type 0 where
+  pub in-first : r .first ≤ countOf first
+  pub in-second : r .second ≤ countOf second
+  pub over : (countOf first ≤ r .first) ⊎ (countOf second ≤ r .second)
+  pub done : List Call
+  pub count : r .done ≡ length done
   pub joins :
-      joinCalls (left first n i) (left second m j)
-      ≡ given (s .decision) (callOf first i) (callOf second j) ∷ joinCalls (left first n (s .first)) (left second m (s .second))
+      done ++ joinCalls (left first (countOf first) (r .first)) (left second (countOf second) (r .second))
+      ≡ joinCalls (left first (countOf first) 0) (left second (countOf second) 0)
+  pub stored : Stores before 0 (recordBytes done) after

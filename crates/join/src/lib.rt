@@ -8,25 +8,28 @@ use book::record_at;
 use book::refused;
 use book::write::Written;
 use book::write::put_header;
+use call::layout::call_at;
 use call::layout::put_call;
 use le::put_u64;
+use le::u8_at;
 use le::u16_at;
 use le::u32_at;
 use le::u64_at;
 use rule::Decision;
 use rule::decide;
 ghost use mathlib.Core.Path.{_≡_};
-ghost use Prim.Native.Nat.{_+_, _*_, _<_, _≤_};
-ghost use lib.ListN.{length, take, drop};
-ghost use Rattle.le.specs.Le.{Stores};
+ghost use Prim.Native.Nat.{_+_, _*_, _-_, _≤_};
+ghost use lib.Dec.{eqb, ltb};
+ghost use lib.ListN.{length};
+ghost use Rattle.le.specs.Le.{leAt, Stores};
 ghost use Rattle.call.specs.Key.{keyOf};
-ghost use Rattle.call.specs.Layout.{reserved, callAt, callBytes};
-ghost use Rattle.book.specs.Book.{sizeOf, headerOf, callOf, recordBytes, bookBytes};
+ghost use Rattle.call.specs.Layout.{callAt, callBytes};
+ghost use Rattle.book.specs.Book.{sizeOf, headerOf, countOf, callOf, recordBytes, bookBytes};
 ghost use Rattle.book.specs.Check.{accepted, checkOf};
 ghost use Rattle.book.specs.Write.{outcome};
-ghost use Rattle.rule.specs.Standing.{decision, given};
-ghost use Rattle.join.specs.Joining.{sameMonth, screened, joinedOf, joining};
-ghost use Rattle.join.specs.Steps.{Offered, Stepped};
+ghost use Rattle.rule.specs.Standing.{sameCall, decision, given};
+ghost use Rattle.join.specs.Joining.{sameMonth, screened, overfull, joinedOf, joining};
+ghost use Rattle.join.specs.Steps.{left, Whole, Spells, wordBytes, Counted, Put, Merged};
 
 pub mod lookup;
 
@@ -57,15 +60,91 @@ fn screen(first: &[u8], second: &[u8]) -> Verdict
     refused(0, 0)
 }
 
-// The key of record i, without the rest of the record.
+// The record from a place on, field by field: each is read alone, and only where it is asked for.
+fn participant_from(b: &[u8], at: usize) -> u16
+    requires { ⌜ at + 32 ≤ length (now b) ⌝ }
+    ensures { λ r. ⌜ r ≡ callAt (now (b .entry)) at .participant ⌝ }
+{
+    u16_at(b, at)
+}
+
+fn state_from(b: &[u8], at: usize) -> u8
+    requires { ⌜ at + 32 ≤ length (now b) ⌝ }
+    ensures { λ r. ⌜ r ≡ callAt (now (b .entry)) at .state ⌝ }
+{
+    u8_at(b, at + 3)
+}
+
+fn number_from(b: &[u8], at: usize) -> u32
+    requires { ⌜ at + 32 ≤ length (now b) ⌝ }
+    ensures { λ r. ⌜ r ≡ callAt (now (b .entry)) at .number ⌝ }
+{
+    u32_at(b, at + 4)
+}
+
+fn revision_from(b: &[u8], at: usize) -> u32
+    requires { ⌜ at + 32 ≤ length (now b) ⌝ }
+    ensures { λ r. ⌜ r ≡ callAt (now (b .entry)) at .revision ⌝ }
+{
+    u32_at(b, at + 8)
+}
+
+// The key of record i.
 fn key_at(b: &[u8], i: usize) -> u64
     requires { ⌜ sizeOf i + 32 ≤ length (now b) ⌝ }
     ensures { λ r. ⌜ r ≡ keyOf (callOf (now (b .entry)) i) ⌝ }
 {
     let at = 16 + 32 * i;
-    let participant = u16_at(b, at);
-    let number = u32_at(b, at + 4);
+    let participant = participant_from(b, at);
+    let number = number_from(b, at);
     (participant as u64) * 0x1_0000_0000 + (number as u64)
+}
+
+// Whether one record's key is below another's: by participant, then number.
+fn precedes(x: &[u8], a: usize, y: &[u8], b: usize) -> bool
+    requires { ⌜ (a + 32 ≤ length (now x)) × (b + 32 ≤ length (now y)) ⌝ }
+    ensures { λ r. ⌜ r ≡ ltb (keyOf (callAt (now (x .entry)) a)) (keyOf (callAt (now (y .entry)) b)) ⌝ }
+{
+    let p = participant_from(x, a);
+    let q = participant_from(y, b);
+    if p == q {
+        let k = number_from(x, a);
+        let l = number_from(y, b);
+        return k < l;
+    }
+    p < q
+}
+
+// Eight bytes of a record at once.
+fn word_at(s: &[u8], at: usize) -> u64
+    requires { ⌜ at + 8 ≤ length (now s) ⌝ }
+    ensures { λ r. ⌜ r ≡ leAt (now (s .entry)) at 8 ⌝ }
+{
+    u64_at(s, at)
+}
+
+fn same_word(first: &[u8], a: usize, second: &[u8], b: usize) -> bool
+    requires { ⌜ (a + 8 ≤ length (now first)) × (b + 8 ≤ length (now second)) ⌝ }
+    ensures { λ r. ⌜ r ≡ eqb (leAt (now (first .entry)) a 8) (leAt (now (second .entry)) b 8) ⌝ }
+{
+    let x = word_at(first, a);
+    let y = word_at(second, b);
+    x == y
+}
+
+// Whether two records of one revision are equal: all their bytes but those of the revision, and the last four.
+fn alike(first: &[u8], a: usize, second: &[u8], b: usize) -> bool
+    requires { ⌜ (a + 32 ≤ length (now first)) × (b + 32 ≤ length (now second))
+        × (callAt (now first) a .revision ≡ callAt (now second) b .revision) ⌝ }
+    ensures { λ r. ⌜ r ≡ sameCall (callAt (now (first .entry)) a) (callAt (now (second .entry)) b) ⌝ }
+{
+    if !same_word(first, a, second, b) {
+        return false;
+    }
+    if !same_word(first, a + 12, second, b + 12) {
+        return false;
+    }
+    same_word(first, a + 20, second, b + 20)
 }
 
 // Which record stands, of record i of the first book and record j of the second.
@@ -76,144 +155,289 @@ fn decide_at(first: &[u8], i: usize, second: &[u8], j: usize) -> Decision
     decide(record_at(first, i), record_at(second, j))
 }
 
-// The next record of a join: where it comes from, and the indices that are next in both books.
-pub struct Step {
-    pub decision: Decision,
+// The same decision of the records from two places on, for every key of a join: it reads only what it needs, and compares them whole only at one revision.
+fn decide_from(first: &[u8], a: usize, second: &[u8], b: usize) -> Decision
+    requires { ⌜ (a + 32 ≤ length (now first)) × (b + 32 ≤ length (now second)) ⌝ }
+    ensures { λ r. ⌜ r ≡ decision (callAt (now (first .entry)) a) (callAt (now (second .entry)) b) ⌝ }
+{
+    let x = state_from(first, a);
+    let y = state_from(second, b);
+    if (x == 2) & (y != 2) {
+        return Decision::First;
+    }
+    if (x != 2) & (y == 2) {
+        return Decision::Second;
+    }
+    let r = revision_from(first, a);
+    let s = revision_from(second, b);
+    if s < r {
+        return Decision::First;
+    }
+    if r < s {
+        return Decision::Second;
+    }
+    if x == 1 {
+        return Decision::First;
+    }
+    let equal = alike(first, a, second, b);
+    if equal {
+        return Decision::First;
+    }
+    if y == 1 {
+        return Decision::Second;
+    }
+    Decision::Struck
+}
+
+// The places of the next records in both books.
+pub struct Next {
     pub first: usize,
     pub second: usize,
 }
 
-fn step_at(first: &[u8], n: usize, i: usize, second: &[u8], m: usize, j: usize) -> Step
-    requires { ⌜ (i ≤ n) × (j ≤ m) × (i + j < n + m) × (sizeOf n ≤ length (now first)) × (sizeOf m ≤ length (now second)) ⌝ }
-    ensures { λ r. ⌜ Stepped (now (first .entry)) n i (now (second .entry)) m j r ⌝ }
+// Behind the lower key, or behind both where they are equal.
+fn next_from(first: &[u8], a: usize, second: &[u8], b: usize) -> Next
+    requires { ⌜ (a + 32 ≤ length (now first)) × (b + 32 ≤ length (now second)) ⌝ }
+    ensures { λ r. ⌜ Counted (now (first .entry)) a (now (second .entry)) b r ⌝ }
 {
-    if i == n {
-        return Step {
-            decision: Decision::Second,
-            first: i,
-            second: j + 1,
+    let lower = precedes(first, a, second, b);
+    if lower {
+        let p = a + 32;
+        return Next {
+            first: p,
+            second: b,
         };
     }
-    if j == m {
-        return Step {
-            decision: Decision::First,
-            first: i + 1,
-            second: j,
+    let upper = precedes(second, b, first, a);
+    if upper {
+        let q = b + 32;
+        return Next {
+            first: a,
+            second: q,
         };
     }
-    let k = key_at(first, i);
-    let l = key_at(second, j);
-    if k < l {
-        return Step {
-            decision: Decision::First,
-            first: i + 1,
-            second: j,
-        };
-    }
-    if l < k {
-        return Step {
-            decision: Decision::Second,
-            first: i,
-            second: j + 1,
-        };
-    }
-    let decision = decide_at(first, i, second, j);
-    Step {
-        decision,
-        first: i + 1,
-        second: j + 1,
+    let p = a + 32;
+    let q = b + 32;
+    Next {
+        first: p,
+        second: q,
     }
 }
 
-// How many records the join has: the steps that it takes.
+// How many records the join has: a step for each key while both books have records, and then the rest of one book.
 fn count_keys(first: &[u8], second: &[u8]) -> usize
     requires { ⌜ (checkOf (now first) ≡ accepted) × (checkOf (now second) ≡ accepted) ⌝ }
     ensures { λ r. ⌜ r ≡ length (joinedOf (now (first .entry)) (now (second .entry))) ⌝ }
 {
     let n = count_at(first);
     let m = count_at(second);
-    let mut i = 0;
-    let mut j = 0;
+    let e = 16 + 32 * n;
+    let f = 16 + 32 * m;
+    let mut a = 16;
+    let mut b = 16;
     let mut k = 0;
-    while i + j < n + m {
-        let s = step_at(first, n, i, second, m, j);
-        i = s.first;
-        j = s.second;
+    while (a < e) & (b < f) {
+        let s = next_from(first, a, second, b);
+        a = s.first;
+        b = s.second;
         k += 1;
     }
-    k
+    k + (e - a) / 32 + (f - b) / 32
 }
 
-// Eight bytes as they lie, in one move.
-fn copy_eight(s: &[u8], from: usize, out: &mut [u8], at: usize)
-    requires { ⌜ (from + 8 ≤ length (now s)) × (at + 8 ≤ length (now out)) ⌝ }
-    ensures { λ _. ⌜ Stores (now (out .entry)) at (take 8 (drop from (now (s .entry)))) (now (out .exit)) ⌝ }
+// The 32 bytes of a record, eight at a time.
+pub struct Words {
+    pub who: u64,
+    pub time: u64,
+    pub terms: u64,
+    pub rest: u64,
+}
+
+fn words_at(s: &[u8], at: usize) -> Words
+    requires { ⌜ at + 32 ≤ length (now s) ⌝ }
+    ensures { λ r. ⌜ Spells (now (s .entry)) at r ⌝ }
 {
-    put_u64(out, at, u64_at(s, from));
+    let who = word_at(s, at);
+    let time = word_at(s, at + 8);
+    let terms = word_at(s, at + 16);
+    let rest = word_at(s, at + 24);
+    Words {
+        who,
+        time,
+        terms,
+        rest,
+    }
+}
+
+fn put_words(out: &mut [u8], at: usize, w: Words)
+    requires { ⌜ at + 32 ≤ length (now out) ⌝ }
+    ensures { λ _. ⌜ Stores (now (out .entry)) at (wordBytes w) (now (out .exit)) ⌝ }
+{
+    put_u64(out, at, w.who);
+    put_u64(out, at + 8, w.time);
+    put_u64(out, at + 16, w.terms);
+    put_u64(out, at + 24, w.rest);
 }
 
 // The 32 bytes of a sound record as they lie: they are the record's one encoding.
 fn copy_record(s: &[u8], from: usize, out: &mut [u8], at: usize)
-    requires { ⌜ (from + 32 ≤ length (now s)) × (at + 32 ≤ length (now out)) × (reserved (now s) from ≡ 0) ⌝ }
+    requires { ⌜ Whole (now s) from × (at + 32 ≤ length (now out)) ⌝ }
     ensures { λ _. ⌜ Stores (now (out .entry)) at (callBytes (callAt (now (s .entry)) from)) (now (out .exit)) ⌝ }
 {
-    let mut k = 0;
-    while k < 4 {
-        copy_eight(s, from + 8 * k, out, at + 8 * k);
-        k += 1;
-    }
+    let w = words_at(s, from);
+    put_words(out, at, w);
 }
 
-// The record that a decision gives, as record k of the output's records.
+// The record that a decision gives.
 fn put_given(
-    out: &mut [u8],
-    k: usize,
     decision: Decision,
     first: &[u8],
-    i: usize,
+    a: usize,
     second: &[u8],
-    j: usize,
+    b: usize,
+    out: &mut [u8],
+    at: usize,
 )
-    requires { ⌜ (32 * k + 32 ≤ length (now out)) × Offered decision (now first) i (now second) j ⌝ }
-    ensures { λ _. ⌜ Stores (now (out .entry)) (32 * k) (callBytes (given decision (callOf (now (first .entry)) i) (callOf (now (second .entry)) j))) (now (out .exit)) ⌝ }
+    requires { ⌜ Whole (now first) a × Whole (now second) b × (at + 32 ≤ length (now out)) ⌝ }
+    ensures { λ _. ⌜ Stores (now (out .entry)) at (callBytes (given decision (callAt (now (first .entry)) a) (callAt (now (second .entry)) b))) (now (out .exit)) ⌝ }
 {
     match decision {
-        Decision::First => copy_record(first, 16 + 32 * i, out, 32 * k),
-        Decision::Second => copy_record(second, 16 + 32 * j, out, 32 * k),
-        Decision::Struck => put_call(out, 32 * k, record_at(first, i).contested()),
+        Decision::First => copy_record(first, a, out, at),
+        Decision::Second => copy_record(second, b, out, at),
+        Decision::Struck => put_call(out, at, call_at(first, a).contested()),
     }
 }
 
-// The records of the join, each straight to its place. Answers with the steps taken.
+// The record of the next key, to its place.
+fn put_next(first: &[u8], a: usize, second: &[u8], b: usize, out: &mut [u8], at: usize) -> Next
+    requires { ⌜ Whole (now first) a × Whole (now second) b × (at + 32 ≤ length (now out)) ⌝ }
+    ensures { λ r. ⌜ Put (now (first .entry)) a (now (second .entry)) b r (now (out .entry)) at (now (out .exit)) ⌝ }
+{
+    let lower = precedes(first, a, second, b);
+    if lower {
+        copy_record(first, a, out, at);
+        let p = a + 32;
+        return Next {
+            first: p,
+            second: b,
+        };
+    }
+    let upper = precedes(second, b, first, a);
+    if upper {
+        copy_record(second, b, out, at);
+        let q = b + 32;
+        return Next {
+            first: a,
+            second: q,
+        };
+    }
+    let decision = decide_from(first, a, second, b);
+    put_given(decision, first, a, second, b, out, at);
+    let p = a + 32;
+    let q = b + 32;
+    Next {
+        first: p,
+        second: q,
+    }
+}
+
+// How far a join has come: the next records of both books, and how many records it has.
+pub struct Reached {
+    pub first: usize,
+    pub second: usize,
+    pub done: usize,
+}
+
+// The records of the join, each straight to its place, while both books have records.
+fn put_both(first: &[u8], second: &[u8], out: &mut [u8]) -> Reached
+    requires { ⌜ (checkOf (now first) ≡ accepted) × (checkOf (now second) ≡ accepted)
+        × (32 * length (joinedOf (now first) (now second)) ≤ length (now out)) ⌝ }
+    ensures { λ r. ⌜ Merged (now (first .entry)) (now (second .entry)) (now (out .entry)) r (now (out .exit)) ⌝ }
+{
+    let e = 16 + 32 * count_at(first);
+    let f = 16 + 32 * count_at(second);
+    let mut a = 16;
+    let mut b = 16;
+    let mut at = 0;
+    while (a < e) & (b < f) {
+        let s = put_next(first, a, second, b, out, at);
+        a = s.first;
+        b = s.second;
+        at += 32;
+    }
+    let i = (a - 16) / 32;
+    let j = (b - 16) / 32;
+    let k = at / 32;
+    Reached {
+        first: i,
+        second: j,
+        done: k,
+    }
+}
+
+// The rest of a book, from record i on, behind the k records that the output has.
+fn put_rest(s: &[u8], i: usize, out: &mut [u8], k: usize) -> usize
+    requires { ⌜ (checkOf (now s) ≡ accepted) × (i ≤ countOf (now s)) × (32 * (k + (countOf (now s) - i)) ≤ length (now out)) ⌝ }
+    ensures { λ r. ⌜ (r ≡ k + (countOf (now (s .entry)) - i))
+        × Stores (now (out .entry)) (32 * k) (recordBytes (left (now (s .entry)) (countOf (now (s .entry))) i)) (now (out .exit)) ⌝ }
+{
+    let n = count_at(s);
+    let mut l = 0;
+    while i + l < n {
+        copy_record(s, 16 + 32 * (i + l), out, 32 * (k + l));
+        l += 1;
+    }
+    k + l
+}
+
+// All records of the join. Answers with how many there are.
 fn put_records(first: &[u8], second: &[u8], out: &mut [u8]) -> usize
-    requires { ⌜ (checkOf (now first) ≡ accepted) × (checkOf (now second) ≡ accepted) × (32 * length (joinedOf (now first) (now second)) ≤ length (now out)) ⌝ }
+    requires { ⌜ (checkOf (now first) ≡ accepted) × (checkOf (now second) ≡ accepted)
+        × (32 * length (joinedOf (now first) (now second)) ≤ length (now out)) ⌝ }
     ensures { λ r. ⌜ (r ≡ length (joinedOf (now (first .entry)) (now (second .entry))))
         × Stores (now (out .entry)) 0 (recordBytes (joinedOf (now (first .entry)) (now (second .entry)))) (now (out .exit)) ⌝ }
 {
-    let n = count_at(first);
-    let m = count_at(second);
-    let mut i = 0;
-    let mut j = 0;
-    let mut k = 0;
-    while i + j < n + m {
-        let s = step_at(first, n, i, second, m, j);
-        let decision = s.decision;
-        put_given(out, k, decision, first, i, second, j);
-        i = s.first;
-        j = s.second;
-        k += 1;
-    }
-    k
+    let b = put_both(first, second, out);
+    let i = b.first;
+    let j = b.second;
+    let k = put_rest(first, i, out, b.done);
+    put_rest(second, j, out, k)
 }
 
-// The joined book, of so many records. The part of the output behind the header is lent to the writer of the records.
-fn put_book(first: &[u8], second: &[u8], keys: u16, out: &mut [u8])
+// The joined book: its records, and then the header, which has their number. The part of the output behind the header is lent
+// to the writer of the records. Answers with their number.
+fn put_book(first: &[u8], second: &[u8], out: &mut [u8]) -> usize
     requires { ⌜ (checkOf (now first) ≡ accepted) × (checkOf (now second) ≡ accepted)
-        × (keys ≡ length (joinedOf (now first) (now second))) × (sizeOf keys ≤ length (now out)) ⌝ }
-    ensures { λ _. ⌜ Stores (now (out .entry)) 0 (bookBytes (headerOf (now (first .entry))) (joinedOf (now (first .entry)) (now (second .entry)))) (now (out .exit)) ⌝ }
+        × (length (joinedOf (now first) (now second)) ≤ 512)
+        × (sizeOf (length (joinedOf (now first) (now second))) ≤ length (now out)) ⌝ }
+    ensures { λ r. ⌜ (r ≡ length (joinedOf (now (first .entry)) (now (second .entry))))
+        × Stores (now (out .entry)) 0 (bookBytes (headerOf (now (first .entry))) (joinedOf (now (first .entry)) (now (second .entry)))) (now (out .exit)) ⌝ }
 {
-    put_header(out, header_at(first), keys);
-    put_records(first, second, &mut out[16..]);
+    let keys = put_records(first, second, &mut out[16..]);
+    let count = keys as u16;
+    put_header(out, header_at(first), count);
+    keys
+}
+
+// 8 and 9, or 0. The keys are counted only where the records of both books together are too many, or too long for the output.
+fn overflow(first: &[u8], second: &[u8], room: usize) -> u32
+    requires { ⌜ (checkOf (now first) ≡ accepted) × (checkOf (now second) ≡ accepted) ⌝ }
+    ensures { λ r. ⌜ r ≡ overfull (length (joinedOf (now (first .entry)) (now (second .entry)))) room ⌝ }
+{
+    let n = count_at(first);
+    let m = count_at(second);
+    let most = n + m;
+    if (most <= MOST) & (16 + 32 * most <= room) {
+        return 0;
+    }
+    let keys = count_keys(first, second);
+    if MOST < keys {
+        return 8;
+    }
+    if room < 16 + 32 * keys {
+        return 9;
+    }
+    0
 }
 
 fn refusal(number: u32, place: usize) -> Written
@@ -234,15 +458,12 @@ pub fn join(first: &[u8], second: &[u8], out: &mut [u8]) -> Written
     if v.number != 0 {
         return refusal(v.number, v.place);
     }
-    let keys = count_keys(first, second);
-    if MOST < keys {
-        return refusal(8, 0);
+    let number = overflow(first, second, out.len());
+    if number != 0 {
+        return refusal(number, 0);
     }
+    let keys = put_book(first, second, out);
     let size = 16 + 32 * keys;
-    if out.len() < size {
-        return refusal(9, 0);
-    }
-    put_book(first, second, keys as u16, out);
     Written {
         number: 0,
         place: 0,

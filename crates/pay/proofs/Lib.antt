@@ -1,4 +1,5 @@
 pub mod Sums
+pub mod Runs
 pub mod Signed
 pub mod Bounds
 pub mod Cases

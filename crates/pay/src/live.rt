@@ -1,12 +1,13 @@
 // A live call that is open to the member: its grains, and the energy of its event.
 ghost use mathlib.Core.Path.{_≡_};
-ghost use mathlib.Core.Bool.{true};
+ghost use mathlib.Core.Bool.{true, false, cond};
 ghost use Prim.Native.Nat.{_*_, _≤_};
 ghost use lib.ListN.{length};
 ghost use lib.Signed.{mag};
 ghost use Rattle.call.specs.Limits.{soundCall};
 ghost use Rattle.pay.specs.Open.{openTo};
-ghost use Rattle.pay.specs.Live.{livePay, liveWh, mostPay};
+ghost use Rattle.pay.specs.Rate.{ratedPay};
+ghost use Rattle.pay.specs.Live.{byEnergy, livePay, liveWh, mostPay};
 use crate::Member;
 use crate::event::called_up;
 use crate::event::event_wh;
@@ -16,6 +17,25 @@ use call::Call;
 use units::Grains;
 use units::Kw;
 use units::Wh;
+
+// An event of a kind that is paid by energy: no grains of its own.
+pub fn is_by_energy(member: Member, x: Call) -> bool
+    ensures { λ r. ⌜ r ≡ byEnergy (member .kind) x ⌝ }
+{
+    let rate = member.is_by_rate();
+    (x.service == 8) & !rate
+}
+
+// Services 3 to 10.
+fn rest_pay(member: Member, x: Call) -> Grains
+    requires { ⌜ (member .rated .0 ≤ 4000000) × (x .length ≤ 44640) × (byEnergy (member .kind) x ≡ false → x .b ≤ 10000) ⌝ }
+    ensures { λ r. ⌜ r .0 ≡ cond (byEnergy (member .kind) x) 0 (ratedPay member x) ⌝ }
+{
+    if is_by_energy(member, x) {
+        return Grains(0);
+    }
+    rated_pay(member, x)
+}
 
 pub fn live_pay(member: Member, series: &[u32], x: Call) -> Grains
     requires { ⌜ (member .rated .0 ≤ 4000000) × (length (now series) ≤ 2976) × (soundCall (15 * length (now series)) x ≡ true) × (openTo member x ≡ true) ⌝ }
@@ -28,13 +48,7 @@ pub fn live_pay(member: Member, series: &[u32], x: Call) -> Grains
             let top = called_up(x.a);
             window_pay(member, 2, top, series, x.start, x.length)
         }
-        8 => {
-            if member.is_by_rate() {
-                return rated_pay(member, x);
-            }
-            Grains(0)
-        }
-        _ => rated_pay(member, x),
+        _ => rest_pay(member, x),
     }
 }
 

@@ -1,8 +1,9 @@
-// Services 1 and 2, deep peaking and reserve: a minute, a quarter hour, a window.
+// Services 1 and 2, deep peaking and reserve: a minute, a run of quarter hours, a window.
 ghost use mathlib.Core.Path.{_≡_};
 ghost use Prim.Native.Nat.{_+_, _/_, _≤_};
 ghost use lib.ListN.{length};
-ghost use Rattle.pay.specs.Window.{lackingTo, deepMinute, coalBand, coalMinute, waterMinute, minutePay, quarterPay, windowPay};
+ghost use Rattle.pay.specs.Sum.{total};
+ghost use Rattle.pay.specs.Window.{lackingTo, coalBand, coalMinute, lackingAt, coalAt, windowPay};
 use crate::Member;
 use units::Grains;
 use units::Kw;
@@ -11,26 +12,38 @@ use units::TenthKwMin;
 // Grains for each tenth of a kW·min.
 pub struct PerTenth(pub u64);
 
-// What a minute at output p lacks up to a level.
-fn lacking(level: TenthKwMin, p: Kw) -> TenthKwMin
+// A level of output, in tenths of a kW.
+pub struct Level(pub u32);
+
+// What a minute at output p lacks up to a level; `full` is the lowest output that lacks nothing. In 32 bits, so that the sum
+// below goes four quarter hours at a time.
+fn lacking(level: Level, full: Kw, p: Kw) -> TenthKwMin
+    requires { ⌜ full .0 ≡ (level .0 + 9) / 10 ⌝ }
     ensures { λ r. ⌜ r .0 ≡ lackingTo (level .0) (p .0) ⌝ }
 {
     let top = level.0;
-    let at = 10 * (p.0 as u64);
-    if at < top {
-        return TenthKwMin(top - at);
+    let at = p.0;
+    if at < full.0 {
+        let short = top - 10 * at;
+        return TenthKwMin(short as u64);
     }
     TenthKwMin(0)
 }
 
-fn deep_minute(rated: Kw, p: Kw) -> Grains
-    ensures { λ r. ⌜ r .0 ≡ deepMinute (rated .0) (p .0) ⌝ }
+// A minute of each of so many quarter hours, in all.
+fn run_lacking(level: Level, series: &[u32], from: usize, count: usize) -> TenthKwMin
+    requires { ⌜ (level .0 ≤ 28000000) × (count ≤ 4369) × (from + count ≤ length (now series)) ⌝ }
+    ensures { λ r. ⌜ r .0 ≡ total (lackingAt (level .0) (now (series .entry))) from count ⌝ }
 {
-    let n = rated.0 as u64;
-    let half = 5 * n;
-    let short = lacking(TenthKwMin(half), p);
-    let pay = short.0 * 3000;
-    Grains(pay)
+    let full = Kw((level.0 + 9) / 10);
+    let mut sum: u64 = 0;
+    let mut k: usize = 0;
+    while k < count {
+        let short = lacking(level, full, Kw(series[from + k]));
+        sum += short.0;
+        k += 1;
+    }
+    TenthKwMin(sum)
 }
 
 fn coal_band(rated: Kw, p: Kw) -> PerTenth
@@ -52,44 +65,31 @@ fn coal_minute(rated: Kw, top: Kw, p: Kw) -> Grains
 {
     let half = 5 * (rated.0 as u64);
     let at = 10 * (p.0 as u64);
-    if half < at {
-        let short = lacking(TenthKwMin(10 * (top.0 as u64)), p);
+    let to = 10 * (top.0 as u64);
+    if (half < at) & (at < to) {
         let band = coal_band(rated, p);
-        return Grains(short.0 * band.0);
+        return Grains((to - at) * band.0);
     }
     Grains(0)
 }
 
-fn water_minute(rated: Kw, p: Kw) -> Grains
-    ensures { λ r. ⌜ r .0 ≡ waterMinute (rated .0) (p .0) ⌝ }
+// A minute of each of so many quarter hours, in all.
+fn run_coal(rated: Kw, top: Kw, series: &[u32], from: usize, count: usize) -> Grains
+    requires { ⌜ (top .0 ≤ 4000000) × (count ≤ 4369) × (from + count ≤ length (now series)) ⌝ }
+    ensures { λ r. ⌜ r .0 ≡ total (coalAt (rated .0) (top .0) (now (series .entry))) from count ⌝ }
 {
-    let edge = TenthKwMin(7 * (rated.0 as u64));
-    let short = lacking(edge, p);
-    Grains(short.0 * 10)
-}
-
-pub fn minute_pay(member: Member, service: u8, top: Kw, p: Kw) -> Grains
-    ensures { λ r. ⌜ r .0 ≡ minutePay member service (top .0) (p .0) ⌝ }
-{
-    let kind = member.kind;
-    let rated = member.rated;
-    match service {
-        1 => deep_minute(rated, p),
-        _ => match kind {
-            1 => coal_minute(rated, top, p),
-            _ => water_minute(rated, p),
-        },
+    let mut sum: u64 = 0;
+    let mut k: usize = 0;
+    while k < count {
+        let g = coal_minute(rated, top, Kw(series[from + k]));
+        sum += g.0;
+        k += 1;
     }
+    Grains(sum)
 }
 
-fn quarter_pay(member: Member, service: u8, top: Kw, p: Kw) -> Grains
-    ensures { λ r. ⌜ r .0 ≡ quarterPay member service (top .0) (p .0) ⌝ }
-{
-    let minute = minute_pay(member, service, top, p);
-    Grains(minute.0 * 15)
-}
-
-// The window's quarter hours, each at its mean output.
+// The window's quarter hours, each 15 minutes at its mean output. Service and kind are asked once, and what is the same for
+// every minute multiplies the sum.
 pub fn window_pay(
     member: Member,
     service: u8,
@@ -103,12 +103,21 @@ pub fn window_pay(
 {
     let from = (start / 15) as usize;
     let count = (minutes / 15) as usize;
-    let mut sum: u64 = 0;
-    let mut k: usize = 0;
-    while k < count {
-        let g = quarter_pay(member, service, top, Kw(series[from + k]));
-        sum += g.0;
-        k += 1;
+    let rated = member.rated;
+    let n = rated.0;
+    if service == 1 {
+        let half = 5 * n;
+        let short = run_lacking(Level(half), series, from, count);
+        let deep = short.0 * 45_000;
+        return Grains(deep);
     }
-    Grains(sum)
+    if member.kind == 1 {
+        let sum = run_coal(rated, top, series, from, count);
+        let coal = sum.0 * 15;
+        return Grains(coal);
+    }
+    let edge = 7 * n;
+    let short = run_lacking(Level(edge), series, from, count);
+    let water = short.0 * 150;
+    Grains(water)
 }

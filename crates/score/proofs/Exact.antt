@@ -13,7 +13,6 @@ use Rattle.le.proofs.Tests.{each, all, holds-or-fails}
 use Rattle.units.specs.Money.{fenOf}
 use Rattle.units.specs.Month.{quartersOf}
 use Rattle.call.specs.declared.Call.{Call}
-use Rattle.call.specs.Limits.{limitsOf, allows, soundCall}
 use Rattle.book.specs.declared.Verdict.{Verdict}
 use Rattle.book.specs.Book.{headerOf, countOf, callOf}
 use Rattle.book.specs.Check.{accepted, checkOf, monthOf}
@@ -31,7 +30,7 @@ use Rattle.score.specs.Scoring.{payAt, whAt, monthGrains, scoreOf, refus
 use Rattle.score.specs.Outcomes.{Line, Front, Spans, Ready, Against, Passes, other, gone, good, Clear, Turn, Outcome, bad-line, bad-book, bad-length, bad-value, is-contested, not-open, clashes, scored}
 use Rattle.score.proofs.First.{first-le, first-bad, first-before, first-all, first-of-all, first-hit, first-again, any-suc, any-none, any-not, any-hit, any-zero}
 use Rattle.score.proofs.Checked.{zero-accepted, all-sound}
-use Rattle.score.proofs.Turns.{much-not, much-yes, series-length, series-value, series-good, refuse-other, refuse-withdrawn, refuse-contested, refuse-live, score-refused, score-accepted, sound-refused, sound-told, scoring-10, scoring-book, scoring-sound}
+use Rattle.score.proofs.Turns.{much-not, much-yes, series-length, series-value, series-good, refuse-other, refuse-withdrawn, refuse-contested, refuse-live, score-refused, score-accepted, sound-refused, sound-told, scoring-10, scoring-book, scoring-sound, state-low}
 
 -- Two outcomes that the contract of `score` allows are one.
 pub determined : (m : Member) (b series : List ℕ) (r s : Score) → r ≡ scoring m b series → s ≡ scoring m b series → r ≡ s
@@ -153,15 +152,6 @@ passes-of m book i h (passed e p) = p
 passes-of m book i h (contests e p q) = absurd (omega arith)
 passes-of m book i h (closed e p q o) = absurd (omega arith)
 passes-of m book i h (stopped j e p q o l a) = absurd (omega arith)
-
--- a sound record's state is 0, 1 or 2
-state-low : (minutes : ℕ) (x : Call) → soundCall minutes x ≡ true → x .state ≤ 2
-unfolding soundCall
-state-low minutes x h =
-    let p = each (leb 1 (x .participant)) (leb (x .participant) 64 ∷ leb (x .state) 2 ∷ leb 1 (x .revision)
-    ∷ (eqb (x .state) 0 && leb 1 (x .service) || leb 1 (x .state) && eqb (x .service) 0)
-    ∷ leb (x .start + x .length) minutes ∷ allows (limitsOf (x .service)) x ∷ []) h in
-    leb-true _ _ (p .1 .1 .0)
 
 -- The whole table
 

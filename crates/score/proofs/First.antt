@@ -86,7 +86,7 @@ or-true : (t : Bool) → (t || true) ≡ true
 or-true true = refl
 or-true false = refl
 
-or-false : (t u : Bool) → (t || u) ≡ false → (t ≡ false) × (u ≡ false)
+pub or-false : (t u : Bool) → (t || u) ≡ false → (t ≡ false) × (u ≡ false)
 or-false true u h = absurd (true≢false h)
 or-false false u h = (refl, h)
 

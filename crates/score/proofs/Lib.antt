@@ -1,6 +1,7 @@
 pub mod First
 pub mod Checked
 pub mod Turns
+pub mod Energy
 pub mod Parts
 pub mod Own
 pub mod Exact

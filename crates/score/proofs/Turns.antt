@@ -1,5 +1,5 @@
 -- The definitions of a score, case by case. Assumes nothing.
-use mathlib.Core.Path.{_≡_, refl, _∙_}
+use mathlib.Core.Path.{_≡_, refl, sym, _∙_}
 use mathlib.Core.Bool.{Bool, true, false, cond, not, _&&_, _||_, true≢false}
 use mathlib.Core.List.{List, [], _∷_}
 use Prim.Native.Nat.{ℕ, _+_, _≤_, _<_}
@@ -8,9 +8,10 @@ use native.Mathlib.Omega.{arith}
 use lib.Dec.{eqb, ltb, leb}
 use lib.IntN.{ℤ, pos}
 use lib.ListN.{getD, length}
-use borrow.Author.Tests.{eq-eqb, ne-eqb, lt-ltb, le-ltb, eqb-true, eqb-false, leb-true}
+use borrow.Author.Tests.{eq-eqb, ne-eqb, lt-ltb, le-ltb, ltb-false, eqb-true, eqb-false, leb-true}
 use Rattle.le.proofs.Tests.{each}
 use Rattle.call.specs.declared.Call.{Call}
+use Rattle.call.specs.Limits.{limitsOf, allows, soundCall}
 use Rattle.book.specs.declared.Verdict.{Verdict}
 use Rattle.book.specs.Check.{refuse, accepted, checkOf}
 use Rattle.book.specs.Book.{headerOf, countOf, callOf}
@@ -27,7 +28,7 @@ use Rattle.score.specs.First.{firstBad, anyBelow}
 use Rattle.score.specs.Series.{tooMuch, seriesFault}
 use Rattle.score.specs.Refusing.{overlap, once, clash, clashAt, ownAt, refusalAt}
 use Rattle.score.specs.Scoring.{ownLive, payOf, whOf, payAt, whAt, monthGrains, scoreOf, refused, told, soundScoring, scoring}
-use Rattle.score.proofs.First.{first-hit, first-before, first-of-all, any-zero}
+use Rattle.score.proofs.First.{or-false, first-more, first-hit, first-before, first-of-all, any-zero}
 
 -- a value of the series above the limit, and one within it
 pub much-yes : (series : List ℕ) (i : ℕ) → 5000000 < getD series i 0 → tooMuch series i ≡ 0 → ⊥
@@ -37,6 +38,12 @@ much-yes series i h e = eqb-false 11 0 refl (simp (lt-ltb 5000000 (getD series i
 pub much-not : (series : List ℕ) (i : ℕ) → getD series i 0 ≤ 5000000 → tooMuch series i ≡ 0
 unfolding tooMuch
 much-not series i h = simp (le-ltb 5000000 (getD series i 0) h)
+
+-- one value more, none of those before above the limit
+pub much-none : (series : List ℕ) (i : ℕ) (any : Bool) → (any ≡ false → firstBad (tooMuch series) i ≡ i) → (any || ltb 5000000 (getD series i 0)) ≡ false → firstBad (tooMuch series) (i + 1) ≡ i + 1
+much-none series i any h f =
+    let p = or-false any (ltb 5000000 (getD series i 0)) f in
+    first-more (tooMuch series) i (h (p .0)) (much-not series i (ltb-false 5000000 (getD series i 0) (p .1)))
 
 module _ (series : List ℕ) (quarters : ℕ) where
   pub series-length : (length series ≡ quarters → ⊥) → seriesFault series quarters ≡ refuse 11 65535
@@ -85,6 +92,10 @@ false-last : (t : Bool) → (t && false) ≡ false
 false-last true = refl
 false-last false = refl
 
+true-last : (t : Bool) → (t && true) ≡ t
+true-last true = refl
+true-last false = refl
+
 -- nor does any stand against a call whose service can't clash
 pub clash-free : (number : ℕ) (x y : Call) → (ltb (x .service) 5 || once (x .service)) ≡ false → clash number x y ≡ false
 unfolding clash
@@ -103,6 +114,15 @@ none-before number x book n h = any-zero (clashAt number x book) n (λ k l. clas
 pub none-free : (number : ℕ) (x : Call) (book : ℕ → Call) (n : ℕ) → (ltb (x .service) 5 || once (x .service)) ≡ false → anyBelow (clashAt number x book) n ≡ false
 unfolding clashAt
 none-free number x book n h = any-zero (clashAt number x book) n (λ k l. clash-free number x (book k) h)
+
+-- a sound record's state is 0, 1 or 2
+pub state-low : (minutes : ℕ) (x : Call) → soundCall minutes x ≡ true → x .state ≤ 2
+unfolding soundCall
+state-low minutes x h =
+    let p = each (leb 1 (x .participant)) (leb (x .participant) 64 ∷ leb (x .state) 2 ∷ leb 1 (x .revision)
+    ∷ (eqb (x .state) 0 && leb 1 (x .service) || leb 1 (x .state) && eqb (x .service) 0)
+    ∷ leb (x .start + x .length) minutes ∷ allows (limitsOf (x .service)) x ∷ []) h in
+    leb-true _ _ (p .1 .1 .0)
 
 -- Record i, as a call x that was read
 module _ (m : Member) (book : ℕ → Call) (i : ℕ) (x : Call) (e : x ≡ book i) where
@@ -226,3 +246,39 @@ module _ (m : Member) (b series : List ℕ) where
   pub scoring-sound : soundLine m ≡ true → checkOf b .number ≡ 0 → scoring m b series ≡ soundScoring m b series
   unfolding scoring
   scoring-sound h e = rw (h, eq-eqb _ _ e) refl
+
+-- A clash, told first by what x and y share
+module _ (number : ℕ) (x y : Call) (h : (ltb (x .service) 5 || once (x .service)) ≡ true) where
+  pub clash-apart : (once (x .service) || overlap x y) ≡ false → clash number x y ≡ false
+  unfolding clash
+  clash-apart f = go (ltb (x .service) 5) (once (x .service)) (overlap x y) f
+    where
+      go : (t u o : Bool) → (u || o) ≡ false → (eqb (y .participant) number && eqb (y .state) 0 && eqb (y .service) (x .service) && (t && o || u)) ≡ false
+      go t true o f = absurd (true≢false f)
+      go t false true f = absurd (true≢false f)
+      go true false false f = false-last (eqb (y .participant) number && eqb (y .state) 0 && eqb (y .service) (x .service))
+      go false false false f = false-last (eqb (y .participant) number && eqb (y .state) 0 && eqb (y .service) (x .service))
+
+  pub clash-shared : (once (x .service) || overlap x y) ≡ true → clash number x y ≡ (eqb (y .participant) number && eqb (y .state) 0 && eqb (y .service) (x .service))
+  unfolding clash
+  clash-shared f = go (ltb (x .service) 5) (once (x .service)) (overlap x y) h f
+    where
+      rest : Bool
+      rest = eqb (y .participant) number && eqb (y .state) 0 && eqb (y .service) (x .service)
+
+      go : (t u o : Bool) → (t || u) ≡ true → (u || o) ≡ true → (rest && (t && o || u)) ≡ rest
+      go true true true h f = true-last rest
+      go true true false h f = true-last rest
+      go false true o h f = true-last rest
+      go true false true h f = true-last rest
+      go true false false h f = absurd (true≢false (sym f))
+      go false false o h f = absurd (true≢false (sym h))
+
+-- two spans apart, and two of which the second ends after the first begins
+pub overlap-apart : (x y : Call) → y .start + y .length ≤ x .start → overlap x y ≡ false
+unfolding overlap
+overlap-apart x y h = simp (le-ltb (x .start) (y .start + y .length) h)
+
+pub overlap-begun : (x y : Call) → x .start < y .start + y .length → overlap x y ≡ ltb (y .start) (x .start + x .length)
+unfolding overlap
+overlap-begun x y h = simp (lt-ltb (x .start) (y .start + y .length) h)

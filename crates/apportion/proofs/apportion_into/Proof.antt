@@ -4,7 +4,7 @@ use Prim.Native.Nat.{ℕ, _≤_}
 use native.Mathlib.Omega.{arith}
 use lib.ListN.{length, length-map}
 use Rattle.apportion.specs.Apportion.{total, roundedDown, remainders, apportion}
-use Rattle.apportion.proofs.Laws.{bases-le}
+use Rattle.apportion.proofs.Laws.{bases-le, remainder-le}
 use Rattle.apportion.proofs.Loops.{total-some, getD-total}
 use borrow.Author.Needs.{needs}
 use Rattle.apportion.proofs.apportion_into.Statement.{statement}
@@ -38,14 +38,17 @@ sum-of-requires-2 c κs = omega (arith, fits (c .before .before .before .before 
 sub-left : tie.Need-sub-left
 sub-left c = omega (arith, fits (c .before .before .before .before .before .before), c .sum-of2 .ensures)
 
-give-out-requires : tie.Need-give-out-requires
-give-out-requires c κs =
+give-left-requires : tie.Need-give-left-requires
+give-left-requires c κs =
     let d = c .before .before .before .before .before .before .before .before in
     let a = c .before .before .before .before .before .before .before .before .before .before .before .before .before .before .before in
     let ls : length (d .split .last .1 .1 .1 .0) ≡ length (a .args .weights .now) = ap length (halved d .0) ∙ length-map (a .args .weights .now) _ in
     let lr : length (d .split .last .1 .1 .1 .1 .0) ≡ length (a .args .weights .now) = ap length (halved d .1) ∙ length-map (a .args .weights .now) _ in
     let some = total-some (a .args .weights .now) (a .pre .1) in
-    (omega arith, omega arith, omega (arith, fits d, c .before .before .sum-of2 .ensures, a .fits .amount))
+    let e : d .before .before .before .sum-of .result ≡ total (a .args .weights .now) = d .before .before .before .sum-of .ensures in (
+      (omega arith, omega arith, omega (arith, fits d, c .before .before .sum-of2 .ensures, a .fits .amount)),
+      (omega arith, λ k. rw (halved d .1, e) (remainder-le (a .args .amount) (total (a .args .weights .now)) (a .args .weights .now) k (a .pre .1))),
+    )
 
 same-length : tie.Need-same-length
 same-length c = search needs
@@ -58,7 +61,7 @@ unfolding apportion
 returns c =
     let d = c .before .before .before .before .before .before .before .before .before .before .before .before .before in
     let e : c .before .before .before .before .before .before .before .sum-of2 .result ≡ total (d .split .last .1 .1 .1 .0) = c .before .before .before .before .before .before .before .sum-of2 .ensures in
-    c .before .before .before .before .give-out .ensures ∙ rw (e, halved d .0, halved d .1)
+    c .before .before .before .before .give-left .ensures ∙ rw (e, halved d .0, halved d .1)
 
 pub apportion-into-spec : {M : Type 1} → statement M
 apportion-into-spec =
@@ -68,7 +71,7 @@ apportion-into-spec =
     split-requires
     sum-of-requires-2
     sub-left
-    give-out-requires
+    give-left-requires
     same-length
     same-length-2
     returns)

@@ -1,8 +1,12 @@
 -- `join::join` meets its contract.
 use mathlib.Core.Path.{_≡_, sym, _∙_, ap}
+use Prim.Native.Nat.{_≤_}
+use native.Mathlib.Omega.{arith}
+use lib.ListN.{length}
 use Rattle.book.specs.declared.Verdict.{Verdict}
-use Rattle.join.specs.Joining.{screened}
-use Rattle.join.proofs.Screening.{passed-screen, zero-screened, refuse-screened, refuse-many, refuse-short, joins-both}
+use Rattle.book.specs.Book.{mostRecords, sizeOf}
+use Rattle.join.specs.Joining.{screened, joinedOf}
+use Rattle.join.proofs.Screening.{passed-screen, zero-screened, refuse-screened, refuse-over, never-over, joins-both}
 use Rattle.join.proofs.Writes.{as-refused, as-written}
 use borrow.Author.Needs.{needs}
 use Rattle.join.proofs.join.Statement.{statement}
@@ -11,6 +15,10 @@ use Rattle.join.proofs.join.Tie as tie
 -- neither book is refused, and both are of one month and area
 none : (c : tie.Else1) → screened (c .before .before .before .before .before .before .args .first .now) (c .before .before .before .before .before .before .args .second .now) .number ≡ 0
 none c = ap (λ (v : Verdict). v .number) (sym (c .before .before .screen .ensures)) ∙ c .if1 .left
+
+-- and the joined book has its place
+fits : (c : tie.Else2) → (length (joinedOf (c .before .before .before .before .before .before .before .before .args .first .now) (c .before .before .before .before .before .before .before .before .args .second .now)) ≤ mostRecords) × (sizeOf (length (joinedOf (c .before .before .before .before .before .before .before .before .args .first .now) (c .before .before .before .before .before .before .before .before .args .second .now))) ≤ length (c .before .before .before .before .before .before .before .before .args .out .now))
+fits c = never-over _ _ (sym (c .before .overflow .ensures) ∙ c .if2 .left)
 
 screen-requires : tie.Need-screen-requires
 screen-requires c κs = search needs
@@ -21,40 +29,33 @@ refusal-requires c κs = search needs
 returns : tie.Need-returns
 returns c = as-refused _ _ _ _ (c .refusal .ensures) ∙ refuse-screened _ _ _ (c .before .before .before .screen .result) (c .before .before .before .screen .ensures) (c .before .if1 .taken)
 
-count-keys-requires : tie.Need-count-keys-requires
-count-keys-requires c κs = let s = passed-screen _ _ (none c) in (s .first, s .second)
+overflow-requires : tie.Need-overflow-requires
+overflow-requires c κs = let s = passed-screen _ _ (none c) in (s .first, s .second)
 
 refusal-requires-2 : tie.Need-refusal-requires-2
 refusal-requires-2 c κs = search needs
 
 returns-2 : tie.Need-returns-2
-returns-2 c = as-refused _ _ _ _ (c .refusal2 .ensures) ∙ refuse-many _ _ _ (zero-screened _ _ (none (c .before .before .before))) (c .before .before .count-keys .result) (c .before .before .count-keys .ensures) (c .before .if2 .taken)
-
-mul-size : tie.Need-mul-size
-mul-size c = search needs
-
-add-size : tie.Need-add-size
-add-size c = search needs
-
-refusal-requires-3 : tie.Need-refusal-requires-3
-refusal-requires-3 c κs = search needs
-
-returns-3 : tie.Need-returns-3
-returns-3 c = as-refused _ _ _ _ (c .refusal3 .ensures) ∙ refuse-short _ _ _ (zero-screened _ _ (none (c .before .before .before .before))) (c .before .before .before .count-keys .result) (c .before .before .before .count-keys .ensures) (c .before .before .if2 .left) (c .before .if3 .taken)
-
-cast-put-book : tie.Need-cast-put-book
-cast-put-book c = search needs
+returns-2 c = as-refused _ _ _ _ (c .refusal2 .ensures) ∙ refuse-over _ _ _ (zero-screened _ _ (none (c .before .before .before))) (c .before .before .overflow .result) (c .before .before .overflow .ensures) (c .before .if2 .taken)
 
 put-book-requires : tie.Need-put-book-requires
-put-book-requires c κs = let s = passed-screen _ _ (none (c .before .before .before .before)) in (s .first, s .second, c .before .before .before .count-keys .ensures, c .before .if3 .left)
+put-book-requires c κs = let s = passed-screen _ _ (none (c .before .before .before)) in let f = fits (c .before) in (s .first, s .second, f .0, f .1)
+
+mul-size : tie.Need-mul-size
+mul-size c = let f = fits (c .before .before .before .before) in omega (arith, c .before .before .put-book .ensures .0)
+
+add-size : tie.Need-add-size
+add-size c = let f = fits (c .before .before .before .before) in omega (arith, c .before .before .put-book .ensures .0)
 
 same-length : tie.Need-same-length
 same-length c = search needs
 
-returns-4 : tie.Need-returns-4
-returns-4 c =
-    as-written _ _ (c .before .before .before .before .before .before .count-keys .result) _ _ (c .before .before .before .before .before .before .count-keys .ensures) (c .before .before .before .before .if3 .left) (c .before .before .put-book .ensures)
-    ∙ joins-both _ _ _ (zero-screened _ _ (none (c .before .before .before .before .before .before .before))) (c .before .before .before .before .before .before .count-keys .result) (c .before .before .before .before .before .before .count-keys .ensures) (c .before .before .before .before .before .if2 .left) (c .before .before .before .before .if3 .left)
+returns-3 : tie.Need-returns-3
+returns-3 c =
+    let f = fits (c .before .before .before .before) in
+    let e = c .before .before .put-book .ensures .0 in
+    as-written _ _ (c .before .before .put-book .result) _ _ e (omega arith) (c .before .before .put-book .ensures .1)
+    ∙ joins-both _ _ _ (zero-screened _ _ (none (c .before .before .before .before .before .before))) (c .before .before .put-book .result) e (omega arith) (omega arith)
 
 pub join-spec : {M : Type 1} → statement M
 join-spec =
@@ -63,14 +64,11 @@ join-spec =
     screen-requires
     refusal-requires
     returns
-    count-keys-requires
+    overflow-requires
     refusal-requires-2
     returns-2
+    put-book-requires
     mul-size
     add-size
-    refusal-requires-3
-    returns-3
-    cast-put-book
-    put-book-requires
     same-length
-    returns-4)
+    returns-3)

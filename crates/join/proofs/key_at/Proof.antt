@@ -1,6 +1,5 @@
 -- `join::key_at` meets its contract.
 use mathlib.Core.Path.{refl}
-use Rattle.call.specs.Layout.{callAt}
 use Rattle.book.specs.Book.{callOf}
 use borrow.Author.Needs.{needs}
 use Rattle.join.proofs.key_at.Statement.{statement}
@@ -12,14 +11,11 @@ mul-at c = search needs
 add-at : tie.Need-add-at
 add-at c = search needs
 
-u16-at-requires : tie.Need-u16-at-requires
-u16-at-requires c κs = search needs
+participant-from-requires : tie.Need-participant-from-requires
+participant-from-requires c κs = search needs
 
-add-u32-at : tie.Need-add-u32-at
-add-u32-at c = search needs
-
-u32-at-requires : tie.Need-u32-at-requires
-u32-at-requires c κs = search needs
+number-from-requires : tie.Need-number-from-requires
+number-from-requires c κs = search needs
 
 cast-result : tie.Need-cast-result
 cast-result c = search needs
@@ -34,8 +30,8 @@ add-result : tie.Need-add-result
 add-result c = search needs
 
 returns : tie.Need-returns
-unfolding callOf callAt
-returns c = rw (c .before .u16-at .ensures, c .u32-at .ensures) refl
+unfolding callOf
+returns c = rw (c .before .participant-from .ensures, c .number-from .ensures) refl
 
 pub key-at-spec : {M : Type 1} → statement M
 key-at-spec =
@@ -43,9 +39,8 @@ key-at-spec =
     (tie.spec
     mul-at
     add-at
-    u16-at-requires
-    add-u32-at
-    u32-at-requires
+    participant-from-requires
+    number-from-requires
     cast-result
     mul-result
     cast-result-2

@@ -5,8 +5,8 @@ use Prim.Native.Nat.{_+_, _*_, _^_, _≤_, _<_}
 use Rattle.pay.specs.Event.{clamp}
 use lib.Signed.{mag}
 use Rattle.pay.proofs.Signed.{back32}
-use Rattle.pay.proofs.Cases.{live-1, live-2, live-rate, live-energy, live-rest, open-rate, open-power}
-use Rattle.pay.proofs.Bounds.{rated-most, window-most, ends-within, b-is-rate}
+use Rattle.pay.proofs.Cases.{live-1, live-2, live-other, open-power, rest-rate, rest-most}
+use Rattle.pay.proofs.Bounds.{window-most, ends-within}
 use Rattle.pay.specs.Window.{windowPay}
 use lib.ListN.{length}
 use borrow.Author.Needs.{needs}
@@ -34,43 +34,22 @@ window-pay-requires-2 c κs =
     let e : c .called-up .result .0 ≡ clamp (s .args .x .a) = simp (back32 (s .args .x .a) (omega arith)) at (c .called-up .ensures) in
     omega arith
 
-is-by-rate-requires : tie.Need-is-by-rate-requires
-is-by-rate-requires c κs = search needs
-
-rated-pay-requires : tie.Need-rated-pay-requires
-rated-pay-requires c κs =
-    let s = c .before .before .before .before in
+rest-pay-requires : tie.Need-rest-pay-requires
+rest-pay-requires c κs =
+    let s = c .before .before in
     let h : s .args .x .start + s .args .x .length ≤ 15 * length (s .args .series .now) = ends-within _ _ (s .pre .2) in
-    let p = open-rate _ (s .args .x) (s .pre .3) (c .before .before .match .keys3) (sym (c .before .is-by-rate .ensures) ∙ c .if1 .taken) in
-    omega arith
+    (s .pre .0, omega arith, rest-rate _ (s .args .member) (s .args .x) (s .pre .2) (s .pre .3))
 
 returns : tie.Need-returns
 returns c =
-    let s = c .before .before .before .before .before in
-    let h : s .args .x .start + s .args .x .length ≤ 15 * length (s .args .series .now) = ends-within _ _ (s .pre .2) in
-    let e = c .before .before .before .match .keys3 in
-    let t = sym (c .before .before .is-by-rate .ensures) ∙ c .before .if1 .taken in (
-      c .rated-pay .ensures ∙ sym (live-rate _ _ _ e t),
-      rw (c .rated-pay .ensures) (rated-most (s .args .member) (s .args .x) (omega arith) (omega arith) (open-rate _ (s .args .x) (s .pre .3) e t)),
-    )
-
-rated-pay-requires-2 : tie.Need-rated-pay-requires-2
-rated-pay-requires-2 c κs =
-    let s = c .before .before in
-    let h : s .args .x .start + s .args .x .length ≤ 15 * length (s .args .series .now) = ends-within _ _ (s .pre .2) in
-    let p = b-is-rate _ (s .args .x) (s .pre .2) (c .match .rest .1) in
-    omega arith
-
-returns-2 : tie.Need-returns-2
-returns-2 c =
     let s = c .before .before .before in
     let h : s .args .x .start + s .args .x .length ≤ 15 * length (s .args .series .now) = ends-within _ _ (s .pre .2) in (
       c .window-pay .ensures ∙ sym (live-1 _ _ _ (c .before .match .keys1)),
       rw (c .window-pay .ensures) (window-most (s .args .member) 1 0 (s .args .series .now) (s .args .x .start) (s .args .x .length) (omega arith) (omega arith) (omega arith)),
     )
 
-returns-3 : tie.Need-returns-3
-returns-3 c =
+returns-2 : tie.Need-returns-2
+returns-2 c =
     let s = c .before .before .before .before .before in
     let h : s .args .x .start + s .args .x .length ≤ 15 * length (s .args .series .now) = ends-within _ _ (s .pre .2) in
     let k = c .before .before .before .match .keys2 in
@@ -79,16 +58,13 @@ returns-3 c =
     let w : c .window-pay2 .result .0 ≡ windowPay (s .args .member) 2 (clamp (s .args .x .a)) (s .args .series .now) (s .args .x .start) (s .args .x .length) = simp e at (c .window-pay2 .ensures) in
     (w ∙ sym (live-2 _ _ _ k), rw w (window-most (s .args .member) 2 (clamp (s .args .x .a)) (s .args .series .now) (s .args .x .start) (s .args .x .length) (omega arith) (omega arith) (omega arith)))
 
-returns-4 : tie.Need-returns-4
-returns-4 c = (sym (live-energy _ _ _ (c .before .before .match .keys3) (sym (c .before .is-by-rate .ensures) ∙ c .if1 .left)), omega arith)
-
-returns-5 : tie.Need-returns-5
-returns-5 c =
+returns-3 : tie.Need-returns-3
+returns-3 c =
     let s = c .before .before .before in
     let h : s .args .x .start + s .args .x .length ≤ 15 * length (s .args .series .now) = ends-within _ _ (s .pre .2) in
     let r = c .before .match .rest in (
-      c .rated-pay2 .ensures ∙ sym (live-rest _ _ _ (r .0 .0 .1) (r .0 .1) (r .1)),
-      rw (c .rated-pay2 .ensures) (rated-most (s .args .member) (s .args .x) (omega arith) (omega arith) (b-is-rate _ (s .args .x) (s .pre .2) (r .1))),
+      c .rest-pay .ensures ∙ sym (live-other _ _ _ (r .0 .1) (r .1)),
+      rw (c .rest-pay .ensures) (rest-most _ (s .args .member) (s .args .x) (s .pre .2) (s .pre .3) (s .pre .0) (omega arith)),
     )
 
 pub live-pay-spec : {M : Type 1} → statement M
@@ -98,11 +74,7 @@ live-pay-spec =
     window-pay-requires
     called-up-requires
     window-pay-requires-2
-    is-by-rate-requires
-    rated-pay-requires
+    rest-pay-requires
     returns
-    rated-pay-requires-2
     returns-2
-    returns-3
-    returns-4
-    returns-5)
+    returns-3)

@@ -1,12 +1,20 @@
 -- `pay::window::coal_minute` meets its contract.
-use borrow.Author.Tests.{lt-ltb, le-ltb}
+use borrow.Author.Tests.{ltb-true}
 use native.Mathlib.Omega.{arith}
+use mathlib.Core.List.{[], _∷_}
+use mathlib.Core.Path.{sym}
+use lib.Dec.{ltb}
 use Prim.Native.Nat.{_*_, _^_}
-use Rattle.pay.specs.Window.{coalMinute}
-use Rattle.pay.proofs.Bounds.{mul-under, lacking-most, band-most}
+use Rattle.le.proofs.Tests.{Hold, each}
+use Rattle.pay.proofs.Runs.{coal-some, coal-none}
+use Rattle.pay.proofs.Bounds.{mul-under, band-most}
 use borrow.Author.Needs.{needs}
 use Rattle.pay.proofs.window.coal_minute.Statement.{statement}
 use Rattle.pay.proofs.window.coal_minute.Tie as tie
+
+-- above half of the rating, and below the called power
+within : (c : tie.After-coal-band) → Hold (ltb (5 * (c .before .before .before .before .before .args .rated .0)) (10 * (c .before .before .before .before .before .args .p .0)) ∷ ltb (10 * (c .before .before .before .before .before .args .p .0)) (10 * (c .before .before .before .before .before .args .top .0)) ∷ [])
+within c = let a = c .before .before .before .before .before .args in each (ltb (5 * (a .rated .0)) (10 * (a .p .0))) (ltb (10 * (a .p .0)) (10 * (a .top .0)) ∷ []) (c .before .if1 .taken)
 
 cast-half : tie.Need-cast-half
 cast-half c = search needs
@@ -20,30 +28,32 @@ cast-at c = search needs
 mul-at : tie.Need-mul-at
 mul-at c = search needs
 
-cast-t10 : tie.Need-cast-t10
-cast-t10 c = search needs
+cast-to : tie.Need-cast-to
+cast-to c = search needs
 
-mul-t11 : tie.Need-mul-t11
-mul-t11 c = search needs
-
-lacking-requires : tie.Need-lacking-requires
-lacking-requires c κs = search needs
+mul-to : tie.Need-mul-to
+mul-to c = search needs
 
 coal-band-requires : tie.Need-coal-band-requires
 coal-band-requires c κs = search needs
 
-mul-t10 : tie.Need-mul-t10
-mul-t10 c =
-    let a = c .before .before .before .before .before .before .before .before .args in
-    record { fits = mul-under 42949672950 350 (2 ^ 64) (omega (arith, lacking-most (10 * (a .top .0)) (a .p .0))) (omega (arith, band-most (a .rated .0) (a .p .0))) tt }
+sub-t12 : tie.Need-sub-t12
+sub-t12 c = let a = c .before .before .before .before .before .args in omega (arith, ltb-true (10 * (a .p .0)) (10 * (a .top .0)) (within c .1 .0))
+
+mul-t13 : tie.Need-mul-t13
+mul-t13 c =
+    let a = c .before .before .before .before .before .before .args in
+    let w = within (c .before) in
+    record { fits = mul-under 42949672950 350 (2 ^ 64) (omega arith) (omega (arith, band-most (a .rated .0) (a .p .0))) tt }
 
 returns : tie.Need-returns
-unfolding coalMinute
-returns c = simp (lt-ltb _ _ (c .before .before .before .before .before .if1 .taken), c .before .before .before .lacking .ensures, c .before .before .coal-band .ensures)
+returns c =
+    let a = c .before .before .before .before .before .before .args in
+    let w = within (c .before) in
+    rw (c .before .coal-band .ensures) (sym (coal-some (a .rated .0) (a .top .0) (a .p .0) (w .0) (w .1 .0)))
 
 returns-2 : tie.Need-returns-2
-unfolding coalMinute
-returns-2 c = simp (le-ltb _ _ (c .if1 .left))
+returns-2 c = let a = c .before .before .before .before .args in sym (coal-none (a .rated .0) (a .top .0) (a .p .0) (c .if1 .left))
 
 pub coal-minute-spec : {M : Type 1} → statement M
 coal-minute-spec =
@@ -53,10 +63,10 @@ coal-minute-spec =
     mul-half
     cast-at
     mul-at
-    cast-t10
-    mul-t11
-    lacking-requires
+    cast-to
+    mul-to
     coal-band-requires
-    mul-t10
+    sub-t12
+    mul-t13
     returns
     returns-2)

@@ -1,26 +1,25 @@
 -- `pay::window::lacking` meets its contract.
-use borrow.Author.Tests.{lt-ltb, le-ltb}
-use Rattle.pay.specs.Window.{lackingTo}
+use native.Mathlib.Omega.{arith}
+use mathlib.Core.Path.{sym}
+use Rattle.pay.proofs.Runs.{lack-some, lack-none}
 use borrow.Author.Needs.{needs}
 use Rattle.pay.proofs.window.lacking.Statement.{statement}
 use Rattle.pay.proofs.window.lacking.Tie as tie
 
-cast-at : tie.Need-cast-at
-cast-at c = search needs
+mul-short : tie.Need-mul-short
+mul-short c = search needs
 
-mul-at : tie.Need-mul-at
-mul-at c = search needs
+sub-short : tie.Need-sub-short
+sub-short c = search needs
 
-sub-t7 : tie.Need-sub-t7
-sub-t7 c = search needs
+cast-t9 : tie.Need-cast-t9
+cast-t9 c = search needs
 
 returns : tie.Need-returns
-unfolding lackingTo
-returns c = simp (lt-ltb _ _ (c .if1 .taken))
+returns c = sym (lack-some _ _ (omega arith))
 
 returns-2 : tie.Need-returns-2
-unfolding lackingTo
-returns-2 c = simp (le-ltb _ _ (c .if1 .left))
+returns-2 c = sym (lack-none _ _ (omega arith))
 
 pub lacking-spec : {M : Type 1} → statement M
-lacking-spec = tie.close (tie.spec cast-at mul-at sub-t7 returns returns-2)
+lacking-spec = tie.close (tie.spec mul-short sub-short cast-t9 returns returns-2)

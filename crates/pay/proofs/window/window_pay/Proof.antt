@@ -1,78 +1,71 @@
 -- `pay::window::window_pay` meets its contract.
 use native.Mathlib.Omega.{arith}
-use mathlib.Core.Path.{_≡_, sym}
-use Prim.Native.Nat.{_+_, _-_, _/_, _≤_}
-use Rattle.pay.specs.Window.{quarterAt, windowPay}
-use Rattle.pay.proofs.Bounds.{quarter-most, run-most}
-use lib.ListN.{getD}
-use Rattle.pay.specs.Sum.{total}
-use Rattle.pay.proofs.Sums.{total-none, total-step}
+use mathlib.Core.Path.{sym, _∙_, ap}
+use Prim.Native.Nat.{ℕ, _*_, _/_}
+use Rattle.pay.proofs.Runs.{lacking-run-most, coal-run-most, deep-window, coal-window, water-window}
 use borrow.Author.Needs.{needs}
 use Rattle.pay.proofs.window.window_pay.Statement.{statement}
 use Rattle.pay.proofs.window.window_pay.Tie as tie
 
-abbrev Inv-loop : tie.InvT-loop
-Inv-loop member service top series start minutes from count sum₀ k₀ sum k = (k ≤ count) × (sum ≡ total (quarterAt member service (top .0) series) from k)
-
-abbrev μ-loop : tie.MeasureT-loop
-μ-loop member service top series start minutes from count sum₀ k₀ sum k = count - k
-
-cast-from : tie.Need-cast-from Inv-loop μ-loop
+cast-from : tie.Need-cast-from
 cast-from c = search needs
 
-cast-count : tie.Need-cast-count Inv-loop μ-loop
+cast-count : tie.Need-cast-count
 cast-count c = search needs
 
-loop-holds : tie.Need-loop-holds Inv-loop μ-loop
-loop-holds c = (search needs, sym (total-none _ _))
+mul-half : tie.Need-mul-half
+mul-half c = search needs
 
-add-t14 : tie.Need-add-t14 Inv-loop μ-loop
-add-t14 c = search needs
+run-lacking-requires : tie.Need-run-lacking-requires
+run-lacking-requires c κs = search needs
 
-mul-t15 : tie.Need-mul-t15 Inv-loop μ-loop
-mul-t15 c = search needs
+mul-deep : tie.Need-mul-deep
+mul-deep c =
+    let a = c .before .before .before .before .before .args in
+    omega (arith, lacking-run-most (5 * (a .member .rated .0)) (a .series .now) (a .start / 15) (a .minutes / 15) (omega arith))
 
-shared-slice-read-t17 : tie.Need-shared-slice-read-t17 Inv-loop μ-loop
-shared-slice-read-t17 c = search needs
+returns : tie.Need-returns
+returns c = ap (λ (k : ℕ). k * 45000) (c .before .run-lacking .ensures) ∙ sym (deep-window _ _ _ _ _ _ (c .before .before .if1 .taken))
 
-quarter-pay-requires : tie.Need-quarter-pay-requires Inv-loop μ-loop
-quarter-pay-requires c κs = search needs
+run-coal-requires : tie.Need-run-coal-requires
+run-coal-requires c κs = search needs
 
-add-sum : tie.Need-add-sum Inv-loop μ-loop
-add-sum c =
-    let l = c .before .before .before .before .loop in
-    let a = c .before .before .before .before .before .before .args in
-    omega (arith, run-most (a .member) (a .service) (a .top .0) (a .series .now) (a .start / 15) (l .k) (omega arith) (omega arith), quarter-most (a .member) (a .service) (a .top .0) (getD (a .series .now) (a .start / 15 + l .k) 0))
+mul-coal : tie.Need-mul-coal
+mul-coal c =
+    let a = c .before .before .before .before .before .before .before .args in
+    omega (arith, coal-run-most (a .member .rated .0) (a .top .0) (a .series .now) (a .start / 15) (a .minutes / 15) (omega arith))
 
-add-k : tie.Need-add-k Inv-loop μ-loop
-add-k c = search needs
+returns-2 : tie.Need-returns-2
+returns-2 c = ap (λ (k : ℕ). k * 15) (c .before .run-coal .ensures) ∙ sym (coal-window _ _ _ _ _ _ (c .before .before .before .before .if1 .left) (c .before .before .if2 .taken))
 
-loop-less : tie.Need-loop-less Inv-loop μ-loop
-loop-less c = search needs
+mul-edge : tie.Need-mul-edge
+mul-edge c = search needs
 
-loop-again : tie.Need-loop-again Inv-loop μ-loop
-unfolding quarterAt
-loop-again c = (search needs, total-step _ _ _ (c .before .before .before .before .loop .inv .1) (c .before .quarter-pay .ensures))
+run-lacking-requires-2 : tie.Need-run-lacking-requires-2
+run-lacking-requires-2 c κs = search needs
 
-returns : tie.Need-returns Inv-loop μ-loop
-unfolding windowPay
-returns c = let e : c .before .loop .k ≡ c .before .before .before .args .minutes / 15 = omega arith in rw (← e) (c .before .loop .inv .1)
+mul-water : tie.Need-mul-water
+mul-water c =
+    let a = c .before .before .before .before .before .before .before .args in
+    omega (arith, lacking-run-most (7 * (a .member .rated .0)) (a .series .now) (a .start / 15) (a .minutes / 15) (omega arith))
+
+returns-3 : tie.Need-returns-3
+returns-3 c = ap (λ (k : ℕ). k * 150) (c .before .run-lacking2 .ensures) ∙ sym (water-window _ _ _ _ _ _ (c .before .before .before .before .if1 .left) (c .before .before .if2 .left))
 
 pub window-pay-spec : {M : Type 1} → statement M
 window-pay-spec =
     tie.close
     (tie.spec
-    Inv-loop
-    μ-loop
     cast-from
     cast-count
-    loop-holds
-    add-t14
-    mul-t15
-    shared-slice-read-t17
-    quarter-pay-requires
-    add-sum
-    add-k
-    loop-less
-    loop-again
-    returns)
+    mul-half
+    run-lacking-requires
+    mul-deep
+    returns
+    run-coal-requires
+    mul-coal
+    returns-2
+    mul-edge
+    run-lacking-requires-2
+    mul-water
+    returns-3)

@@ -5,8 +5,8 @@ use Prim.Native.Nat.{ℕ, _-_, _*_, _≤_}
 use Rattle.score.specs.First.{firstBad}
 use Rattle.score.proofs.First.{first-more, first-le}
 use Rattle.score.specs.Refusing.{ownAt, refusalAt}
-use Rattle.score.specs.Scoring.{payOf, whOf, payAt, whAt}
-use Rattle.score.proofs.Turns.{before-own, skipped, not-refused, score-refused, score-accepted}
+use Rattle.score.specs.Scoring.{payAt, whAt}
+use Rattle.score.proofs.Turns.{before-own, skipped, score-refused, score-accepted}
 use Rattle.book.specs.Book.{callOf}
 use lib.Signed.{mag}
 use Rattle.pay.specs.Sum.{total, totalZ}
@@ -41,37 +41,20 @@ loop-holds c =
     let k = skipped (s .args .member) (s .args .series .now) book (c .first-own .result) (λ k m. before-own (s .args .member .number) book (s .args .count) (c .first-own .result) k (c .first-own .ensures) m) in
     (omega arith, k .refusals, sym (k .pays), omega arith, sym (k .energy), omega arith)
 
-record-at-requires : tie.Need-record-at-requires Inv-loop μ-loop
-record-at-requires c κs = search needs
-
-refusal-requires : tie.Need-refusal-requires Inv-loop μ-loop
-refusal-requires c κs =
-    let s = c .before .before .before .before .before .before in
-    let l = c .before .before .loop in
-    let book = callOf (s .args .b .now) in
-    (omega arith, c .record-at .ensures, λ k m. before-own (s .args .member .number) book (s .args .count) (c .before .before .before .first-own .result) k (c .before .before .before .first-own .ensures) m)
+turn-of-requires : tie.Need-turn-of-requires Inv-loop μ-loop
+turn-of-requires c κs =
+    let s = c .before .before .before .before .before in
+    let f = c .before .before .first-own in
+    (omega arith, omega arith, omega arith, s .pre .4 (c .before .loop .i) (omega arith), λ k m. before-own (s .args .member .number) (callOf (s .args .b .now)) (s .args .count) (f .result) k (f .ensures) m)
 
 returns : tie.Need-returns Inv-loop μ-loop
 returns c =
-    let s = c .before .before .before .before .before .before .before .before in
-    let l = c .before .before .before .before .loop in
-    let book = callOf (s .args .b .now) in
-    let e = c .before .refusal .ensures in
+    let l = c .before .before .before .loop in
+    let e = c .before .turn-of .ensures .refusal in
     ap (λ (n : ℕ). Refused n (l .i)) e ∙ sym (score-refused _ _ _ _ (l .i) (omega arith) (l .inv .1) (λ z. c .if1 .taken (e ∙ z)))
-
-pay-of-requires : tie.Need-pay-of-requires Inv-loop μ-loop
-pay-of-requires c κs =
-    let s = c .before .before .before .before .before .before .before .before in
-    let l = c .before .before .before .before .loop in
-    let book = callOf (s .args .b .now) in
-    let e = c .before .before .record-at .ensures in
-    (omega arith, omega arith, rw e (s .pre .4 (l .i) (omega arith)), not-refused (s .args .member) book (l .i) (c .before .before .record-at .result) e (sym (c .before .refusal .ensures) ∙ c .if1 .left))
 
 add-grains : tie.Need-add-grains Inv-loop μ-loop
 add-grains c = omega arith
-
-wh-of-requires : tie.Need-wh-of-requires Inv-loop μ-loop
-wh-of-requires c κs = search needs
 
 added-requires : tie.Need-added-requires Inv-loop μ-loop
 added-requires c κs = omega arith
@@ -83,18 +66,16 @@ loop-less : tie.Need-loop-less Inv-loop μ-loop
 loop-less c = omega arith
 
 loop-again : tie.Need-loop-again Inv-loop μ-loop
-unfolding payAt whAt
 loop-again c =
-    let s = c .before .before .before .before .before .before .before .before .before .before .before .before in
-    let l = c .before .before .before .before .before .before .before .before .loop in
-    let book = callOf (s .args .b .now) in
-    let e = c .before .before .before .before .before .before .record-at .ensures in (
+    let l = c .before .before .before .before .before .loop in
+    let t = c .before .before .before .turn-of in
+    let z = c .before .before .if1 .left in (
       omega arith,
-      first-more _ (l .i) (l .inv .1) (sym (c .before .before .before .before .before .refusal .ensures) ∙ c .before .before .before .before .if1 .left),
-      total0-step _ (l .i) (l .inv .2) (c .before .before .before .pay-of .ensures .0 ∙ ap (payOf (s .args .member) (s .args .series .now)) e),
+      first-more _ (l .i) (l .inv .1) (sym (t .ensures .refusal) ∙ z),
+      total0-step _ (l .i) (l .inv .2) (t .ensures .pays z),
       omega arith,
-      c .added .ensures ∙ totalZ-step _ (l .i) _ _ (l .inv .4) (c .before .wh-of .ensures .0 ∙ ap (whOf (s .args .member)) e),
-      rw (c .added .ensures) (omega (arith, mag-plus (l .wh .0) (c .before .wh-of .result .0))),
+      c .added .ensures ∙ totalZ-step _ (l .i) _ _ (l .inv .4) (t .ensures .energy z),
+      rw (c .added .ensures) (omega (arith, mag-plus (l .wh .0) (t .result .wh .0))),
     )
 
 month-pay-requires : tie.Need-month-pay-requires Inv-loop μ-loop
@@ -114,12 +95,9 @@ score-records-spec =
     μ-loop
     first-own-requires
     loop-holds
-    record-at-requires
-    refusal-requires
+    turn-of-requires
     returns
-    pay-of-requires
     add-grains
-    wh-of-requires
     added-requires
     add-i
     loop-less

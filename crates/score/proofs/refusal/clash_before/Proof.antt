@@ -2,7 +2,7 @@
 use mathlib.Core.Bool.{_||_, false}
 use lib.Dec.{ltb}
 use Rattle.score.proofs.Turns.{none-before, none-free}
-use borrow.Author.Tests.{not-true}
+use borrow.Author.Tests.{not-true, not-false}
 use native.Mathlib.Omega.{arith}
 use mathlib.Core.Path.{_≡_, sym, _∙_}
 use Prim.Native.Nat.{_-_}
@@ -35,7 +35,9 @@ record-at-requires : tie.Need-record-at-requires Inv-loop μ-loop
 record-at-requires c κs = search needs
 
 clashes-requires : tie.Need-clashes-requires Inv-loop μ-loop
-clashes-requires c κs = search needs
+clashes-requires c κs =
+    let o = c .before .before .before .before .before .is-once in
+    rw (o .ensures) at (not-false (ltb (c .before .before .before .before .before .before .before .args .x .service) 5 || o .result) (c .before .before .before .if1 .left))
 
 returns-2 : tie.Need-returns-2 Inv-loop μ-loop
 unfolding clashAt

@@ -1,0 +1,109 @@
+-- `apportion::ties::give_equal` meets its contract.
+use mathlib.Core.Path.{_≡_, ap, _∙_}
+use Prim.Native.Nat.{ℕ, _+_, _-_, _≤_}
+use native.Mathlib.Omega.{arith}
+use lib.ListN.{length, getD}
+use Rattle.apportion.specs.Turn.{Given}
+use Rattle.apportion.proofs.Loops.{getD-total}
+use Rattle.apportion.proofs.InTurn.{Serving, serving-none, given-none, given-more, serve-step, turn-le}
+use borrow.Author.Needs.{needs}
+use Rattle.apportion.proofs.ties.give_equal.Statement.{statement}
+use Rattle.apportion.proofs.ties.give_equal.Tie as tie
+
+abbrev Inv-loop : tie.InvT-loop
+Inv-loop left most rests₀ shares₀ k₀ i₀ rests shares k i = (i ≤ length rests₀) × Given left rests₀ shares₀ k rests shares × Serving most rests k i
+
+abbrev μ-loop : tie.MeasureT-loop
+μ-loop left most rests₀ shares₀ k₀ i₀ rests shares k i = length rests₀ - i
+
+loop-holds : tie.Need-loop-holds Inv-loop μ-loop
+loop-holds c =
+    let s = c .before .before in
+    (omega arith, given-none (s .args .left) (s .args .rests .now) (s .args .shares .now), serving-none (s .args .most) (s .args .left) (s .args .rests .now) (s .pre .1))
+
+mul-r : tie.Need-mul-r Inv-loop μ-loop
+mul-r c = search needs
+
+slice-read-r : tie.Need-slice-read-r Inv-loop μ-loop
+slice-read-r c = omega arith
+
+one-in-turn-requires : tie.Need-one-in-turn-requires Inv-loop μ-loop
+one-in-turn-requires c κs = search needs
+
+unless-one-requires : tie.Need-unless-one-requires Inv-loop μ-loop
+unless-one-requires c κs = search needs
+
+mul-rests : tie.Need-mul-rests Inv-loop μ-loop
+mul-rests c = search needs
+
+slice-write-rests : tie.Need-slice-write-rests Inv-loop μ-loop
+slice-write-rests c = omega arith
+
+mul-shares : tie.Need-mul-shares Inv-loop μ-loop
+mul-shares c = search needs
+
+slice-read-shares : tie.Need-slice-read-shares Inv-loop μ-loop
+slice-read-shares c = omega arith
+
+add-shares : tie.Need-add-shares Inv-loop μ-loop
+add-shares c =
+    let l = c .before .before .before .before .before .loop in
+    omega (arith, getD-total (l .shares) (l .i), turn-le (c .before .before .one-in-turn .ensures))
+
+mul-shares-2 : tie.Need-mul-shares-2 Inv-loop μ-loop
+mul-shares-2 c = search needs
+
+slice-write-shares : tie.Need-slice-write-shares Inv-loop μ-loop
+slice-write-shares c = omega arith
+
+sub-k : tie.Need-sub-k Inv-loop μ-loop
+sub-k c = turn-le (c .before .before .one-in-turn .ensures)
+
+add-i : tie.Need-add-i Inv-loop μ-loop
+add-i c = search needs
+
+loop-less : tie.Need-loop-less Inv-loop μ-loop
+loop-less c = omega arith
+
+loop-again : tie.Need-loop-again Inv-loop μ-loop
+loop-again c =
+    let s = c .before .before .before .before .before .before .before .before in
+    let l = c .before .before .before .before .before .loop in
+    let x = c .before .before .one-in-turn .result in
+    let t = serve-step (s .args .most) (l .k) x (l .i) (l .rests) (l .shares) (omega arith) (omega arith) (l .inv .2) (c .before .before .one-in-turn .ensures) in
+    rw (c .before .unless-one .ensures) (omega arith, given-more (l .inv .1) (t .0), t .1)
+
+same-length : tie.Need-same-length Inv-loop μ-loop
+same-length c = search needs
+
+same-length-2 : tie.Need-same-length-2 Inv-loop μ-loop
+same-length-2 c = search needs
+
+returns : tie.Need-returns Inv-loop μ-loop
+returns c = c .before .loop .inv .1
+
+pub give-equal-spec : {M : Type 1} → statement M
+give-equal-spec =
+    tie.close
+    (tie.spec
+    Inv-loop
+    μ-loop
+    loop-holds
+    mul-r
+    slice-read-r
+    one-in-turn-requires
+    unless-one-requires
+    mul-rests
+    slice-write-rests
+    mul-shares
+    slice-read-shares
+    add-shares
+    mul-shares-2
+    slice-write-shares
+    sub-k
+    add-i
+    loop-less
+    loop-again
+    same-length
+    same-length-2
+    returns)

@@ -1,0 +1,69 @@
+-- `pay::window::run_coal` meets its contract.
+use native.Mathlib.Omega.{arith}
+use mathlib.Core.Path.{_≡_, sym}
+use Prim.Native.Nat.{_+_, _-_, _≤_}
+use lib.ListN.{getD}
+use Rattle.pay.specs.Sum.{total}
+use Rattle.pay.specs.Window.{coalAt}
+use Rattle.pay.proofs.Sums.{total-none, total-step}
+use Rattle.pay.proofs.Runs.{coal-most, coal-run-most}
+use borrow.Author.Needs.{needs}
+use Rattle.pay.proofs.window.run_coal.Statement.{statement}
+use Rattle.pay.proofs.window.run_coal.Tie as tie
+
+abbrev Inv-loop : tie.InvT-loop
+Inv-loop rated top series from count sum₀ k₀ sum k = (k ≤ count) × (sum ≡ total (coalAt (rated .0) (top .0) series) from k)
+
+abbrev μ-loop : tie.MeasureT-loop
+μ-loop rated top series from count sum₀ k₀ sum k = count - k
+
+loop-holds : tie.Need-loop-holds Inv-loop μ-loop
+loop-holds c = (search needs, sym (total-none _ _))
+
+add-t10 : tie.Need-add-t10 Inv-loop μ-loop
+add-t10 c = search needs
+
+mul-t11 : tie.Need-mul-t11 Inv-loop μ-loop
+mul-t11 c = search needs
+
+shared-slice-read-t13 : tie.Need-shared-slice-read-t13 Inv-loop μ-loop
+shared-slice-read-t13 c = search needs
+
+coal-minute-requires : tie.Need-coal-minute-requires Inv-loop μ-loop
+coal-minute-requires c κs = search needs
+
+add-sum : tie.Need-add-sum Inv-loop μ-loop
+add-sum c =
+    let l = c .before .before .before .before .loop in
+    let a = c .before .before .before .before .before .before .args in
+    omega (arith, coal-run-most (a .rated .0) (a .top .0) (a .series .now) (a .from) (l .k) (omega arith), coal-most (a .rated .0) (a .top .0) (getD (a .series .now) (a .from + l .k) 0))
+
+add-k : tie.Need-add-k Inv-loop μ-loop
+add-k c = search needs
+
+loop-less : tie.Need-loop-less Inv-loop μ-loop
+loop-less c = search needs
+
+loop-again : tie.Need-loop-again Inv-loop μ-loop
+unfolding coalAt
+loop-again c = (search needs, total-step _ _ _ (c .before .before .before .before .loop .inv .1) (c .before .coal-minute .ensures))
+
+returns : tie.Need-returns Inv-loop μ-loop
+returns c = let e : c .before .loop .k ≡ c .before .before .before .args .count = omega arith in rw (← e) (c .before .loop .inv .1)
+
+pub run-coal-spec : {M : Type 1} → statement M
+run-coal-spec =
+    tie.close
+    (tie.spec
+    Inv-loop
+    μ-loop
+    loop-holds
+    add-t10
+    mul-t11
+    shared-slice-read-t13
+    coal-minute-requires
+    add-sum
+    add-k
+    loop-less
+    loop-again
+    returns)

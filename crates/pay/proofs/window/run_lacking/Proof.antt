@@ -1,0 +1,74 @@
+-- `pay::window::run_lacking` meets its contract.
+use native.Mathlib.Omega.{arith}
+use mathlib.Core.Path.{_≡_, sym}
+use Prim.Native.Nat.{_+_, _-_, _≤_}
+use lib.ListN.{getD}
+use Rattle.pay.specs.Sum.{total}
+use Rattle.pay.specs.Window.{lackingAt}
+use Rattle.pay.proofs.Sums.{total-none, total-step}
+use Rattle.pay.proofs.Runs.{lacking-run-most}
+use Rattle.pay.proofs.Bounds.{lacking-most}
+use borrow.Author.Needs.{needs}
+use Rattle.pay.proofs.window.run_lacking.Statement.{statement}
+use Rattle.pay.proofs.window.run_lacking.Tie as tie
+
+abbrev Inv-loop : tie.InvT-loop
+Inv-loop level series from count full sum₀ k₀ sum k = (k ≤ count) × (sum ≡ total (lackingAt (level .0) series) from k)
+
+abbrev μ-loop : tie.MeasureT-loop
+μ-loop level series from count full sum₀ k₀ sum k = count - k
+
+add-t9 : tie.Need-add-t9 Inv-loop μ-loop
+add-t9 c = search needs
+
+loop-holds : tie.Need-loop-holds Inv-loop μ-loop
+loop-holds c = (search needs, sym (total-none _ _))
+
+add-t12 : tie.Need-add-t12 Inv-loop μ-loop
+add-t12 c = search needs
+
+mul-t13 : tie.Need-mul-t13 Inv-loop μ-loop
+mul-t13 c = search needs
+
+shared-slice-read-t15 : tie.Need-shared-slice-read-t15 Inv-loop μ-loop
+shared-slice-read-t15 c = search needs
+
+lacking-requires : tie.Need-lacking-requires Inv-loop μ-loop
+lacking-requires c κs = search needs
+
+add-sum : tie.Need-add-sum Inv-loop μ-loop
+add-sum c =
+    let l = c .before .before .before .before .loop in
+    let a = c .before .before .before .before .before .before .before .args in
+    omega (arith, lacking-run-most (a .level .0) (a .series .now) (a .from) (l .k) (omega arith), lacking-most (a .level .0) (getD (a .series .now) (a .from + l .k) 0))
+
+add-k : tie.Need-add-k Inv-loop μ-loop
+add-k c = search needs
+
+loop-less : tie.Need-loop-less Inv-loop μ-loop
+loop-less c = search needs
+
+loop-again : tie.Need-loop-again Inv-loop μ-loop
+unfolding lackingAt
+loop-again c = (search needs, total-step _ _ _ (c .before .before .before .before .loop .inv .1) (c .before .lacking .ensures))
+
+returns : tie.Need-returns Inv-loop μ-loop
+returns c = let e : c .before .loop .k ≡ c .before .before .before .before .args .count = omega arith in rw (← e) (c .before .loop .inv .1)
+
+pub run-lacking-spec : {M : Type 1} → statement M
+run-lacking-spec =
+    tie.close
+    (tie.spec
+    Inv-loop
+    μ-loop
+    add-t9
+    loop-holds
+    add-t12
+    mul-t13
+    shared-slice-read-t15
+    lacking-requires
+    add-sum
+    add-k
+    loop-less
+    loop-again
+    returns)

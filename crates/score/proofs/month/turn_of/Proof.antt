@@ -1,0 +1,69 @@
+-- `score::month::turn_of` meets its contract.
+use mathlib.Core.Path.{_≡_, sym, _∙_, ap}
+use mathlib.Core.Bool.{true}
+use borrow.Author.Tests.{not-true, not-false}
+use Rattle.book.specs.Book.{callOf}
+use Rattle.pay.specs.Live.{byEnergy}
+use Rattle.score.specs.Scoring.{ownLive}
+use Rattle.score.proofs.Turns.{state-low}
+use Rattle.score.proofs.Energy.{idle-turned}
+use borrow.Author.Needs.{needs}
+use Rattle.score.proofs.month.turn_of.Statement.{statement}
+use Rattle.score.proofs.month.turn_of.Tie as tie
+
+-- the tests are ones of record i
+own : (c : tie.After-is-own-live) → c .is-own-live .result ≡ ownLive (c .before .before .before .before .args .member) (callOf (c .before .before .before .before .args .b .now) (c .before .before .before .before .args .i))
+own c = c .is-own-live .ensures ∙ ap (ownLive (c .before .before .before .before .args .member)) (c .before .record-at .ensures)
+
+is-own : (c : tie.Else1) → ownLive (c .before .before .before .before .before .args .member) (callOf (c .before .before .before .before .before .args .b .now) (c .before .before .before .before .before .args .i)) ≡ true
+is-own c = sym (own (c .before)) ∙ not-false (c .before .is-own-live .result) (c .if1 .left)
+
+energy : (c : tie.After-is-by-energy) → c .is-by-energy .result ≡ byEnergy (c .before .before .before .before .before .before .args .member .kind) (callOf (c .before .before .before .before .before .before .args .b .now) (c .before .before .before .before .before .before .args .i))
+energy c = c .is-by-energy .ensures ∙ ap (byEnergy (c .before .before .before .before .before .before .args .member .kind)) (c .before .before .before .record-at .ensures)
+
+record-at-requires : tie.Need-record-at-requires
+record-at-requires c κs = search needs
+
+is-own-live-requires : tie.Need-is-own-live-requires
+is-own-live-requires c κs = search needs
+
+idle-refusal-requires : tie.Need-idle-refusal-requires
+idle-refusal-requires c κs = search needs
+
+returns : tie.Need-returns
+returns c =
+    let s = c .before .before .before .before .before .before in
+    let o = c .before .before .is-own-live in
+    idle-turned (s .args .member) (s .args .series .now) (callOf (s .args .b .now)) (s .args .i) (state-low _ _ (s .pre .3)) (sym (own (c .before .before)) ∙ not-true (o .result) (c .before .if1 .taken)) _
+    (rw (← c .before .before .before .record-at .ensures) (c .idle-refusal .ensures))
+
+is-by-energy-requires : tie.Need-is-by-energy-requires
+is-by-energy-requires c κs = search needs
+
+energy-turn-requires : tie.Need-energy-turn-requires
+energy-turn-requires c κs = (c .before .before .before .before .before .before .before .pre .2, is-own (c .before .before), sym (energy (c .before)) ∙ c .if2 .taken)
+
+returns-2 : tie.Need-returns-2
+returns-2 c = c .energy-turn .ensures (c .before .before .before .before .before .before .before .before .args .series .now)
+
+live-turn-requires : tie.Need-live-turn-requires
+live-turn-requires c κs =
+    let s = c .before .before .before .before .before .before .before in
+    (s .pre .0, s .pre .1, s .pre .2, s .pre .3, s .pre .4, is-own (c .before .before), sym (energy (c .before)) ∙ c .if2 .left)
+
+returns-3 : tie.Need-returns-3
+returns-3 c = search needs
+
+pub turn-of-spec : {M : Type 1} → statement M
+turn-of-spec =
+    tie.close
+    (tie.spec
+    record-at-requires
+    is-own-live-requires
+    idle-refusal-requires
+    returns
+    is-by-energy-requires
+    energy-turn-requires
+    returns-2
+    live-turn-requires
+    returns-3)
