@@ -1,14 +1,9 @@
 // Reads sharing lines from standard input and prints the statement: R, then number, share and amount of each line.
 use libc::STDIN_FILENO;
-use libc::STDOUT_FILENO;
 use lines::Reader;
 use share::Line;
 use share::Shared;
-use units::Fen;
-use units::SignedFen;
-ghost use mathlib.Core.Path.{_≡_};
 ghost use Prim.Native.Nat.{_<_};
-ghost use lib.IntN.{natAbs};
 
 // The reader; how many more reads are made, none behind the last; and whether the whole input has been seen.
 struct Turn {
@@ -61,33 +56,13 @@ fn read_all() -> Turn {
     turn
 }
 
-// The size of a sum of money, without its sign.
-fn size(x: SignedFen) -> Fen
-    ensures { λ r. ⌜ r .0 ≡ natAbs (x .0) ⌝ }
-{
-    let fen = x.0;
-    if fen < 0 {
-        Fen((!fen) as u64 + 1)
-    } else {
-        Fen(fen as u64)
-    }
-}
-
-fn show(x: SignedFen) {
-    if x.0 < 0 {
-        io::write_all(STDOUT_FILENO, b"-");
-    }
-    let fen = size(x);
-    io::print_decimal(STDOUT_FILENO, fen.0);
-}
-
 fn tell_line(l: Line) {
-    io::print_decimal(STDOUT_FILENO, l.number as u64);
-    io::write_all(STDOUT_FILENO, b" ");
-    show(l.share);
-    io::write_all(STDOUT_FILENO, b" ");
-    show(l.amount);
-    io::write_all(STDOUT_FILENO, b"\n");
+    say::number(l.number as u64);
+    say::text(b" ");
+    say::money(l.share);
+    say::text(b" ");
+    say::money(l.amount);
+    say::text(b"\n");
 }
 
 fn tell_at(i: usize, count: usize, l: Line) {
@@ -107,18 +82,18 @@ fn tell_lines(lines: [Line; 64], count: usize) {
 
 fn tell(s: Shared, count: usize) {
     if s.number == 0 {
-        io::write_all(STDOUT_FILENO, b"total ");
-        show(s.gap);
-        io::write_all(STDOUT_FILENO, b"\n");
+        say::text(b"total ");
+        say::money(s.gap);
+        say::text(b"\n");
         let lines = s.lines;
         tell_lines(lines, count);
         return;
     }
-    io::write_all(STDOUT_FILENO, b"refused ");
-    io::print_decimal(STDOUT_FILENO, s.number as u64);
-    io::write_all(STDOUT_FILENO, b" ");
-    io::print_decimal(STDOUT_FILENO, s.place as u64);
-    io::write_all(STDOUT_FILENO, b"\n");
+    say::text(b"refused ");
+    say::number(s.number as u64);
+    say::text(b" ");
+    say::number(s.place as u64);
+    say::text(b"\n");
 }
 
 fn main() {
@@ -130,5 +105,5 @@ fn main() {
         tell(taken.shared(), count);
         return;
     }
-    io::write_all(STDOUT_FILENO, b"failed to read the lines\n");
+    say::text(b"failed to read the lines\n");
 }

@@ -1,0 +1,210 @@
+// Whole files: read into a lent buffer, and written beside the target, then renamed over it.
+ghost use mathlib.Core.Path.{_≡_};
+ghost use Prim.Native.Nat.{_+_, _≤_};
+ghost use lib.ListN.{length};
+ghost use Rattle.files.specs.Fits.{Fits};
+
+// What became of reading a file: how many bytes it has, or why it was not read.
+pub enum Loaded {
+    Whole(usize),
+    Missing,
+    TooLong,
+    Failed,
+}
+
+// What became of writing a file. Where it is not done, the target is as it was; `Unsure` alone says that the new file stands and its
+// folder could not be brought to the device.
+pub enum Stored {
+    Done,
+    BadName,
+    NotMade,
+    NotWritten,
+    NotRenamed,
+    Unsure,
+}
+
+struct Once {
+    got: usize,
+    failed: bool,
+}
+
+// How many bytes were read, and why reading stopped: 0 the end, 1 a full buffer, 2 a failed read.
+struct Filled {
+    n: usize,
+    end: u8,
+}
+
+// One read. A failed read is no end of the file.
+fn read_once(fd: i32, part: &mut [u8]) -> Once
+    ensures { λ r. ⌜ (r .got ≤ length (now (part .entry))) × (length (now (part .exit)) ≡ length (now (part .entry))) ⌝ }
+{
+    let got = libc::read(fd, part);
+    if got < 0 {
+        return Once {
+            got: 0,
+            failed: true,
+        };
+    }
+    let n = io::count(got, part);
+    Once {
+        got: n,
+        failed: false,
+    }
+}
+
+fn fill(fd: i32, buf: &mut [u8]) -> Filled
+    ensures { λ r. ⌜ (r .n ≤ length (now (buf .entry))) × (length (now (buf .exit)) ≡ length (now (buf .entry))) ⌝ }
+{
+    let mut n: usize = 0;
+    while n < buf.len() {
+        let once = read_once(fd, &mut buf[n..]);
+        if once.failed {
+            return Filled { n, end: 2 };
+        }
+        if once.got == 0 {
+            return Filled { n, end: 0 };
+        }
+        n += once.got;
+    }
+    Filled { n, end: 1 }
+}
+
+// Whether a byte more would come: 0 no, 1 yes, 2 a failed read. A file as long as the buffer is told from a longer one by it.
+fn probe(fd: i32) -> u8 {
+    let mut one = [0u8; 1];
+    let once = read_once(fd, &mut one);
+    if once.failed {
+        return 2;
+    }
+    if once.got == 0 {
+        return 0;
+    }
+    1
+}
+
+fn told(n: usize, end: u8) -> Loaded
+    ensures { λ r. ⌜ Fits n r ⌝ }
+{
+    if end == 0 {
+        return Loaded::Whole(n);
+    }
+    if end == 1 {
+        return Loaded::TooLong;
+    }
+    Loaded::Failed
+}
+
+fn load_from(fd: i32, buf: &mut [u8]) -> Loaded
+    ensures { λ r. ⌜ Fits (length (now (buf .exit))) r ⌝ }
+{
+    let filled = fill(fd, buf);
+    if filled.end == 1 {
+        return told(filled.n, probe(fd));
+    }
+    told(filled.n, filled.end)
+}
+
+// The whole file in the buffer's first bytes, or why not.
+pub fn load(path: &[u8], buf: &mut [u8]) -> Loaded
+    ensures { λ r. ⌜ Fits (length (now (buf .exit))) r ⌝ }
+{
+    let fd = os::open_read(path);
+    if fd < 0 {
+        if os::errno() == libc::ENOENT {
+            return Loaded::Missing;
+        }
+        return Loaded::Failed;
+    }
+    let loaded = load_from(fd, buf);
+    libc::close(fd);
+    loaded
+}
+
+// The bytes into the new file, down to the device; it is closed either way. A close may be the first to tell of a full disk.
+fn put(fd: i32, bytes: &[u8]) -> bool {
+    let whole = io::write_all(fd, bytes);
+    let synced = libc::fsync(fd);
+    let closed = libc::close(fd);
+    whole & (synced == 0) & (closed == 0)
+}
+
+// How long a path's folder part is, its last slash included; 0 where there is none.
+fn folder_end(path: &[u8]) -> usize
+    ensures { λ r. ⌜ r ≤ length (now (path .entry)) ⌝ }
+{
+    let mut n = path.len();
+    while 0 < n {
+        if path[n - 1] == b'/' {
+            return n;
+        }
+        n -= 1;
+    }
+    0
+}
+
+fn sync_at(folder: &[u8]) -> bool {
+    let fd = os::open_read(folder);
+    if fd < 0 {
+        return false;
+    }
+    let synced = libc::fsync(fd);
+    libc::close(fd);
+    synced == 0
+}
+
+// The folder's entry for the path, down to the device.
+fn sync_folder(path: &[u8]) -> bool {
+    let n = folder_end(path);
+    if n == 0 {
+        return sync_at(b".");
+    }
+    sync_at(&path[..n])
+}
+
+// The new file over the target, or away.
+fn settle(path: &[u8], temp: &[u8], written: bool) -> Stored {
+    if !written {
+        os::unlink(temp);
+        return Stored::NotWritten;
+    }
+    if os::rename(temp, path) != 0 {
+        os::unlink(temp);
+        return Stored::NotRenamed;
+    }
+    if sync_folder(path) {
+        return Stored::Done;
+    }
+    Stored::Unsure
+}
+
+fn store_by(path: &[u8], temp: &mut [u8], bytes: &[u8]) -> Stored {
+    let fd = os::create_temp(temp);
+    if fd < 0 {
+        return Stored::NotMade;
+    }
+    libc::fchmod(fd, 0o644);
+    let written = put(fd, bytes);
+    settle(path, temp, written)
+}
+
+// The target's name and .XXXXXX behind it: the new file lies in the target's folder, so that it can be renamed.
+fn temp_name(path: &[u8], name: &mut [u8])
+    requires { ⌜ length (now path) + 7 ≤ length (now name) ⌝ }
+    ensures { λ _. ⌜ length (now (name .exit)) ≡ length (now (name .entry)) ⌝ }
+{
+    let n = path.len();
+    bytes::copy(path, name);
+    bytes::copy(b".XXXXXX", &mut name[n..]);
+}
+
+// The bytes as the whole file, by a new file beside it.
+pub fn store(path: &[u8], bytes: &[u8]) -> Stored {
+    let n = path.len();
+    if 4088 < n {
+        return Stored::BadName;
+    }
+    let mut name = io::buffer();
+    temp_name(path, &mut name);
+    let end = n + 7;
+    store_by(path, &mut name[..end], bytes)
+}

@@ -1,0 +1,158 @@
+-- When an entry is sound, and what an entry says that was read from a line. Assumes nothing.
+use mathlib.Core.Path.{_≡_, refl, ap, sym, _∙_}
+use mathlib.Core.Bool.{Bool, true, false, cond, _&&_, true≢false}
+use mathlib.Core.List.{List, [], _∷_}
+use Prim.Native.Nat.{ℕ, _≤_, _<_}
+use native.Mathlib.Omega.{arith}
+use lib.Dec.{ltb, leb}
+use lib.ListN.{length, getD, take}
+use lib.Seq.{take-all}
+use borrow.Author.Tests.{lt-ltb, le-ltb, ltb-true, leb-true}
+use Rattle.le.proofs.Tests.{joined, each}
+use Rattle.share.specs.Sharing.{soundLine, mostNumber, mostStatus, mostEnergy, mostAssessment}
+use Rattle.pay.specs.Member.{soundLine as soundMember}
+use Rattle.lines.proofs.Rows.{and-false}
+use Rattle.tables.specs.declared.row.Row.{Row}
+use Rattle.tables.specs.declared.register.Entry.{Entry}
+use Rattle.tables.specs.Table.{held}
+use Rattle.tables.specs.Register.{asEntry, blankEntry, lineFor, soundEntry}
+use Rattle.tables.specs.Meaning.{isRow, rowNumbers, sixOf, fair}
+use Rattle.tables.proofs.Rows.{end-row, whole-at}
+
+-- Limits
+
+-- the limits of an entry's numbers
+abbrev pub bounds : Entry → List Bool
+bounds e =
+    leb (e .member .number) 64 ∷ leb 1 (e .member .kind) ∷ leb (e .member .kind) 8 ∷ leb 1 (e .member .rated .0) ∷ leb (e .member .rated .0) 4000000
+    ∷ leb (e .status) mostStatus ∷ leb (e .energy .0) mostEnergy ∷ leb (e .assessment .0) mostAssessment ∷ []
+
+abbrev pub within : Entry → Bool
+within e = joined (leb 1 (e .member .number)) (bounds e)
+
+once : (l n x b s e a : Bool) → (l && n && x && (b && n && s && e && true && a)) ≡ (l && n && x && s && e && a && b)
+once false n x b s e a = refl
+once true false x b s e a = refl
+once true true false b s e a = refl
+once true true true false s e a = sym (and-false (s && e && a))
+once true true true true false e a = refl
+once true true true true true false a = refl
+once true true true true true true true = refl
+once true true true true true true false = refl
+
+-- an entry is sound after a number where it is within its limits and its own number is above that
+pub sound-is : (b : ℕ) (e : Entry) → soundEntry b e ≡ (within e && ltb b (e .member .number))
+unfolding soundEntry soundMember soundLine lineFor
+sound-is b e = go (leb 1 (e .member .number)) (leb (e .member .number) 64) (leb 1 (e .member .kind)) (leb (e .member .kind) 8) (leb 1 (e .member .rated .0)) (leb (e .member .rated .0) 4000000)
+    (ltb b (e .member .number)) (leb (e .status) mostStatus) (leb (e .energy .0) mostEnergy) (leb (e .assessment .0) mostAssessment)
+  where
+    go : (l n k c p q b s e a : Bool) → (l && n && k && c && p && q && (b && n && s && e && true && a)) ≡ (l && n && k && c && p && q && s && e && a && b)
+    go false n k c p q b s e a = refl
+    go true false k c p q b s e a = refl
+    go true true k c p q b s e a = once true true (k && c && p && q) b s e a
+
+-- such an entry is sound by itself
+within-alone : (e : Entry) → within e ≡ true → soundEntry 0 e ≡ true
+within-alone e h =
+    let p = each (leb 1 (e .member .number)) (bounds e) h in
+    sound-is 0 e ∙ rw (h, lt-ltb 0 (e .member .number) (omega (arith, leb-true 1 (e .member .number) (p .0))))
+
+beyond : (b : ℕ) (e : Entry) → within e ≡ false → soundEntry b e ≡ false
+beyond b e h = sound-is b e ∙ rw h
+
+pub sound-alone : (e : Entry) → soundEntry 0 e ≡ within e
+sound-alone e = go (within e) refl
+  where
+    go : (t : Bool) → within e ≡ t → soundEntry 0 e ≡ t
+    go true h = within-alone e h
+    go false h = beyond 0 e h
+
+-- a sound entry has a number above the one before, and at most 64
+pub sound-number : (b : ℕ) (e : Entry) → soundEntry b e ≡ true → (b < e .member .number) × (e .member .number ≤ mostNumber)
+sound-number b e h =
+    let p = each (leb 1 (e .member .number)) (bounds e) in
+    let q = each (within e) (ltb b (e .member .number) ∷ []) (sym (sound-is b e) ∙ h) in
+    (ltb-true b (e .member .number) (q .1 .0), leb-true (e .member .number) mostNumber (p (q .0) .1 .0))
+
+-- a blank entry is never sound
+pub blank-bad : (b : ℕ) → soundEntry b blankEntry ≡ false
+unfolding asEntry
+blank-bad b = beyond b blankEntry refl
+
+-- Fair entries
+
+fair-by : (t : Bool) (e : Entry) → within e ≡ t → fair e ≡ cond t e blankEntry
+unfolding fair
+fair-by t e h = rw (sound-alone e ∙ h)
+
+-- THE NUMBER DECIDES of an entry that was read: it is within its limits, or blank.
+pub fair-rises : (b : ℕ) (e : Entry) → soundEntry b e ≡ ltb b (fair e .member .number)
+unfolding asEntry
+fair-rises b e = go (within e) refl
+  where
+    go : (t : Bool) → within e ≡ t → soundEntry b e ≡ ltb b (fair e .member .number)
+    go true h = sound-is b e ∙ rw (h, fair-by true e h)
+    go false h = beyond b e h ∙ rw (fair-by false e h) (sym (le-ltb b 0 (omega arith)))
+
+pub fair-is : (b : ℕ) (e : Entry) → soundEntry b e ≡ true → e ≡ fair e
+fair-is b e h = go (within e) refl
+  where
+    go : (t : Bool) → within e ≡ t → e ≡ fair e
+    go true k = sym (fair-by true e k)
+    go false k = absurd (true≢false (sym h ∙ beyond b e k))
+
+-- Six numbers
+
+-- the limits that the casts of an entry's numbers need
+abbrev pub Casts : List ℕ → ℕ → Type 0
+Casts d a = (getD d 0 0 ≤ 64) × (getD d 1 0 ≤ 8) × (getD d 2 0 ≤ 4000000) × (getD d 3 0 ≤ mostStatus) × (getD d 4 0 ≤ mostEnergy) × (a ≤ mostAssessment)
+
+-- the entry by the numbers that ended, and the open one
+abbrev pub entryBy : List ℕ → ℕ → Entry
+entryBy d a =
+    record {
+      member = record { number = getD d 0 0; kind = getD d 1 0; rated = record { 0 = getD d 2 0 } };
+      status = getD d 3 0;
+      energy = record { 0 = getD d 4 0 };
+      assessment = record { 0 = a };
+    }
+
+entry-by : (d : List ℕ) (a : ℕ) → length d ≡ 5 → entryBy d a ≡ asEntry (sixOf d a)
+unfolding asEntry
+entry-by [] a h = absurd (omega arith)
+entry-by (n ∷ []) a h = absurd (omega arith)
+entry-by (n ∷ k ∷ []) a h = absurd (omega arith)
+entry-by (n ∷ k ∷ p ∷ []) a h = absurd (omega arith)
+entry-by (n ∷ k ∷ p ∷ s ∷ []) a h = absurd (omega arith)
+entry-by (n ∷ k ∷ p ∷ s ∷ e ∷ []) a h = refl
+entry-by (n ∷ k ∷ p ∷ s ∷ e ∷ x ∷ d) a h = absurd (omega arith)
+
+pub six-limits : (d : List ℕ) (a : ℕ) → within (entryBy d a) ≡ true → Casts d a
+six-limits d a h =
+    let p = each (leb 1 (getD d 0 0)) (bounds (entryBy d a)) h in
+    let q = p .1 in
+    (leb-true _ _ (q .0), leb-true _ _ (q .1 .1 .0), leb-true _ _ (q .1 .1 .1 .1 .0), leb-true _ _ (q .1 .1 .1 .1 .1 .0), leb-true _ _ (q .1 .1 .1 .1 .1 .1 .0), leb-true _ _ (q .1 .1 .1 .1 .1 .1 .1 .0))
+
+pub six-sound : (d : List ℕ) (a : ℕ) → length d ≡ 5 → within (entryBy d a) ≡ true → entryBy d a ≡ fair (asEntry (sixOf d a))
+six-sound d a l h = sym (fair-by true (entryBy d a) h) ∙ ap fair (entry-by d a l)
+
+pub six-bad : (d : List ℕ) (a : ℕ) → length d ≡ 5 → within (entryBy d a) ≡ false → blankEntry ≡ fair (asEntry (sixOf d a))
+six-bad d a l h = sym (fair-by false (entryBy d a) h) ∙ ap fair (entry-by d a l)
+
+-- A line that ends
+
+take-five : (d : List ℕ) → length d ≡ 5 → take 5 d ≡ d
+take-five d h = take-all 5 d (omega arith)
+
+pub entry-whole : (row : Row) (v : ℕ) → row .last ≡ 5 → length (row .ended) ≡ 5 → isRow row [] [] ≡ true → v ≡ held (row .value)
+    → fair (asEntry (sixOf (row .ended) v)) ≡ fair (asEntry (rowNumbers row []))
+entry-whole row v six l h e =
+    let five : take (row .at) (row .ended) ≡ row .ended = ap (λ (n : ℕ). take n (row .ended)) (whole-at row h ∙ six) ∙ take-five (row .ended) l in
+    rw (end-row row, h, five, e)
+
+blank-beyond : within blankEntry ≡ false
+unfolding asEntry
+blank-beyond = refl
+
+pub entry-none : (row : Row) → isRow row [] [] ≡ false → blankEntry ≡ fair (asEntry (rowNumbers row []))
+entry-none row h = rw (end-row row, h) (sym (fair-by false blankEntry blank-beyond))

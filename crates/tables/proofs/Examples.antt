@@ -1,0 +1,125 @@
+-- Texts and what is read of them: a register, a series, a number, and the edges of a line. They show that the definitions are about something.
+use mathlib.Core.Path.{_≡_, refl}
+use mathlib.Core.Bool.{Bool, true, false, _&&_}
+use mathlib.Core.List.{List, [], _∷_, _++_}
+use Prim.Native.Nat.{ℕ}
+use lib.Dec.{eqb}
+use Rattle.share.specs.Sharing.{soundLine}
+use Rattle.pay.specs.Member.{soundLine as soundMember}
+use Rattle.tables.specs.declared.register.Entry.{Entry}
+use Rattle.tables.specs.declared.register.Register.{Register}
+use Rattle.tables.specs.Table.{numbersIn, rowOf, toldOf}
+use Rattle.tables.specs.Register.{asEntry, lineFor, soundEntry, entriesOf, arrayFrom, accepted, judged, readRegister}
+use Rattle.tables.specs.Series.{outputOf, seriesOf, filledWith}
+
+-- Registers
+
+-- "1,2,100,0,50,1000"
+pub first : List ℕ
+first = 49 ∷ 44 ∷ 50 ∷ 44 ∷ 49 ∷ 48 ∷ 48 ∷ 44 ∷ 48 ∷ 44 ∷ 53 ∷ 48 ∷ 44 ∷ 49 ∷ 48 ∷ 48 ∷ 48 ∷ []
+
+-- "7,4,4000000,2,5000000,0"
+pub second : List ℕ
+second = 55 ∷ 44 ∷ 52 ∷ 44 ∷ 52 ∷ 48 ∷ 48 ∷ 48 ∷ 48 ∷ 48 ∷ 48 ∷ 44 ∷ 50 ∷ 44 ∷ 53 ∷ 48 ∷ 48 ∷ 48 ∷ 48 ∷ 48 ∷ 48 ∷ 44 ∷ 48 ∷ []
+
+-- "8,9,1,0,0,0", of a kind that there is not
+ninth : List ℕ
+ninth = 56 ∷ 44 ∷ 57 ∷ 44 ∷ 49 ∷ 44 ∷ 48 ∷ 44 ∷ 48 ∷ 44 ∷ 48 ∷ []
+
+pub firstEntry : Entry
+firstEntry =
+    record {
+      member = record { number = 1; kind = 2; rated = record { 0 = 100 } };
+      status = 0;
+      energy = record { 0 = 50 };
+      assessment = record { 0 = 1000 };
+    }
+
+pub secondEntry : Entry
+secondEntry =
+    record {
+      member = record { number = 7; kind = 4; rated = record { 0 = 4000000 } };
+      status = 2;
+      energy = record { 0 = 5000000 };
+      assessment = record { 0 = 0 };
+    }
+
+-- The first line ends in a carriage return and a line feed, the last in neither.
+pub register-read : readRegister (first ++ 13 ∷ 10 ∷ second) ≡ accepted (firstEntry ∷ secondEntry ∷ [])
+unfolding first second firstEntry secondEntry readRegister judged entriesOf rowOf numbersIn asEntry soundEntry soundMember soundLine lineFor arrayFrom
+register-read = refl
+
+pub record Case : Type 0 where
+  pub text : List ℕ
+  pub number : ℕ
+  pub place : ℕ
+  pub count : ℕ
+
+pub cases : List Case
+cases =
+    record { text = first ++ 10 ∷ second ++ 13 ∷ 10 ∷ []; number = 0; place = 0; count = 2 }
+    ∷ record { text = second ++ 13 ∷ []; number = 0; place = 0; count = 1 }
+    -- no lines; an empty line; one behind a sound line; a carriage return alone
+    ∷ record { text = []; number = 0; place = 0; count = 0 }
+    ∷ record { text = 10 ∷ []; number = 10; place = 0; count = 0 }
+    ∷ record { text = first ++ 10 ∷ 10 ∷ []; number = 10; place = 1; count = 0 }
+    ∷ record { text = 13 ∷ []; number = 10; place = 0; count = 0 }
+    -- two carriage returns; one within a line; a blank; a comma behind; a seventh number
+    ∷ record { text = first ++ 13 ∷ 13 ∷ 10 ∷ []; number = 10; place = 0; count = 0 }
+    ∷ record { text = 13 ∷ first; number = 10; place = 0; count = 0 }
+    ∷ record { text = first ++ 32 ∷ []; number = 10; place = 0; count = 0 }
+    ∷ record { text = first ++ 44 ∷ []; number = 10; place = 0; count = 0 }
+    ∷ record { text = first ++ 44 ∷ 48 ∷ []; number = 10; place = 0; count = 0 }
+    -- an equal number; a lower one; a ninth kind; leading zeros
+    ∷ record { text = first ++ 10 ∷ first; number = 10; place = 1; count = 0 }
+    ∷ record { text = second ++ 10 ∷ first; number = 10; place = 1; count = 0 }
+    ∷ record { text = first ++ 10 ∷ ninth; number = 10; place = 1; count = 0 }
+    ∷ record { text = 48 ∷ 48 ∷ 48 ∷ 48 ∷ 48 ∷ 48 ∷ 48 ∷ 48 ∷ 48 ∷ 48 ∷ 48 ∷ 48 ∷ 48 ∷ first; number = 0; place = 0; count = 1 }
+    ∷ []
+
+pub as-said : Case → Register → Bool
+as-said c r = eqb (r .number) (c .number) && eqb (r .place) (c .place) && eqb (r .count) (c .count)
+
+pub every : List Case → Bool
+every [] = true
+every (c ∷ cs) = as-said c (readRegister (c .text)) && every cs
+
+-- Each text is read as the table says.
+pub reads-as-told : every cases ≡ true
+unfolding every as-said cases first second ninth readRegister judged entriesOf rowOf numbersIn asEntry soundEntry soundMember soundLine lineFor arrayFrom
+reads-as-told = refl
+
+-- Series
+
+-- "12", "1x" and "13"
+pub three : List ℕ
+three = 49 ∷ 50 ∷ 10 ∷ 49 ∷ 120 ∷ 13 ∷ 10 ∷ 49 ∷ 51 ∷ []
+
+-- A line that is no number is told by the largest u32; what is behind the text's last line stays.
+pub series-read : filledWith (9 ∷ 9 ∷ 9 ∷ 9 ∷ []) (seriesOf three) ≡ record { count = 3; values = 12 ∷ 4294967295 ∷ 13 ∷ 9 ∷ [] }
+unfolding three filledWith seriesOf outputOf rowOf numbersIn
+series-read = refl
+
+-- Where there is no room, the rest is not read.
+pub series-short : filledWith (9 ∷ 9 ∷ []) (seriesOf three) ≡ record { count = 2; values = 12 ∷ 4294967295 ∷ [] }
+unfolding three filledWith seriesOf outputOf rowOf numbersIn
+series-short = refl
+
+-- Numbers
+
+-- "42" with a carriage return; nothing; "1,2"; and a number past every limit.
+pub number-read : toldOf (rowOf 1 (52 ∷ 50 ∷ 13 ∷ [])) ≡ record { is = true; number = 42 }
+unfolding toldOf rowOf numbersIn
+number-read = refl
+
+pub nothing-read : toldOf (rowOf 1 []) ≡ record { is = false; number = 0 }
+unfolding toldOf rowOf numbersIn
+nothing-read = refl
+
+pub two-read : toldOf (rowOf 1 (49 ∷ 44 ∷ 50 ∷ [])) ≡ record { is = false; number = 0 }
+unfolding toldOf rowOf numbersIn
+two-read = refl
+
+pub large-read : toldOf (rowOf 1 (57 ∷ 57 ∷ 57 ∷ 57 ∷ 57 ∷ 57 ∷ 57 ∷ 57 ∷ 57 ∷ 57 ∷ 57 ∷ 57 ∷ 57 ∷ 57 ∷ [])) ≡ record { is = true; number = 1000000000000 }
+unfolding toldOf rowOf numbersIn
+large-read = refl

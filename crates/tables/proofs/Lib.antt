@@ -1,0 +1,8 @@
+pub mod Rows
+pub mod Texts
+pub mod Filling
+pub mod Entries
+pub mod Judging
+pub mod Sharing
+pub mod Promises
+pub mod Examples

@@ -1,0 +1,253 @@
+-- What reading a table promises: which lines are good, that a register is its lines in turn, and that no contract leaves a choice.
+use mathlib.Core.Path.{_≡_, refl, ap, sym, _∙_}
+use mathlib.Core.Bool.{Bool, true, false, cond, _&&_}
+use mathlib.Core.List.{List, [], _∷_, _++_, map}
+use Prim.Native.Nat.{ℕ, zero, suc, min, _+_, _-_, _≤_, _<_}
+use native.Mathlib.Omega.{arith}
+use lib.Dec.{ltb, leb, eqb}
+use lib.IntN.{pos}
+use lib.ListN.{length, getD, take, drop, replicate, length-append, length-take, length-drop}
+use borrow.Author.Tests.{ltb-true, ltb-false, lt-ltb, le-ltb, leb-true, leb-false, le-leb, lt-leb}
+use Rattle.le.proofs.Tests.{joined, each}
+use Rattle.units.specs.declared.Fen.{Fen}
+use Rattle.share.specs.declared.Line.{Line}
+use Rattle.share.specs.declared.Shared.{Shared}
+use Rattle.share.specs.Sharing.{sharing, mostNumber, mostStatus, mostEnergy, mostAssessment}
+use Rattle.share.specs.Forms.{arrayOf, counted, sharedArray}
+use Rattle.share.proofs.Counted.{counted-few}
+use Rattle.lines.specs.Text.{numbers, value}
+use Rattle.tables.specs.declared.Told.{Told}
+use Rattle.tables.specs.declared.register.Entry.{Entry}
+use Rattle.tables.specs.declared.register.Register.{Register}
+use Rattle.tables.specs.Table.{plain, cellsOf, ceiling, held, cellValue, numbersIn, rowOf, toldOf}
+use Rattle.tables.specs.Register.{asEntry, blankEntry, lineFor, soundEntry, firstBad, entriesOf, arrayFrom, refusedAt, accepted, judged, readRegister, linesFor, statementOf}
+use Rattle.tables.specs.Series.{Filled, noOutput, outputOf, seriesOf, filledWith}
+use Rattle.tables.proofs.Rows.{by-cells}
+use Rattle.tables.proofs.Entries.{bounds, within, sound-is, sound-number, blank-bad}
+use Rattle.tables.proofs.Sharing.{length-lines}
+
+-- Two outcomes that a contract allows are one
+
+-- a text of one line tells one number, or none
+pub number-determined : (text : List ℕ) (t u : Told) → t ≡ toldOf (rowOf 1 text) → u ≡ toldOf (rowOf 1 text) → t ≡ u
+number-determined text t u e f = e ∙ sym f
+
+-- a text has one register, or one refusal
+pub register-determined : (text : List ℕ) (r s : Register) → r ≡ readRegister text → s ≡ readRegister text → r ≡ s
+register-determined text r s e f = e ∙ sym f
+
+-- a lent list is left in one way, with one count
+pub series-determined : (before text after other : List ℕ) (n m : ℕ) → _≡_ {A = Filled} (record { count = n; values = after }) (filledWith before (seriesOf text))
+    → _≡_ {A = Filled} (record { count = m; values = other }) (filledWith before (seriesOf text)) → (n ≡ m) × (after ≡ other)
+series-determined before text after other n m e f =
+    (ap (λ (r : Filled). r .count) (e ∙ sym f), ap (λ (r : Filled). r .values) (e ∙ sym f))
+
+-- an entry and a compensation have one sharing line
+pub line-determined : (e : Entry) (fen : Fen) (l k : Line) → l ≡ lineFor e fen → k ≡ lineFor e fen → l ≡ k
+line-determined e fen l k p q = p ∙ sym q
+
+-- a register and its members' compensations have one statement
+pub statement-determined : (r : Register) (fens : List Fen) (s t : Shared) → s ≡ statementOf r fens → t ≡ statementOf r fens → s ≡ t
+statement-determined r fens s t e f = e ∙ sym f
+
+-- a count of outputs is one of the list that was lent
+pub series-fits : (before vs after : List ℕ) (n : ℕ) → _≡_ {A = Filled} (record { count = n; values = after }) (filledWith before vs) → n ≤ length after
+unfolding filledWith
+series-fits before vs after n e =
+    let c : n ≡ min (length vs) (length before) = ap (λ (r : Filled). r .count) e in
+    let l : length after ≡ length (take (length before) vs ++ drop (length vs) before) = ap (λ (r : Filled). length (r .values)) e in
+    omega (arith, c, l, length-append (take (length before) vs) (drop (length vs) before), length-take (length before) vs, length-drop (length vs) before)
+
+-- Numbers past every limit
+
+-- a cap above a limit moves no number across it
+capped : (x cap most : ℕ) → most < cap → leb (min x cap) most ≡ leb x most
+capped x cap most h = go (leb x most) refl
+  where
+    go : (t : Bool) → leb x most ≡ t → leb (min x cap) most ≡ t
+    go true e = le-leb (min x cap) most (omega (arith, leb-true x most e))
+    go false e = lt-leb (min x cap) most (omega (arith, leb-false x most e))
+
+at-least-one : (x : ℕ) → leb 1 (held x) ≡ leb 1 x
+at-least-one x = go (leb 1 x) refl
+  where
+    go : (t : Bool) → leb 1 x ≡ t → leb 1 (held x) ≡ t
+    go true e = le-leb 1 (held x) (omega (arith, leb-true 1 x e))
+    go false e = lt-leb 1 (held x) (omega (arith, leb-false 1 x e))
+
+-- Series
+
+-- a line is one decimal number of at most 5,000,000 kW
+abbrev pub isOutput : List (List ℕ) → Bool
+isOutput cells = numbers cells && eqb (length cells) 1 && leb (value 0 (getD cells 0 [])) 5000000
+
+-- THE BAD LINES OF A SERIES are those that scoring refuses with 11: an output is at most 5,000,000 kW just where its line says such a number.
+pub series-value : (l : List ℕ) → leb (outputOf (rowOf 1 l)) 5000000 ≡ isOutput (cellsOf (plain l))
+unfolding rowOf numbersIn outputOf
+series-value l = by-cells (λ cs. leb (outputOf (numbersIn 1 cs)) 5000000 ≡ isOutput cs) one (plain l)
+  where
+    low : (v : ℕ) → leb (min (held v) noOutput) 5000000 ≡ leb v 5000000
+    low v = capped (held v) noOutput 5000000 (omega arith) ∙ capped v ceiling 5000000 (omega arith)
+
+    go : (t : Bool) (v : ℕ) (ns : List ℕ) → leb (outputOf (cond t (held v ∷ ns) [])) 5000000 ≡ (t && leb v 5000000)
+    go true v ns = low v
+    go false v ns = refl
+
+    one : (p : List ℕ) (ps : List (List ℕ)) → leb (outputOf (numbersIn 1 (p ∷ ps))) 5000000 ≡ isOutput (p ∷ ps)
+    one p ps = go (numbers (p ∷ ps) && eqb (length (p ∷ ps)) 1) (value 0 p) (map (λ c. cellValue c) ps)
+
+-- Entries
+
+-- a line is so many decimal numbers
+abbrev pub isRowOf : ℕ → List ℕ → Bool
+isRowOf columns l = numbers (cellsOf (plain l)) && eqb (length (cellsOf (plain l))) columns
+
+-- the numbers of a line as they stand, however large
+abbrev pub written : ℕ → List ℕ → List ℕ
+written columns l = cond (isRowOf columns l) (map (λ c. value 0 c) (cellsOf (plain l))) []
+
+abbrev heldEntry : Entry → Entry
+heldEntry e =
+    record {
+      member = record { number = held (e .member .number); kind = held (e .member .kind); rated = record { 0 = held (e .member .rated .0) } };
+      status = held (e .status);
+      energy = record { 0 = held (e .energy .0) };
+      assessment = record { 0 = held (e .assessment .0) };
+    }
+
+held-at : (cells : List (List ℕ)) (i : ℕ) → getD (map (λ c. cellValue c) cells) i 0 ≡ held (getD (map (λ c. value 0 c) cells) i 0)
+held-at [] i = refl
+held-at (c ∷ cells) zero = refl
+held-at (c ∷ cells) (suc i) = held-at cells i
+
+held-cells : (cells : List (List ℕ)) → asEntry (map (λ c. cellValue c) cells) ≡ heldEntry (asEntry (map (λ c. value 0 c) cells))
+unfolding asEntry
+held-cells cells =
+    λ i. record {
+      member = record { number = held-at cells 0 i; kind = held-at cells 1 i; rated = record { 0 = held-at cells 2 i } };
+      status = held-at cells 3 i;
+      energy = record { 0 = held-at cells 4 i };
+      assessment = record { 0 = held-at cells 5 i };
+    }
+
+held-row : (l : List ℕ) → asEntry (rowOf 6 l) ≡ heldEntry (asEntry (written 6 l))
+unfolding rowOf numbersIn asEntry
+held-row l = go (isRowOf 6 l)
+  where
+    go : (t : Bool) → asEntry (cond t (map (λ c. cellValue c) (cellsOf (plain l))) []) ≡ heldEntry (asEntry (cond t (map (λ c. value 0 c) (cellsOf (plain l))) []))
+    go true = held-cells (cellsOf (plain l))
+    go false = refl
+
+held-within : (e : Entry) → within (heldEntry e) ≡ within e
+held-within e =
+    λ i. joined (at-least-one (e .member .number) i)
+    (capped (e .member .number) ceiling 64 (omega arith) i ∷ at-least-one (e .member .kind) i ∷ capped (e .member .kind) ceiling 8 (omega arith) i
+    ∷ at-least-one (e .member .rated .0) i ∷ capped (e .member .rated .0) ceiling 4000000 (omega arith) i
+    ∷ capped (e .status) ceiling mostStatus (omega arith) i ∷ capped (e .energy .0) ceiling mostEnergy (omega arith) i ∷ capped (e .assessment .0) ceiling mostAssessment (omega arith) i ∷ [])
+
+-- an entry within its limits has no number past them
+held-same : (e : Entry) → within e ≡ true → heldEntry e ≡ e
+held-same e h =
+    let p = each (leb 1 (e .member .number)) (bounds e) h in
+    let q = p .1 in
+    let n : held (e .member .number) ≡ e .member .number = omega (arith, leb-true (e .member .number) 64 (q .0)) in
+    let k : held (e .member .kind) ≡ e .member .kind = omega (arith, leb-true (e .member .kind) 8 (q .1 .1 .0)) in
+    let r : held (e .member .rated .0) ≡ e .member .rated .0 = omega (arith, leb-true (e .member .rated .0) 4000000 (q .1 .1 .1 .1 .0)) in
+    let s : held (e .status) ≡ e .status = omega (arith, leb-true (e .status) mostStatus (q .1 .1 .1 .1 .1 .0)) in
+    let w : held (e .energy .0) ≡ e .energy .0 = omega (arith, leb-true (e .energy .0) mostEnergy (q .1 .1 .1 .1 .1 .1 .0)) in
+    let a : held (e .assessment .0) ≡ e .assessment .0 = omega (arith, leb-true (e .assessment .0) mostAssessment (q .1 .1 .1 .1 .1 .1 .1 .0)) in
+    λ i. record { member = record { number = n i; kind = k i; rated = record { 0 = r i } }; status = s i; energy = record { 0 = w i }; assessment = record { 0 = a i } }
+
+held-sound : (before : ℕ) (e : Entry) → soundEntry before (heldEntry e) ≡ soundEntry before e
+held-sound before e = go (within e) refl
+  where
+    go : (t : Bool) → within e ≡ t → soundEntry before (heldEntry e) ≡ soundEntry before e
+    go true h = ap (soundEntry before) (held-same e h)
+    go false h = sound-is before (heldEntry e) ∙ rw (held-within e, h) (sym (sound-is before e ∙ rw h))
+
+-- HOLDING A NUMBER CHANGES NO JUDGEMENT: a line is sound just where its numbers are as they stand,
+pub entry-sound : (before : ℕ) (l : List ℕ) → soundEntry before (asEntry (rowOf 6 l)) ≡ soundEntry before (asEntry (written 6 l))
+entry-sound before l = ap (soundEntry before) (held-row l) ∙ held-sound before (asEntry (written 6 l))
+
+-- and a sound line's entry has its numbers as they stand.
+pub entry-as-written : (before : ℕ) (l : List ℕ) → soundEntry before (asEntry (written 6 l)) ≡ true → asEntry (rowOf 6 l) ≡ asEntry (written 6 l)
+entry-as-written before l h =
+    let p = each (within (asEntry (written 6 l))) (ltb before (asEntry (written 6 l) .member .number) ∷ []) (sym (sound-is before (asEntry (written 6 l))) ∙ h) in
+    held-row l ∙ held-same (asEntry (written 6 l)) (p .0)
+
+-- A line that is not six numbers is never sound.
+pub bad-line : (before : ℕ) (l : List ℕ) → isRowOf 6 l ≡ false → soundEntry before (asEntry (rowOf 6 l)) ≡ false
+unfolding rowOf numbersIn
+bad-line before l h = rw h (blank-bad before)
+
+-- Registers
+
+-- The lowest line that is not sound is refused, with 10.
+pub lowest-bad : (text : List ℕ) → firstBad 0 (entriesOf text) < length (entriesOf text) → readRegister text ≡ refusedAt (firstBad 0 (entriesOf text))
+unfolding readRegister judged
+lowest-bad text h = rw (lt-ltb (firstBad 0 (entriesOf text)) (length (entriesOf text)) h)
+
+-- Where every line is sound, all are taken.
+pub all-taken : (text : List ℕ) → length (entriesOf text) ≤ firstBad 0 (entriesOf text) → readRegister text ≡ accepted (entriesOf text)
+unfolding readRegister judged
+all-taken text h = rw (le-ltb (firstBad 0 (entriesOf text)) (length (entriesOf text)) h)
+
+-- numbers rise strictly from above a number on
+abbrev pub Rising : ℕ → List Entry → Type 0
+Rising before [] = Unit {0}
+Rising before (e ∷ es) = (before < e .member .number) × Rising (e .member .number) es
+
+sound-rising : (before : ℕ) (es : List Entry) → before ≤ mostNumber → length es ≤ firstBad before es → (before + length es ≤ mostNumber) × Rising before es
+sound-rising before [] h k = (omega arith, tt)
+sound-rising before (e ∷ es) h k = go (soundEntry before e) refl k (sound-rising (e .member .number) es)
+  where
+    go : (t : Bool) → soundEntry before e ≡ t → suc (length es) ≤ cond t (suc (firstBad (e .member .number) es)) 0
+        → (e .member .number ≤ mostNumber → length es ≤ firstBad (e .member .number) es → (e .member .number + length es ≤ mostNumber) × Rising (e .member .number) es)
+        → (before + suc (length es) ≤ mostNumber) × Rising before (e ∷ es)
+    go false s k rec = absurd (omega arith)
+    go true s k rec =
+        let n = sound-number before e s in
+        let r = rec (n .1) (omega arith) in
+        (omega (arith, n .0, r .0), (n .0, r .1))
+
+-- A REGISTER THAT IS ACCEPTED is that of all its lines, at most 64, and their numbers rise.
+pub register-at-most-64 : (text : List ℕ) → readRegister text .number ≡ 0
+    → (readRegister text ≡ accepted (entriesOf text)) × (length (entriesOf text) ≤ 64) × Rising 0 (entriesOf text)
+register-at-most-64 text h = go (ltb (firstBad 0 (entriesOf text)) (length (entriesOf text))) refl
+  where
+    go : (t : Bool) → ltb (firstBad 0 (entriesOf text)) (length (entriesOf text)) ≡ t
+        → (readRegister text ≡ accepted (entriesOf text)) × (length (entriesOf text) ≤ 64) × Rising 0 (entriesOf text)
+    go true e =
+        let ten : readRegister text .number ≡ 10 = ap (λ (r : Register). r .number) (lowest-bad text (ltb-true _ _ e)) in
+        absurd (omega arith)
+    go false e =
+        let all = ltb-false (firstBad 0 (entriesOf text)) (length (entriesOf text)) e in
+        let s = sound-rising 0 (entriesOf text) (omega arith) all in
+        (all-taken text all, omega (arith, s .0), s .1)
+
+-- The statement
+
+first-lines : (es xs : List Entry) (fens : List Fen) → take (length es) (linesFor (es ++ xs) fens) ≡ linesFor es fens
+first-lines [] xs fens = refl
+first-lines (e ∷ es) xs fens = ap (λ (ls : List Line). lineFor e (getD fens 0 (record { 0 = 0 })) ∷ ls) (first-lines es xs (drop 1 fens))
+
+counted-lines : (es : List Entry) (fens : List Fen) → counted (linesFor (arrayFrom es) fens) (length es) ≡ linesFor es fens
+unfolding arrayFrom
+counted-lines es fens =
+    let xs = replicate (mostNumber - length es) blankEntry in
+    counted-few (linesFor (es ++ xs) fens) (length es) (omega (arith, length-lines (es ++ xs) fens, length-append es xs)) ∙ first-lines es xs fens
+
+statement-all : (es : List Entry) (fens : List Fen) → statementOf (accepted es) fens ≡ arrayOf (linesFor (arrayFrom es) fens) (sharing (linesFor es fens))
+unfolding statementOf sharedArray
+statement-all es fens = ap (λ (ls : List Line). arrayOf (linesFor (arrayFrom es) fens) (sharing ls)) (counted-lines es fens)
+
+-- THE STATEMENT OF A REGISTER that is accepted is the sharing of its lines, each with its member's compensation.
+pub statement-shared : (text : List ℕ) (fens : List Fen) → readRegister text .number ≡ 0
+    → statementOf (readRegister text) fens ≡ arrayOf (linesFor (readRegister text .entries) fens) (sharing (linesFor (entriesOf text) fens))
+statement-shared text fens h = rw (register-at-most-64 text h .0) (statement-all (entriesOf text) fens)
+
+-- Of a register that was refused it is that refusal: number and place, no gap, no share.
+pub statement-refused : (place : ℕ) (fens : List Fen)
+    → statementOf (refusedAt place) fens ≡ record { number = 10; place = place; gap = record { 0 = pos 0 }; lines = linesFor (arrayFrom []) fens }
+unfolding statementOf
+statement-refused place fens = refl

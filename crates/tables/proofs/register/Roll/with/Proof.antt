@@ -1,0 +1,63 @@
+-- `tables::register::Roll::with` meets its contract.
+use mathlib.Core.List.{[]}
+use native.Mathlib.Omega.{arith}
+use Rattle.tables.specs.Meaning.{rowNumbers, outcome}
+use Rattle.tables.proofs.Judging.{with-refused, with-bad, with-full, with-sound}
+use borrow.Author.Needs.{needs}
+use Rattle.tables.proofs.register.Roll.with.Statement.{statement}
+use Rattle.tables.proofs.register.Roll.with.Tie as tie
+
+returns : tie.Need-returns
+returns c = with-refused (c .before .args .self) (rowNumbers (c .before .args .row) []) (c .if1 .taken)
+
+entry-of-requires : tie.Need-entry-of-requires
+entry-of-requires c κs = search needs
+
+refuse-requires : tie.Need-refuse-requires
+refuse-requires c κs = search needs
+
+returns-2 : tie.Need-returns-2
+returns-2 c =
+    let a = c .before .before .before .before .before .before .args in
+    let e = c .before .before .before .before .entry-of in
+    with-bad (a .self) (rowNumbers (a .row) []) (e .result) (c .before .before .before .before .before .if1 .left) (e .ensures) (c .refuse .result) (c .refuse .ensures) (c .before .if2 .taken)
+
+refuse-requires-2 : tie.Need-refuse-requires-2
+refuse-requires-2 c κs = search needs
+
+returns-3 : tie.Need-returns-3
+returns-3 c =
+    let a = c .before .before .before .before .before .before .before .args in
+    let e = c .before .before .before .before .before .entry-of in
+    with-full (a .self) (rowNumbers (a .row) []) (e .result) (c .before .before .before .before .before .before .if1 .left) (e .ensures) (c .refuse2 .result) (c .refuse2 .ensures) (c .before .if3 .taken)
+
+mul-entries : tie.Need-mul-entries
+mul-entries c = search needs
+
+array-set-from-entries : tie.Need-array-set-from-entries
+array-set-from-entries c = search needs
+
+add-t7 : tie.Need-add-t7
+add-t7 c = search needs
+
+returns-4 : tie.Need-returns-4
+unfolding outcome
+returns-4 c =
+    let a = c .before .before .before .before .before .before .before .args in
+    let e = c .before .before .before .before .before .entry-of in
+    with-sound (a .self) (rowNumbers (a .row) []) (e .result) (c .before .before .before .before .before .before .if1 .left) (e .ensures) (c .before .before .if2 .left) (omega (arith, c .before .if3 .left))
+
+pub with-spec : {M : Type 1} → statement M
+with-spec =
+    tie.close
+    (tie.spec
+    returns
+    entry-of-requires
+    refuse-requires
+    returns-2
+    refuse-requires-2
+    returns-3
+    mul-entries
+    array-set-from-entries
+    add-t7
+    returns-4)

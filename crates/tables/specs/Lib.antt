@@ -1,0 +1,4 @@
+pub mod Table
+pub mod Register
+pub mod Series
+pub mod Meaning

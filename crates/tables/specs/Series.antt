@@ -1,0 +1,32 @@
+-- The series of a member: a line a quarter hour, of one number, the mean output in kW. Assumes nothing.
+use mathlib.Core.Bool.{cond}
+use mathlib.Core.List.{List, _++_, map}
+use Prim.Native.Nat.{ℕ, min}
+use lib.ListN.{length, getD, take, drop}
+use Rattle.lines.specs.Text.{some, linesOf}
+use Rattle.tables.specs.Table.{rowOf}
+
+-- the largest u32 is no output: it stands for a line that is no number, and scoring refuses it with 11 at its index
+abbrev pub noOutput : ℕ
+noOutput = 4294967295
+
+-- the output that a line's numbers say
+unfoldable pub outputOf : List ℕ → ℕ
+outputOf ns = cond (some ns) (min (getD ns 0 0) noOutput) noOutput
+
+-- the outputs of a text
+unfoldable pub seriesOf : List ℕ → List ℕ
+seriesOf text = map (λ l. outputOf (rowOf 1 l)) (linesOf text)
+
+-- a lent list after reading, and how many of its values are of the text
+pub record Filled : Type 0 where
+  pub count : ℕ
+  pub values : List ℕ
+
+-- the first values are the text's, as many as there is room for; those behind them stay
+unfoldable pub filledWith : List ℕ → List ℕ → Filled
+filledWith before vs =
+    record {
+      count = min (length vs) (length before);
+      values = take (length before) vs ++ drop (length vs) before;
+    }

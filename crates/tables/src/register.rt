@@ -1,0 +1,265 @@
+// The register of a month: a line a member, and the statement of its members' scores.
+use crate::row::Row;
+use crate::row::hold;
+use pay::Member;
+use share::Line;
+use share::Shared;
+use units::Fen;
+use units::Kw;
+use units::Mwh;
+use units::SignedFen;
+use units::Thousandths;
+ghost use mathlib.Core.Path.{_≡_};
+ghost use mathlib.Core.Bool.{true};
+ghost use mathlib.Core.List.{List, [], _∷_};
+ghost use Prim.Native.Nat.{ℕ};
+ghost use lib.ListN.{replicate};
+ghost use Rattle.share.specs.Sharing.{mostNumber};
+ghost use Rattle.share.specs.Forms.{blank};
+ghost use Rattle.tables.specs.Register.{asEntry, blankEntry, lineFor, arrayFrom, readRegister, linesFor, statementOf};
+ghost use Rattle.tables.specs.Meaning.{rowNumbers, rowsFrom, sixOf, fair, judgeFrom, outcome};
+
+// A member, and what its sharing line needs besides its compensation.
+pub struct Entry {
+    pub member: Member,
+    pub status: u8,
+    pub energy: Mwh,
+    pub assessment: Thousandths,
+}
+
+// The answer: 10 and a place, or zeros, how many entries there are, and the entries.
+pub struct Register {
+    pub number: u32,
+    pub place: usize,
+    pub count: usize,
+    pub entries: [Entry; 64],
+}
+
+// How many entries were sound, the number of the last of them (else 0), and the entries; `refused`: the one after them was not.
+pub struct Roll {
+    pub refused: bool,
+    pub before: u16,
+    pub count: usize,
+    pub entries: [Entry; 64],
+}
+
+// An entry that is never sound.
+fn blank_entry() -> Entry
+    ensures { λ r. ⌜ r ≡ blankEntry ⌝ }
+{
+    Entry {
+        member: Member {
+            number: 0,
+            kind: 0,
+            rated: Kw(0),
+        },
+        status: 0,
+        energy: Mwh(0),
+        assessment: Thousandths(0),
+    }
+}
+
+fn blank_entries() -> [Entry; 64]
+    ensures { λ r. ⌜ r ≡ arrayFrom [] ⌝ }
+{
+    let none = blank_entry();
+    [none; 64]
+}
+
+// The entry of six numbers, or a blank one where a number is past its limit.
+fn typed(ended: [u64; 5], assessed: u64) -> Entry
+    ensures { λ r. ⌜ r ≡ fair (asEntry (sixOf ended assessed)) ⌝ }
+{
+    let n = ended[0];
+    let k = ended[1];
+    let p = ended[2];
+    let s = ended[3];
+    let e = ended[4];
+    let member = (1 <= n) & (n <= 64) & (1 <= k) & (k <= 8) & (1 <= p) & (p <= 4_000_000);
+    if member & (s <= 2) & (e <= 5_000_000) & (assessed <= 10_000_000) {
+        return Entry {
+            member: Member {
+                number: n as u16,
+                kind: k as u8,
+                rated: Kw(p as u32),
+            },
+            status: s as u8,
+            energy: Mwh(e as u32),
+            assessment: Thousandths(assessed as u32),
+        };
+    }
+    blank_entry()
+}
+
+// The entry that a line says, if it ends here.
+fn entry_of(row: Row) -> Entry
+    requires { ⌜ row .last ≡ 5 ⌝ }
+    ensures { λ r. ⌜ r ≡ fair (asEntry (rowNumbers row [])) ⌝ }
+{
+    if row.is_whole() {
+        let ended = row.ended;
+        return typed(ended, hold(row.value));
+    }
+    blank_entry()
+}
+
+impl Roll {
+    // The roll before any line.
+    fn start() -> Roll
+        ensures { λ r. ⌜ ((rows : List (List ℕ)) → outcome r rows ≡ judgeFrom 0 (arrayFrom []) 0 rows) ⌝ }
+    {
+        let entries = blank_entries();
+        Roll {
+            refused: false,
+            before: 0,
+            count: 0,
+            entries,
+        }
+    }
+
+    fn refuse(mut self) -> Roll
+        ensures { λ r. ⌜ (r .refused ≡ true) × (r .count ≡ self .count) ⌝ }
+    {
+        self.refused = true;
+        self
+    }
+
+    // The roll after the end of a line. An entry that was read is within its limits or blank: its number decides.
+    fn with(self, row: Row) -> Roll
+        requires { ⌜ row .last ≡ 5 ⌝ }
+        ensures { λ r. ⌜ ((rows : List (List ℕ)) → outcome r rows ≡ outcome self (rowNumbers row [] ∷ rows)) ⌝ }
+    {
+        if self.refused {
+            return self;
+        }
+        let e = entry_of(row);
+        if e.member.number <= self.before {
+            return self.refuse();
+        }
+        let at = self.count;
+        if 63 < at {
+            return self.refuse();
+        }
+        let mut entries = self.entries;
+        entries[at] = e;
+        Roll {
+            refused: false,
+            before: e.member.number,
+            count: at + 1,
+            entries,
+        }
+    }
+
+    // The answer where no line follows.
+    fn answer(self) -> Register
+        ensures { λ r. ⌜ r ≡ outcome self [] ⌝ }
+    {
+        if self.refused {
+            let none = blank_entries();
+            return Register {
+                number: 10,
+                place: self.count,
+                count: 0,
+                entries: none,
+            };
+        }
+        let entries = self.entries;
+        Register {
+            number: 0,
+            place: 0,
+            count: self.count,
+            entries,
+        }
+    }
+
+    // The answer where the text ends in this row: a line that was begun ends here.
+    fn ended(self, row: Row) -> Register
+        requires { ⌜ row .last ≡ 5 ⌝ }
+        ensures { λ r. ⌜ r ≡ outcome self (rowsFrom row []) ⌝ }
+    {
+        if row.is_begun() {
+            let closed = self.with(row);
+            return closed.answer();
+        }
+        self.answer()
+    }
+}
+
+// What a register's text says. The roll is large: between line feeds only the row moves.
+pub fn read_register(text: &[u8]) -> Register
+    ensures { λ r. ⌜ r ≡ readRegister (now (text .entry)) ⌝ }
+{
+    let mut row = Row::start(5);
+    let mut roll = Roll::start();
+    let mut i: usize = 0;
+    while i < text.len() {
+        let b = text[i];
+        if b == b'\n' {
+            roll = roll.with(row);
+            row = Row::start(5);
+        } else {
+            row = row.step(b);
+        }
+        i += 1;
+    }
+    roll.ended(row)
+}
+
+impl Entry {
+    // The sharing line of an entry whose member is compensated so.
+    pub fn line(self, fen: Fen) -> Line
+        ensures { λ r. ⌜ r ≡ lineFor self fen ⌝ }
+    {
+        let energy = self.energy;
+        let assessment = self.assessment;
+        Line {
+            number: self.member.number,
+            status: self.status,
+            energy,
+            compensation: fen,
+            assessment,
+            share: SignedFen(0),
+            amount: SignedFen(0),
+        }
+    }
+}
+
+fn blank_lines() -> [Line; 64]
+    ensures { λ r. ⌜ r ≡ replicate mostNumber blank ⌝ }
+{
+    let none = blank_entry();
+    let line = none.line(Fen(0));
+    [line; 64]
+}
+
+// The sharing lines of entries whose members are compensated so, in turn.
+fn lines_for(entries: [Entry; 64], fens: [Fen; 64]) -> [Line; 64]
+    ensures { λ r. ⌜ r ≡ linesFor entries fens ⌝ }
+{
+    let mut lines = blank_lines();
+    let mut i: usize = 0;
+    while i < 64 {
+        lines[i] = entries[i].line(fens[i]);
+        i += 1;
+    }
+    lines
+}
+
+impl Register {
+    // The month's statement: the gap shared, where each member is compensated so; or the register's refusal.
+    pub fn statement(self, fens: [Fen; 64]) -> Shared
+        ensures { λ r. ⌜ r ≡ statementOf self fens ⌝ }
+    {
+        let entries = self.entries;
+        let lines = lines_for(entries, fens);
+        if self.number == 0 {
+            return share::share(lines, self.count);
+        }
+        Shared {
+            number: self.number,
+            place: self.place,
+            gap: SignedFen(0),
+            lines,
+        }
+    }
+}
