@@ -28,14 +28,14 @@ fen-determined g x y p q = cc
 pub thousandths-determined : (t x y : ℕ) → x ≡ t * fenPerThousandth → y ≡ t * fenPerThousandth → x ≡ y
 thousandths-determined t x y p q = cc
 
--- 60,000 grains are a fen, and a point is 1,000 yuan, 100,000 fen, by both conversions
-pub one-fen : fenOf grainsPerFen ≡ 1
+-- so many times the grains of a fen are so many fen; and a point is 1,000 yuan, 100,000 fen, by both conversions
+pub whole-fen : (n : ℕ) → fenOf (n * grainsPerFen) ≡ n
 unfolding fenOf grainsPerFen
-one-fen = refl
+whole-fen n = omega arith
 
-pub one-point : (fenOf grainsPerPoint ≡ 100000) × (1000 * fenPerThousandth ≡ 100000)
+pub whole-points : (n : ℕ) → fenOf (n * grainsPerPoint) ≡ n * 1000 * fenPerThousandth
 unfolding fenOf grainsPerPoint fenPerThousandth
-one-point = (refl, refl)
+whole-points n = omega arith
 
 -- the paper's two sums: 29,999 grains are 0 fen, 30,000 are 1
 pub below-half : fenOf 29999 ≡ 0
