@@ -17,7 +17,8 @@ use Rattle.call.specs.Key.{key, keyOf}
 use Rattle.call.specs.Revising.{contestedOf}
 use Rattle.call.specs.Layout.{callBytes}
 use Rattle.book.specs.declared.Verdict.{Verdict}
-use Rattle.book.specs.Book.{sizeOf, countOf, callOf, callsFrom, callsOf}
+use Rattle.book.specs.Book.{sizeOf, headerOf, countOf, callOf, callsFrom, callsOf}
+use Rattle.book.specs.Check.{monthOf}
 use Rattle.book.proofs.Exact.{accepted-sound}
 use Rattle.rule.specs.declared.Decision.{Decision}
 use Rattle.rule.specs.declared.Decision.the-variants.{First, Second, Struck}
@@ -25,15 +26,17 @@ use Rattle.rule.specs.Standing.{sameCall, isContested, isWithdrawn, decision, g
 use Rattle.rule.specs.Whole.{recordOf}
 use Rattle.rule.proofs.Keyed.{find-hit, find-miss}
 use Rattle.rule.proofs.Joins.{standOf}
+use Rattle.rule.proofs.Bounds.{join-find}
 use Rattle.join.specs.declared.lookup.Place.{Place}
-use Rattle.join.specs.Joining.{screened, joining}
+use Rattle.join.specs.Joining.{screened, joinedOf, joining}
 use Rattle.join.specs.Lookup.{placeIn, placed, standsAt, chosen, whichOf, LiesAt, Found}
 use Rattle.join.specs.Trees.{written}
-use Rattle.join.proofs.Screening.{Screened, screen-passes}
+use Rattle.join.proofs.Screening.{Screened, passed-screen, screen-passes}
 use Rattle.join.proofs.Books.{size, has}
 use Rattle.join.proofs.Copies.{record-part}
 use Rattle.join.proofs.Places.{which-refused, which-chosen, which-first, which-second}
-use Rattle.join.proofs.Accepted.{accepts, record-joined}
+use Rattle.join.proofs.Trees.{sound-calls}
+use Rattle.join.proofs.Accepted.{accepts, one-header, reads-joined}
 
 -- the place of a key, and the record that the calls have for it
 abbrev Finds : List ℕ → ℕ → ℕ → ℕ → Type 0
@@ -93,8 +96,8 @@ struck-neither x y e =
     let l = struck-live x y e in
     (λ f. eqb-false _ _ (l .0) (ap (λ (c : Call). c .state) f), λ f. eqb-false _ _ (l .1) (ap (λ (c : Call). c .state) f))
 
--- two books of which the join is accepted, and a key
-module _ (a b out : List ℕ) (small-a : IsBytes a) (small-b : IsBytes b) (z : joining a b out .number ≡ 0) (participant number : ℕ) where
+-- two books that joining refuses with none of 1 to 7 and 21 to 26, and a key
+module _ (a b : List ℕ) (small-a : IsBytes a) (small-b : IsBytes b) (z : screened a b .number ≡ 0) (participant number : ℕ) where
   k : ℕ
   k = key participant number
 
@@ -105,29 +108,32 @@ module _ (a b out : List ℕ) (small-a : IsBytes a) (small-b : IsBytes b) (z : j
   j = placeIn b k 0 (countOf b)
 
   screen : Screened a b
-  screen = accepts a b out z .screen
+  screen = passed-screen a b z
 
   which-is : whichOf a b participant number ≡ chosen a (countOf a) i b (countOf b) j
   unfolding k i j
   which-is = sym (which-chosen a b participant number (ap (λ (v : Verdict). v .number) (sym (screen-passes a b (screen .first) (screen .second) (screen .month)))))
 
-  joined-is : recordOf k (callsOf (written (joining a b out))) ≡ standOf (recordOf k (callsOf a)) (recordOf k (callsOf b))
-  joined-is = record-joined a b out (accepted-sound a small-a (screen .first) .0) (accepted-sound b small-b (screen .second) .0) z k
+  joined-is : recordOf k (joinedOf a b) ≡ standOf (recordOf k (callsOf a)) (recordOf k (callsOf b))
+  unfolding joinedOf
+  joined-is =
+      join-find (monthOf (headerOf a)) k (callsOf a) (callsOf b) (sound-calls a (accepted-sound a small-a (screen .first) .0))
+      (rw (sym (one-header (headerOf a) (headerOf b) (screen .month))) at (sound-calls b (accepted-sound b small-b (screen .second) .0)))
 
   -- the ways in which the key may lie
   data Ways : Type 0 where
-    nowhere : recordOf k (callsOf (written (joining a b out))) ≡ none → whichOf a b participant number ≡ placed 0 0 → Ways
-    in-first : recordOf k (callsOf a) ≡ some (callOf a i) → recordOf k (callsOf (written (joining a b out))) ≡ some (callOf a i) → whichOf a b participant number ≡ placed 1 i → Ways
-    in-second : recordOf k (callsOf b) ≡ some (callOf b j) → recordOf k (callsOf (written (joining a b out))) ≡ some (callOf b j) → whichOf a b participant number ≡ placed 2 j → Ways
+    nowhere : recordOf k (joinedOf a b) ≡ none → whichOf a b participant number ≡ placed 0 0 → Ways
+    in-first : recordOf k (callsOf a) ≡ some (callOf a i) → recordOf k (joinedOf a b) ≡ some (callOf a i) → whichOf a b participant number ≡ placed 1 i → Ways
+    in-second : recordOf k (callsOf b) ≡ some (callOf b j) → recordOf k (joinedOf a b) ≡ some (callOf b j) → whichOf a b participant number ≡ placed 2 j → Ways
     struck : recordOf k (callsOf a) ≡ some (callOf a i) → recordOf k (callsOf b) ≡ some (callOf b j) → decision (callOf a i) (callOf b j) ≡ Struck
-        → recordOf k (callsOf (written (joining a b out))) ≡ some (contestedOf (callOf a i)) → whichOf a b participant number ≡ placed 0 0 → Ways
+        → recordOf k (joinedOf a b) ≡ some (contestedOf (callOf a i)) → whichOf a b participant number ≡ placed 0 0 → Ways
 
   ways : Ways
   unfolding i j k chosen standOf given standsAt standing
   ways = go (in-book a k) (in-book b k)
     where
       both : (d : Decision) → decision (callOf a i) (callOf b j) ≡ d → i < countOf a → j < countOf b → recordOf k (callsOf a) ≡ some (callOf a i) → recordOf k (callsOf b) ≡ some (callOf b j)
-          → recordOf k (callsOf (written (joining a b out))) ≡ some (given d (callOf a i) (callOf b j)) → whichOf a b participant number ≡ standsAt d i j → Ways
+          → recordOf k (joinedOf a b) ≡ some (given d (callOf a i) (callOf b j)) → whichOf a b participant number ≡ standsAt d i j → Ways
       both First e p q f g s w = in-first f s w
       both Second e p q f g s w = in-second g s w
       both Struck e p q f g s w = struck f g e s w
@@ -168,39 +174,53 @@ module _ (first second part : RefT (List ℕ)) (participant number : ℕ) (found
   pub find-refused : (screened (now first) (now second) .number ≡ 0 → ⊥) → now part ≡ []
   find-refused z = at-place (placed 0 0) (sym (which-refused (now first) (now second) participant number (screened (now first) (now second)) refl z))
 
-  module _ (small-first : IsBytes (now first)) (small-second : IsBytes (now second)) (out : List ℕ) (z : joining (now first) (now second) out .number ≡ 0) where
+  module _ (small-first : IsBytes (now first)) (small-second : IsBytes (now second)) (z : screened (now first) (now second) .number ≡ 0) where
     same-call : (x c : Call) {o : Option Call} → o ≡ some x → o ≡ some c → x ≡ c
     same-call x c e f = cc
 
-    -- the joined book's record for the key, wherever it lies in one of the books, is what is found
-    pub find-stands : (c : Call) → recordOf (key participant number) (callsOf (written (joining (now first) (now second) out))) ≡ some c
+    -- the record that the join has for the key, wherever it lies in one of the books, is what is found; limits 8 and 9 play no part
+    pub find-stands : (c : Call) → recordOf (key participant number) (joinedOf (now first) (now second)) ≡ some c
         → (recordOf (key participant number) (callsOf (now first)) ≡ some c) ⊎ (recordOf (key participant number) (callsOf (now second)) ≡ some c)
         → now part ≡ callBytes c
     unfolding k
-    find-stands c e h = go (ways (now first) (now second) out small-first small-second z participant number)
+    find-stands c e h = go (ways (now first) (now second) small-first small-second z participant number)
       where
-        go : Ways (now first) (now second) out small-first small-second z participant number → now part ≡ callBytes c
+        go : Ways (now first) (now second) small-first small-second z participant number → now part ≡ callBytes c
         go (nowhere s w) = absurd (let y : _≡_ {A = ℕ} 0 1 = cc in omega arith)
         go (in-first f s w) =
-            at-place _ w .bytes ∙ first-part (now first) (now second) out small-first small-second z participant number (first-in (now first) (now second) out small-first small-second z participant number w)
+            at-place _ w .bytes ∙ first-part (now first) (now second) small-first small-second z participant number (first-in (now first) (now second) small-first small-second z participant number w)
             ∙ ap callBytes (same-call _ c s e)
         go (in-second f s w) =
-            at-place _ w .bytes ∙ second-part (now first) (now second) out small-first small-second z participant number (second-in (now first) (now second) out small-first small-second z participant number w)
+            at-place _ w .bytes ∙ second-part (now first) (now second) small-first small-second z participant number (second-in (now first) (now second) small-first small-second z participant number w)
             ∙ ap callBytes (same-call _ c s e)
         go (struck f g d s w) =
             let n = struck-neither _ _ d in
             absurd (⊎-elim (λ l. n .0 (same-call _ c f l ∙ sym (same-call _ c s e))) (λ l. n .1 (same-call _ c g l ∙ sym (same-call _ c s e))) h)
 
-    -- nothing is found where the joined book has no record for the key, or one that lies in neither book
+    -- nothing is found where the join has no record for the key, or one that lies in neither book
     pub find-nothing :
-        ((c : Call) → recordOf (key participant number) (callsOf (written (joining (now first) (now second) out))) ≡ some c
+        ((c : Call) → recordOf (key participant number) (joinedOf (now first) (now second)) ≡ some c
         → (recordOf (key participant number) (callsOf (now first)) ≡ some c) ⊎ (recordOf (key participant number) (callsOf (now second)) ≡ some c) → ⊥)
         → now part ≡ []
     unfolding k
-    find-nothing h = go (ways (now first) (now second) out small-first small-second z participant number)
+    find-nothing h = go (ways (now first) (now second) small-first small-second z participant number)
       where
-        go : Ways (now first) (now second) out small-first small-second z participant number → now part ≡ []
+        go : Ways (now first) (now second) small-first small-second z participant number → now part ≡ []
         go (nowhere s w) = at-place _ w
         go (in-first f s w) = absurd (h _ s (inl f))
         go (in-second f s w) = absurd (h _ s (inr f))
         go (struck f g d s w) = at-place _ w
+
+  -- where the join is accepted, its records are those of the book that it writes
+  module _ (small-first : IsBytes (now first)) (small-second : IsBytes (now second)) (out : List ℕ) (z : joining (now first) (now second) out .number ≡ 0) where
+    passed : screened (now first) (now second) .number ≡ 0
+    passed = let s = accepts (now first) (now second) out z .screen in sym (ap (λ (v : Verdict). v .number) (screen-passes (now first) (now second) (s .first) (s .second) (s .month)))
+
+    pub find-written : (c : Call) → recordOf (key participant number) (callsOf (written (joining (now first) (now second) out))) ≡ some c
+        → (recordOf (key participant number) (callsOf (now first)) ≡ some c) ⊎ (recordOf (key participant number) (callsOf (now second)) ≡ some c)
+        → now part ≡ callBytes c
+    unfolding joinedOf
+    find-written c e h =
+        let s = accepts (now first) (now second) out z .screen in
+        find-stands small-first small-second passed c
+        (sym (ap (recordOf (key participant number)) (reads-joined (now first) (now second) out (accepted-sound (now first) small-first (s .first) .0) (accepted-sound (now second) small-second (s .second) .0) z)) ∙ e) h

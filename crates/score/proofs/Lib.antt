@@ -6,3 +6,4 @@ pub mod Parts
 pub mod Own
 pub mod Exact
 pub mod Voltage
+pub mod Empty

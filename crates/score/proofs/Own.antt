@@ -118,6 +118,11 @@ other-not : (number : ℕ) (book : ℕ → Call) (i : ℕ) → book i .participa
 unfolding otherAt
 other-not number book i h = simp (eq-eqb _ _ h)
 
+-- The run that two books are to agree on has none but the member's records.
+pub own-all : (number : ℕ) (b : List ℕ) (k : ℕ) → k < ownCount number b → ownCall number b k .participant ≡ number
+unfolding ownCount
+own-all number b k l = other-yes number (ownCall number b) k (first-before (otherAt number (ownCall number b)) (countOf b - firstOwn number b) k l)
+
 own-of : (number : ℕ) (book : ℕ → Call) (i : ℕ) → (ownAt number book i ≡ 0 → ⊥) → book i .participant ≡ number
 unfolding ownAt
 own-of number book i h = go (eqb (book i .participant) number) refl h
@@ -201,6 +206,13 @@ unfolding Known fromFirst told moved
 told-moved s (Accepted g) h = refl
 told-moved s (Refused v p) h =
     let e : s + p - s ≡ p - 0 = omega arith in
+    rw (h, e) refl
+
+-- A place of 12 to 14 is told as so many records behind the member's first, and no other answer changes.
+pub place-from-first : (first number p : ℕ) → (leb 12 number && leb number 14) ≡ true → fromFirst first (refused number (first + p)) ≡ refused number p
+unfolding fromFirst
+place-from-first first number p h =
+    let e : first + p - first ≡ p = omega arith in
     rw (h, e) refl
 
 same-run : (m : Member) (mine mine′ : ℕ → Call) (n : ℕ) → ((k : ℕ) → k < n → mine k ≡ mine′ k) → Records m mine mine′ 0 n n

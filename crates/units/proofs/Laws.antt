@@ -37,6 +37,15 @@ pub whole-points : (n : ℕ) → fenOf (n * grainsPerPoint) ≡ n * 1000 * fenPe
 unfolding fenOf grainsPerPoint fenPerThousandth
 whole-points n = omega arith
 
+-- one point per 万千瓦 is 600,000 grains per kW; one per 万千瓦时 is 10,000 per kW·min
+pub point-per-kw : grainsPerPoint ≡ 10000 * 600000
+unfolding grainsPerPoint
+point-per-kw = refl
+
+pub point-per-kw-minute : grainsPerPoint ≡ 10000 * 60 * 10000
+unfolding grainsPerPoint
+point-per-kw-minute = refl
+
 -- the paper's two sums: 29,999 grains are 0 fen, 30,000 are 1
 pub below-half : fenOf 29999 ≡ 0
 unfolding fenOf
