@@ -3,3 +3,4 @@ pub mod Revising
 pub mod Service
 pub mod Limits
 pub mod Layout
+pub mod Inner

@@ -59,22 +59,6 @@ allows l c =
     && leb (c .b) (l .b)
     && leb (c .c) (l .c)
 
--- a call of such a time and such terms: no limits ask for anything else of it
-abbrev pub asking : ℕ → ℕ → ℤ → ℕ → ℕ → Call
-asking start minutes a b c =
-    record {
-      participant = 0;
-      service = 0;
-      state = 0;
-      number = 0;
-      revision = 0;
-      start = start;
-      length = minutes;
-      a = a;
-      b = b;
-      c = c;
-    }
-
 -- a record's fields are sound in a month of so many minutes; a live one has a service, and no other has
 unfoldable pub soundCall : ℕ → Call → Bool
 soundCall minutes c =

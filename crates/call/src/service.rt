@@ -1,6 +1,7 @@
 // What a sound record is: the paper's table of services.
 ghost use mathlib.Core.Path.{_≡_};
-ghost use Rattle.call.specs.Limits.{limits, limitsOf, allows, asking, soundCall};
+ghost use Rattle.call.specs.Limits.{limits, limitsOf, allows, soundCall};
+ghost use Rattle.call.specs.Inner.{asking};
 use crate::Call;
 
 // What a service asks of start, length, a, b and c.

@@ -217,7 +217,7 @@ pub fn join_books() {
 
 // The record that stands for a key, as it lies in one of two books.
 fn tell_found(first: &[u8], second: &[u8], member: u16, call: u32) {
-    let place = join::lookup::which(first, second, member, call);
+    let place = lookup::which(first, second, member, call);
     if place.book == 1 {
         say::text(b"first ");
         print::call(call_of(first, place.index));

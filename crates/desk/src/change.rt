@@ -128,7 +128,7 @@ fn blank(member: u16, call: u32, revision: u32) -> Call {
 
 // The record that stands for the key of x, in a book that has it.
 fn tell_standing(book: &[u8], x: Call) {
-    let place = join::lookup::which(book, book, x.participant, x.number);
+    let place = lookup::which(book, book, x.participant, x.number);
     print::call(call_of(book, place.index));
 }
 

@@ -27,9 +27,11 @@ use Rattle.rule.proofs.Keyed.{in-find}
 use Rattle.rule.proofs.Orders.{stays-withdrawn}
 use Rattle.rule.proofs.Joins.{standOf}
 use Rattle.rule.proofs.Bounds.{Calls, Sounds, join-sound, join-find}
-use Rattle.join.specs.Joining.{sameMonth, screened, joinedOf, joining}
+use Rattle.pair.specs.Screening.{sameMonth, screened}
+use Rattle.join.specs.Joining.{joinedOf, joining}
 use Rattle.join.specs.Trees.{written}
-use Rattle.join.proofs.Screening.{Screened, passed-screen, zero-screened, refuse-screened, refuse-many, refuse-short, joins-both}
+use Rattle.pair.proofs.Screening.{Screened, passed-screen, zero-screened}
+use Rattle.join.proofs.WaysOut.{refuse-screened, refuse-many, refuse-short, joins-both}
 use Rattle.join.proofs.Trees.{sound-calls, book-sound}
 
 pub record Accepts (a b out : List ℕ) : Type 0 where

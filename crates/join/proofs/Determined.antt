@@ -1,53 +1,27 @@
 -- Two outcomes that a contract allows are one; and the numbers that a join may give. Assumes nothing.
-use mathlib.Core.Path.{_≡_, refl, sym, _∙_, ap}
+use mathlib.Core.Path.{_≡_, refl, sym}
 use mathlib.Core.Bool.{Bool, true, false, cond}
 use mathlib.Core.Logic.{_⊎_, inl, inr}
-use mathlib.Core.List.{List, []}
+use mathlib.Core.List.{List}
 use Prim.Native.Nat.{ℕ, _≤_}
 use native.Mathlib.Omega.{arith}
 use native.Mathlib.Decide.{decLe, ℕ-discrete}
-use lib.Dec.{eqb}
 use lib.ListN.{length}
-use denote.Ref.{RefT, now, ptr}
 use Rattle.book.specs.declared.Verdict.{Verdict}
 use Rattle.book.specs.declared.write.Written.{Written}
 use Rattle.book.specs.Book.{mostRecords, sizeOf, headerOf}
 use Rattle.book.specs.Check.{checkOf}
 use Rattle.book.specs.Write.{Outcome, outcome}
 use Rattle.book.proofs.Determined.{outcome-determined}
-use Rattle.join.specs.declared.lookup.Place.{Place}
-use Rattle.join.specs.Joining.{sameMonth, screened, joinedOf, joining}
-use Rattle.join.specs.Lookup.{whichOf, Lies, Found}
-use Rattle.join.proofs.Screening.{Judged, check-judged, screen-first, screen-second, screen-month, screen-passes, zero-screened, refuse-screened, refuse-many, refuse-short, joins-both}
+use Rattle.pair.specs.Screening.{sameMonth, screened}
+use Rattle.join.specs.Joining.{joinedOf, joining}
+use Rattle.pair.proofs.Screening.{Judged, check-judged, screen-first, screen-second, screen-month, screen-passes, zero-screened}
+use Rattle.join.proofs.WaysOut.{refuse-screened, refuse-many, refuse-short, joins-both}
 
 -- a join: number, place and length, and every byte of the output
 pub join-determined : (first second before : List ℕ) (r s : Written) (after again : List ℕ) → outcome r after ≡ joining first second before → outcome s again ≡ joining first second before
     → (r ≡ s) × (after ≡ again)
 join-determined first second before r s after again e f = outcome-determined r s after again (joining first second before) e f
-
--- the inner lookup: which book, and which record
-pub which-determined : (first second : List ℕ) (participant number : ℕ) (p q : Place) → p ≡ whichOf first second participant number → q ≡ whichOf first second participant number → p ≡ q
-which-determined first second participant number p q e f = e ∙ sym f
-
--- the same bytes, and where there are any, in the same place
-abbrev pub SamePart : RefT (List ℕ) → RefT (List ℕ) → Type 0
-SamePart r s = (now r ≡ now s) × ((now r ≡ []) ⊎ ((ptr r .0 ≡ ptr s .0) × (ptr r .1 ≡ ptr s .1)))
-
--- a lookup: the bytes of the part, and where it lies; of an empty part only that it is empty
-pub find-determined : (first second : RefT (List ℕ)) (participant number : ℕ) (r s : RefT (List ℕ)) → Found first second participant number r → Found first second participant number s → SamePart r s
-find-determined first second participant number r s = go (eqb (p .book) 1) (eqb (p .book) 2)
-  where
-    p : Place
-    p = whichOf (now first) (now second) participant number
-
-    one : {t : RefT (List ℕ)} {at size : ℕ} → Lies t at size r → Lies t at size s → SamePart r s
-    one l m = (l .bytes ∙ sym (m .bytes), inr (l .block ∙ sym (m .block), l .offset ∙ sym (m .offset)))
-
-    go : (t u : Bool) → cond t (Lies first (sizeOf (p .index)) 32 r) (cond u (Lies second (sizeOf (p .index)) 32 r) (now r ≡ []))
-        → cond t (Lies first (sizeOf (p .index)) 32 s) (cond u (Lies second (sizeOf (p .index)) 32 s) (now s ≡ [])) → SamePart r s
-    go true u l m = one l m
-    go false true l m = one l m
-    go false false l m = (l ∙ sym m, inl l)
 
 -- The numbers of a join: 1 to 9, or 21 to 26, or 0. So 27 and 28 cannot occur.
 

@@ -1,14 +1,11 @@
-pub mod Screening
+pub mod WaysOut
 pub mod Steps
 pub mod Books
 pub mod Copies
-pub mod Equal
-pub mod Places
 pub mod Writes
 pub mod Trees
 pub mod Orders
 pub mod Accepted
 pub mod Entering
-pub mod Lookups
 pub mod Determined
 pub mod Story

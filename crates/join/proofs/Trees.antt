@@ -21,9 +21,11 @@ use Rattle.rule.proofs.Joins.{joins, joins-long}
 use Rattle.rule.proofs.Bounds.{Calls, Sounds, tree-sound}
 use Rattle.rule.proofs.Orders.{Over}
 use Rattle.rule.proofs.Whole.{number-of-keys}
-use Rattle.join.specs.Joining.{sameMonth, screened, joinedOf, joining}
+use Rattle.pair.specs.Screening.{sameMonth, screened}
+use Rattle.join.specs.Joining.{joinedOf, joining}
 use Rattle.join.specs.Trees.{Plan, book, join, books, written, joinBoth, result, AllAccepted, keyCount, Room, OneMonth, Covers}
-use Rattle.join.proofs.Screening.{screen-passes, refuse-many, joins-both}
+use Rattle.pair.proofs.Screening.{screen-passes}
+use Rattle.join.proofs.WaysOut.{refuse-many, joins-both}
 
 -- Sound books
 

@@ -1,4 +1,3 @@
 pub mod Joining
 pub mod Steps
-pub mod Lookup
 pub mod Trees

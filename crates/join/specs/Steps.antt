@@ -1,14 +1,16 @@
 -- A join as steps, each of which settles one key. Assumes nothing.
 use mathlib.Core.Path.{_≡_}
+use mathlib.Core.Bool.{cond}
 use mathlib.Core.Logic.{_⊎_}
 use mathlib.Core.List.{List, _++_}
 use Prim.Native.Nat.{ℕ, _+_, _-_, _<_, _≤_}
+use lib.Dec.{ltb}
 use lib.ListN.{length}
 use Rattle.le.specs.Le.{leAt, leBytes, Stores}
 use Rattle.call.specs.declared.Call.{Call}
 use Rattle.call.specs.Key.{keyOf}
 use Rattle.call.specs.Layout.{reserved, callAt, callBytes}
-use Rattle.book.specs.Book.{countOf, callsFrom, recordBytes}
+use Rattle.book.specs.Book.{mostRecords, sizeOf, countOf, callsFrom, recordBytes}
 use Rattle.rule.specs.Standing.{standing}
 use Rattle.rule.specs.Joined.{joinCalls}
 use Rattle.join.specs.declared.Next.{Next}
@@ -62,3 +64,7 @@ pub record Merged (first second before : List ℕ) (r : Reached) (after : List �
       done ++ joinCalls (left first (countOf first) (r .first)) (left second (countOf second) (r .second))
       ≡ joinCalls (left first (countOf first) 0) (left second (countOf second) 0)
   pub stored : Stores before 0 (recordBytes done) after
+
+-- 8 and 9 by the number of keys alone, or 0
+unfoldable pub overfull : ℕ → ℕ → ℕ
+overfull keys room = cond (ltb mostRecords keys) 8 (cond (ltb room (sizeOf keys)) 9 0)

@@ -8,7 +8,7 @@ use borrow.Author.Tests.{ne-eqb}
 use Rattle.book.specs.declared.write.Written.{Written}
 use Rattle.book.specs.Book.{sizeOf}
 use Rattle.book.specs.Write.{Outcome, outcome}
-use Rattle.join.specs.declared.lookup.Place.{Place}
+use Rattle.lookup.specs.declared.Place.{Place}
 use Rattle.nwb.specs.Told.{Wrote, Located}
 
 -- the parts of an outcome, one by one

@@ -5,7 +5,7 @@ use Prim.Native.Nat.{ℕ}
 use lib.IntN.{ℤ}
 use Rattle.book.specs.declared.Verdict.{Verdict}
 use Rattle.book.specs.Write.{Outcome}
-use Rattle.join.specs.declared.lookup.Place.{Place}
+use Rattle.lookup.specs.declared.Place.{Place}
 use Rattle.score.specs.declared.answer.Score.{Score}
 use Rattle.nwb.specs.Told.{Checked, Wrote, Located, Scored, Shared}
 

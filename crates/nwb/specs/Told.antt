@@ -11,9 +11,9 @@ use Rattle.book.specs.declared.Header.{Header}
 use Rattle.book.specs.declared.Verdict.{Verdict}
 use Rattle.book.specs.Book.{sizeOf}
 use Rattle.book.specs.Write.{Outcome}
-use Rattle.join.specs.declared.lookup.Place.{Place}
+use Rattle.lookup.specs.declared.Place.{Place}
 use Rattle.score.specs.declared.answer.Score.{Score}
-use Rattle.share.specs.Bytes.{partsBytes, sharingBytes}
+use Rattle.share_bytes.specs.Bytes.{partsBytes, sharingBytes}
 use Rattle.pay.specs.declared.Member.{Member}
 use Rattle.call.specs.declared.Call.{Call}
 

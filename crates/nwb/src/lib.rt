@@ -11,7 +11,7 @@ ghost use mathlib.Core.List.{[], _∷_};
 ghost use Rattle.book.specs.Check.{checkOf};
 ghost use Rattle.book.specs.Write.{writing};
 ghost use Rattle.join.specs.Joining.{joining};
-ghost use Rattle.join.specs.Lookup.{whichOf};
+ghost use Rattle.lookup.specs.Lookup.{whichOf};
 ghost use Rattle.score.specs.Scoring.{scoring};
 ghost use Rattle.nwb.specs.Told.{header, member, called, Checked, Wrote, Located, Scored, Shared};
 
@@ -107,7 +107,7 @@ pub extern "C" fn nwb_find(
 ) -> u32
     ensures { λ r. ⌜ Located (whichOf (now (first .entry)) (now (second .entry)) participant number) r (now (offset .exit)) ⌝ }
 {
-    let p = join::lookup::which(first, second, participant, number);
+    let p = lookup::which(first, second, participant, number);
     let book = p.book;
     let index = p.index;
     if book == 1 {
@@ -151,7 +151,7 @@ pub extern "C" fn nwb_score(
 pub extern "C" fn nwb_share(lines: &[u8], out: &mut [u8], place: &mut u64, gap: &mut i64) -> u32
     ensures { λ r. ⌜ Shared (now (lines .entry)) (now (out .entry)) (now (out .exit)) r (now (place .exit)) (now (gap .exit)) ⌝ }
 {
-    let shared = share::bytes::share_bytes(lines, out);
+    let shared = share_bytes::share_bytes(lines, out);
     *place = shared.place as u64;
     let owed = shared.gap;
     let fen = owed.0;

@@ -16,7 +16,7 @@ use Rattle.pay.specs.declared.Member.{Member}
 use Rattle.pay.specs.Sum.{total}
 use Rattle.pay.specs.Window.{lackingTo, deepMinute, coalBand, coalMinute, waterMinute, minutePay, quarterPay, quarterAt, windowPay}
 use Rattle.pay.specs.Rate.{startStop, standby, blackStart, availability, sunContribution, contribution, eventBand, avc, trip, rateOf, mostBlackStart, ratedPay}
-use Rattle.pay.specs.Live.{mostPay}
+use Rattle.pay.specs.Inner.{mostPay}
 use Rattle.pay.proofs.Sums.{total-most}
 
 pub cond-most : (t : Bool) (a b : ℕ) {k : ℕ} → a ≤ k → b ≤ k → cond t a b ≤ k

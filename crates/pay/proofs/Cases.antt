@@ -17,7 +17,8 @@ use Rattle.pay.specs.Window.{windowPay}
 use Rattle.pay.specs.Rate.{ratedPay}
 use Rattle.pay.specs.Event.{eventWh, clamp}
 use Rattle.pay.specs.Open.{isZero, reserveOpen, eventOpen, openTo}
-use Rattle.pay.specs.Live.{byEnergy, livePay, liveWh, mostPay}
+use Rattle.pay.specs.Live.{livePay, liveWh}
+use Rattle.pay.specs.Inner.{byEnergy, mostPay}
 use Rattle.pay.proofs.Bounds.{b-is-rate, rated-most}
 use Rattle.pay.proofs.Signed.{zero-clamp, clamp-top}
 

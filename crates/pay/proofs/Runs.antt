@@ -10,7 +10,8 @@ use lib.ListN.{getD}
 use borrow.Author.Tests.{lt-ltb, le-ltb, ne-eqb}
 use Rattle.pay.specs.declared.Member.{Member}
 use Rattle.pay.specs.Sum.{total}
-use Rattle.pay.specs.Window.{lackingTo, deepMinute, coalBand, coalMinute, waterMinute, minutePay, quarterPay, quarterAt, windowPay, lackingAt, coalAt}
+use Rattle.pay.specs.Window.{lackingTo, deepMinute, coalBand, coalMinute, waterMinute, minutePay, quarterPay, quarterAt, windowPay}
+use Rattle.pay.specs.Inner.{lackingAt, coalAt}
 use Rattle.pay.proofs.Sums.{total-most}
 use Rattle.pay.proofs.Bounds.{cond-most, lacking-most, band-most}
 

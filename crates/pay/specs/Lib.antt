@@ -5,3 +5,4 @@ pub mod Rate
 pub mod Event
 pub mod Open
 pub mod Live
+pub mod Inner

@@ -1,5 +1,5 @@
 -- A live call: its grains, and the energy of its event. Assumes nothing.
-use mathlib.Core.Bool.{Bool, cond, not, _&&_}
+use mathlib.Core.Bool.{cond, not}
 use mathlib.Core.List.{List}
 use Prim.Native.Nat.{ℕ}
 use lib.Dec.{eqb}
@@ -22,11 +22,3 @@ livePay m series x =
 -- energy: of an event of a kind that is not paid by rate
 unfoldable pub liveWh : ℕ → Call → ℤ
 liveWh kind x = cond (eqb (x .service) 8) (cond (byRate kind) (pos 0) (eventWh (x .a) (x .b) (x .c))) (pos 0)
-
--- an event that gives energy
-unfoldable pub byEnergy : ℕ → Call → Bool
-byEnergy kind x = eqb (x .service) 8 && not (byRate kind)
-
--- no call within the limits pays more
-abbrev pub mostPay : ℕ
-mostPay = 4000000000000000

@@ -46,10 +46,3 @@ quarterAt m service a series i = quarterPay m service a (getD series i 0)
 -- a window is the sum over its quarter hours
 unfoldable pub windowPay : Member → ℕ → ℕ → List ℕ → ℕ → ℕ → ℕ
 windowPay m service a series start minutes = total (quarterAt m service a series) (start / 15) (minutes / 15)
-
--- the terms of a run's sums: a minute of quarter hour i
-unfoldable pub lackingAt : ℕ → List ℕ → ℕ → ℕ
-lackingAt level series i = lackingTo level (getD series i 0)
-
-unfoldable pub coalAt : ℕ → ℕ → List ℕ → ℕ → ℕ
-coalAt N a series i = coalMinute N a (getD series i 0)

@@ -12,7 +12,8 @@ use Rattle.le.proofs.Tests.{each}
 use Rattle.call.specs.declared.Call.{Call}
 use Rattle.pay.specs.declared.Member.{Member}
 use Rattle.pay.specs.Open.{openTo}
-use Rattle.pay.specs.Live.{livePay, liveWh, byEnergy, mostPay}
+use Rattle.pay.specs.Live.{livePay, liveWh}
+use Rattle.pay.specs.Inner.{byEnergy, mostPay}
 use Rattle.pay.proofs.Cases.{energy-service, energy-open, energy-unpaid, no-energy}
 use Rattle.score.specs.First.{anyBelow}
 use Rattle.score.specs.Refusing.{once, clashAt, refusalAt}

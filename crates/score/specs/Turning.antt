@@ -6,7 +6,7 @@ use lib.IntN.{ℤ}
 use lib.Signed.{mag}
 use Rattle.call.specs.declared.Call.{Call}
 use Rattle.pay.specs.declared.Member.{Member}
-use Rattle.pay.specs.Live.{mostPay}
+use Rattle.pay.specs.Inner.{mostPay}
 use Rattle.score.specs.Refusing.{refusalAt}
 use Rattle.score.specs.Scoring.{payAt, whAt}
 

@@ -6,7 +6,7 @@ ghost use Prim.Native.Nat.{ℕ, _+_, _*_, _<_, _≤_};
 ghost use lib.ListN.{length};
 ghost use Rattle.call.specs.Limits.{soundCall};
 ghost use Rattle.book.specs.Book.{callOf};
-ghost use Rattle.pay.specs.Live.{byEnergy};
+ghost use Rattle.pay.specs.Inner.{byEnergy};
 ghost use Rattle.score.specs.Scoring.{ownLive, scoreOf};
 ghost use Rattle.score.specs.Turning.{Turned};
 use crate::answer::Scored;

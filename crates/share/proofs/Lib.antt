@@ -4,12 +4,9 @@ pub mod Bounds
 pub mod Lines
 pub mod Cases
 pub mod Counted
-pub mod Spelling
 pub mod Outcomes
-pub mod ByteCases
 pub mod Gather
 pub mod Promises
 pub mod Refusals
-pub mod ThreeForms
+pub mod TwoForms
 pub mod Worked
-pub mod RoundTrip

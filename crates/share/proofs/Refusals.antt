@@ -3,7 +3,7 @@ use mathlib.Core.Path.{_≡_, refl, sym, ap, _∙_}
 use mathlib.Core.Bool.{Bool, true, false, cond, true≢false}
 use mathlib.Core.List.{List, [], _∷_}
 use mathlib.Core.Logic.{inl, inr, _≢_}
-use Prim.Native.Nat.{ℕ, zero, suc, _*_, _/_, _%_, _≤_, _<_}
+use Prim.Native.Nat.{ℕ, zero, suc, _≤_, _<_}
 use native.Mathlib.Nat.{not-suc-le-zero}
 use native.Mathlib.Decide.{decLt, decLe, ℕ-discrete}
 use native.Mathlib.Omega.{arith}
@@ -12,12 +12,10 @@ use lib.ListN.{length, getD}
 use Rattle.share.specs.declared.Line.{Line}
 use Rattle.share.specs.Sharing.{mostCompensation, compensated, gap, allWeights, soundLine, firstBad, Outcome, refused, sharing}
 use Rattle.share.specs.Forms.{blank}
-use Rattle.share.specs.Bytes.{linesOf, sharingBytes}
-use Rattle.share.specs.Verdict.{numberBefore, AllSound, FirstBad, Verdict, ten, fifteen, sixteen, shared, ByteVerdict, one, asLines, nine, written}
+use Rattle.share.specs.Verdict.{numberBefore, AllSound, FirstBad, Verdict, ten, fifteen, sixteen, shared}
 use Rattle.share.proofs.Signs.{none-abs}
 use Rattle.share.proofs.Bounds.{sound-from, sound-to}
 use Rattle.share.proofs.Cases.{settled-15, settled-16, settled-on, sharing-10, sharing-on}
-use Rattle.share.proofs.ByteCases.{bytes-1, bytes-refused, bytes-9, bytes-on}
 
 number-step : (first : ℕ) (l : Line) (ls : List Line) (k : ℕ) → numberBefore (l .number) ls k ≡ numberBefore first (l ∷ ls) (suc k)
 unfolding numberBefore
@@ -116,19 +114,3 @@ exact ls o (fifteen a c e) = e ∙ settled-15 ls c ∙ sharing-on ls (none-bad l
 exact ls o (sixteen a c g w e) = e ∙ settled-16 ls c (some-gap ls g) w ∙ sharing-on ls (none-bad ls a)
 exact ls o (shared a c (inl g) e) = e ∙ settled-on ls c (λ h. absurd (omega (arith, ap natAbs g))) ∙ sharing-on ls (none-bad ls a)
 exact ls o (shared a c (inr w) e) = e ∙ settled-on ls c (λ h. w) ∙ sharing-on ls (none-bad ls a)
-
--- The same over bytes.
-pub byte-verdict : (input : List ℕ) (room : ℕ) → ByteVerdict input room (sharingBytes input room)
-byte-verdict input room = go (ℕ-discrete (length input % 24) 0) (ℕ-discrete (sharing (linesOf input) .number) 0) (decLt room (16 * (length input / 24)))
-  where
-    go : Dec (length input % 24 ≡ 0) → Dec (sharing (linesOf input) .number ≡ 0) → Dec (room < 16 * (length input / 24)) → ByteVerdict input room (sharingBytes input room)
-    go (no f) n r = one f (sym (bytes-1 input room f))
-    go (yes e) (no f) r = asLines e (omega arith) (sym (bytes-refused input room e (omega arith)))
-    go (yes e) (yes z) (yes h) = nine e z h (sym (bytes-9 input room e z h))
-    go (yes e) (yes z) (no f) = written e z (omega arith) (sym (bytes-on input room e z (omega arith)))
-
-pub byte-exact : (input : List ℕ) (room : ℕ) (o : Outcome) → ByteVerdict input room o → o ≡ sharingBytes input room
-byte-exact input room o (one f e) = e ∙ bytes-1 input room f
-byte-exact input room o (asLines m n e) = e ∙ bytes-refused input room m n
-byte-exact input room o (nine m z h e) = e ∙ bytes-9 input room m z h
-byte-exact input room o (written m z h e) = e ∙ bytes-on input room m z h

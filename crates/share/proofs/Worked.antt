@@ -1,20 +1,15 @@
 -- Sums of the paper, worked through, and the promises met by them.
 use mathlib.Core.Path.{_≡_, refl}
-use mathlib.Core.List.{List, [], _∷_, _++_, map}
+use mathlib.Core.List.{List, [], _∷_}
 use Prim.Native.Nat.{ℕ, _<_}
-use lib.Dec.{lit<, lit≤}
+use lib.Dec.{lit<}
 use lib.IntN.{ℤ, pos, negsuc, natAbs, _-ℤ_, _*ℤ_}
-use lib.ListN.{replicate}
 use Rattle.apportion.specs.Apportion.{apportion}
 use Rattle.units.specs.Money.{fenPerThousandth}
-use Rattle.le.specs.Le.{leAt}
 use Rattle.share.specs.declared.Line.{Line}
-use Rattle.share.specs.declared.Answer.{Answer}
 use Rattle.share.specs.Sharing.{gap, soundLine, Part, parts, refused, settled, sharing}
-use Rattle.share.specs.Forms.{blank, cleared, sharedArray, answerIn, answerOf, Lent, fill}
-use Rattle.share.specs.Bytes.{fieldsAt, reservedZero, lineAt, linesFrom, linesOf, sharingBytes, ifRoom}
+use Rattle.share.specs.Forms.{blank}
 use Rattle.share.proofs.Promises.{sumℤ, shares, amounts, adds-to-gap, adds-to-zero, one-fen}
-use Rattle.share.proofs.ThreeForms.{same-answer}
 
 abbrev pub line : ℕ → ℕ → ℕ → ℕ → ℕ → Line
 line n s e c a =
@@ -80,24 +75,3 @@ twice = refl
 pub no-weight : sharing (line 1 0 0 100 0 ∷ []) ≡ refused 16 0
 unfolding sharing settled gap soundLine fenPerThousandth
 no-weight = refl
-
--- The three equal energies in bytes, and with a byte that should be zero in the second line
-abbrev pub spelt : ℕ → List ℕ
-spelt reserved =
-    (1 ∷ 0 ∷ 0 ∷ 0 ∷ 5 ∷ 0 ∷ 0 ∷ 0 ∷ 100 ∷ 0 ∷ 0 ∷ 0 ∷ 0 ∷ 0 ∷ 0 ∷ 0 ∷ 0 ∷ 0 ∷ 0 ∷ 0 ∷ 0 ∷ 0 ∷ 0 ∷ 0 ∷ [])
-    ++ (2 ∷ 0 ∷ 0 ∷ reserved ∷ 5 ∷ 0 ∷ 0 ∷ 0 ∷ 0 ∷ 0 ∷ 0 ∷ 0 ∷ 0 ∷ 0 ∷ 0 ∷ 0 ∷ 0 ∷ 0 ∷ 0 ∷ 0 ∷ 0 ∷ 0 ∷ 0 ∷ 0 ∷ [])
-    ++ (3 ∷ 0 ∷ 0 ∷ 0 ∷ 5 ∷ 0 ∷ 0 ∷ 0 ∷ 0 ∷ 0 ∷ 0 ∷ 0 ∷ 0 ∷ 0 ∷ 0 ∷ 0 ∷ 0 ∷ 0 ∷ 0 ∷ 0 ∷ 0 ∷ 0 ∷ 0 ∷ 0 ∷ [])
-
-spelt-lines : linesOf (spelt 0) ≡ equals
-unfolding linesFrom lineAt reservedZero fieldsAt leAt
-spelt-lines = refl
-
-pub reserved-byte : sharingBytes (spelt 1) 48 ≡ refused 10 1
-unfolding sharingBytes ifRoom sharing settled gap soundLine linesFrom lineAt reservedZero fieldsAt leAt
-reserved-byte = refl
-
--- The three forms over these lines: the conditions of `same-answer` can be met.
-pub equal-forms : (after : List Line) (r : Answer) → Lent equals after r
-    → (r ≡ answerIn (sharedArray (equals ++ replicate 61 blank) 3)) × (r ≡ answerOf (sharingBytes (spelt 0) 48))
-    × (fill (sharing equals .parts) (map (λ l. cleared l) (equals ++ replicate 61 blank)) ≡ sharedArray (equals ++ replicate 61 blank) 3 .lines) × (sharing equals .parts ≡ sharingBytes (spelt 0) 48 .parts)
-equal-forms = same-answer equals (equals ++ replicate 61 blank) (spelt 0) 48 refl refl refl spelt-lines (lit≤ tt)

@@ -1,4 +1,4 @@
--- The three forms in which sharing is called. Each says of its lines what `sharing` says. Assumes nothing.
+-- The array form and the lent list: each says of its lines what `sharing` says. Assumes nothing.
 use mathlib.Core.Path.{_≡_}
 use mathlib.Core.Bool.{cond}
 use mathlib.Core.List.{List, [], _∷_, _++_, map}
@@ -29,10 +29,6 @@ abbrev pub fill : List Part → List Line → List Line
 fill [] ls = ls
 fill (p ∷ ps) [] = []
 fill (p ∷ ps) (l ∷ ls) = filled l p ∷ fill ps ls
-
--- what is filled in of a line
-abbrev pub partIn : Line → Part
-partIn l = record { share = l .share .0; amount = l .amount .0 }
 
 -- share and amount are 0
 abbrev pub cleared : Line → Line

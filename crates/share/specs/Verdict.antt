@@ -2,13 +2,12 @@
 use mathlib.Core.Path.{_≡_}
 use mathlib.Core.List.{List}
 use mathlib.Core.Logic.{_⊎_, _≢_}
-use Prim.Native.Nat.{ℕ, zero, suc, _*_, _/_, _%_, _≤_, _<_}
+use Prim.Native.Nat.{ℕ, zero, suc, _≤_, _<_}
 use lib.IntN.{pos}
 use lib.ListN.{length, getD}
 use Rattle.share.specs.declared.Line.{Line}
 use Rattle.share.specs.Sharing.{mostNumber, mostStatus, mostEnergy, mostCompensation, mostAssessment, compensated, gap, allWeights, Outcome, refused, accepted, sharing}
 use Rattle.share.specs.Forms.{blank}
-use Rattle.share.specs.Bytes.{linesOf}
 
 -- numbers 1 to 64 rising strictly, and each field within its limits
 pub record SoundLine (before : ℕ) (l : Line) : Type 0 where
@@ -44,10 +43,3 @@ pub data Verdict (ls : List Line) (o : Outcome) : Type 0 where
   fifteen : AllSound ls → mostCompensation < compensated ls → o ≡ refused 15 0 → Verdict ls o
   sixteen : AllSound ls → compensated ls ≤ mostCompensation → gap ls ≢ pos 0 → allWeights ls ≡ 0 → o ≡ refused 16 0 → Verdict ls o
   shared : AllSound ls → compensated ls ≤ mostCompensation → (gap ls ≡ pos 0) ⊎ (0 < allWeights ls) → o ≡ accepted ls → Verdict ls o
-
--- over bytes 1 comes first and 9 last
-pub data ByteVerdict (input : List ℕ) (room : ℕ) (o : Outcome) : Type 0 where
-  one : length input % 24 ≢ 0 → o ≡ refused 1 0 → ByteVerdict input room o
-  asLines : length input % 24 ≡ 0 → 0 < sharing (linesOf input) .number → o ≡ sharing (linesOf input) → ByteVerdict input room o
-  nine : length input % 24 ≡ 0 → sharing (linesOf input) .number ≡ 0 → room < 16 * (length input / 24) → o ≡ refused 9 0 → ByteVerdict input room o
-  written : length input % 24 ≡ 0 → sharing (linesOf input) .number ≡ 0 → 16 * (length input / 24) ≤ room → o ≡ sharing (linesOf input) → ByteVerdict input room o

@@ -1,4 +1,4 @@
-// 64 lines by value: what the byte form and the lent list need around the array form.
+// 64 lines by value: what callers of the array form need around it.
 use crate::Answer;
 use crate::Line;
 use crate::Shared;

@@ -1,6 +1,5 @@
 // Sharing: the gap between assessments and compensations, carried by the lines by weight.
-mod array;
-pub mod bytes;
+pub mod array;
 pub mod lent;
 mod settle;
 

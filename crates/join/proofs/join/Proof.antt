@@ -5,8 +5,10 @@ use native.Mathlib.Omega.{arith}
 use lib.ListN.{length}
 use Rattle.book.specs.declared.Verdict.{Verdict}
 use Rattle.book.specs.Book.{mostRecords, sizeOf}
-use Rattle.join.specs.Joining.{screened, joinedOf}
-use Rattle.join.proofs.Screening.{passed-screen, zero-screened, refuse-screened, refuse-over, never-over, joins-both}
+use Rattle.pair.specs.Screening.{screened}
+use Rattle.join.specs.Joining.{joinedOf}
+use Rattle.pair.proofs.Screening.{passed-screen, zero-screened}
+use Rattle.join.proofs.WaysOut.{refuse-screened, refuse-over, never-over, joins-both}
 use Rattle.join.proofs.Writes.{as-refused, as-written}
 use borrow.Author.Needs.{needs}
 use Rattle.join.proofs.join.Statement.{statement}

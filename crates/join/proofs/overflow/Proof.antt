@@ -8,10 +8,10 @@ use lib.Dec.{leb}
 use borrow.Author.Tests.{leb-true}
 use Rattle.le.proofs.Tests.{each}
 use Rattle.book.specs.Book.{mostRecords, sizeOf}
-use Rattle.join.specs.Joining.{overfull}
+use Rattle.join.specs.Steps.{overfull}
 use Rattle.join.proofs.Steps.{most-joined}
 use Rattle.join.proofs.Books.{long}
-use Rattle.join.proofs.Screening.{over-many, over-short, over-none}
+use Rattle.join.proofs.WaysOut.{over-many, over-short, over-none}
 use borrow.Author.Needs.{needs}
 use Rattle.join.proofs.overflow.Statement.{statement}
 use Rattle.join.proofs.overflow.Tie as tie

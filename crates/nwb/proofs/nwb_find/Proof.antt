@@ -3,7 +3,7 @@ use Prim.Native.Nat.{_+_, _≤_}
 use native.Mathlib.Omega.{arith}
 use lib.ListN.{length}
 use Rattle.book.specs.Book.{sizeOf}
-use Rattle.join.proofs.Places.{which-first, which-second}
+use Rattle.lookup.proofs.Places.{which-first, which-second}
 use Rattle.nwb.proofs.Cells.{located-first, located-second, located-none}
 use borrow.Author.Needs.{needs}
 use Rattle.nwb.proofs.nwb_find.Statement.{statement}

@@ -1,6 +1,6 @@
 -- `pay::live::is_by_energy` meets its contract.
 use mathlib.Core.Path.{refl}
-use Rattle.pay.specs.Live.{byEnergy}
+use Rattle.pay.specs.Inner.{byEnergy}
 use borrow.Author.Needs.{needs}
 use Rattle.pay.proofs.live.is_by_energy.Statement.{statement}
 use Rattle.pay.proofs.live.is_by_energy.Tie as tie

@@ -4,7 +4,7 @@ use mathlib.Core.Path.{_≡_, sym}
 use Prim.Native.Nat.{_+_, _-_, _≤_}
 use lib.ListN.{getD}
 use Rattle.pay.specs.Sum.{total}
-use Rattle.pay.specs.Window.{lackingAt}
+use Rattle.pay.specs.Inner.{lackingAt}
 use Rattle.pay.proofs.Sums.{total-none, total-step}
 use Rattle.pay.proofs.Runs.{lacking-run-most}
 use Rattle.pay.proofs.Bounds.{lacking-most}

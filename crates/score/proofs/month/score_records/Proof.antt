@@ -10,7 +10,7 @@ use Rattle.score.proofs.Turns.{before-own, skipped, score-refused, scor
 use Rattle.book.specs.Book.{callOf}
 use lib.Signed.{mag}
 use Rattle.pay.specs.Sum.{total, totalZ}
-use Rattle.pay.specs.Live.{mostPay}
+use Rattle.pay.specs.Inner.{mostPay}
 use Rattle.pay.proofs.Sums.{total0-step, totalZ-step}
 use Rattle.pay.proofs.Signed.{mag-plus}
 use Rattle.score.specs.declared.answer.Scored.the-variants.{Accepted, Refused}

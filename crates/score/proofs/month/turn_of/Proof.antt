@@ -3,7 +3,7 @@ use mathlib.Core.Path.{_≡_, sym, _∙_, ap}
 use mathlib.Core.Bool.{true}
 use borrow.Author.Tests.{not-true, not-false}
 use Rattle.book.specs.Book.{callOf}
-use Rattle.pay.specs.Live.{byEnergy}
+use Rattle.pay.specs.Inner.{byEnergy}
 use Rattle.score.specs.Scoring.{ownLive}
 use Rattle.score.proofs.Turns.{state-low}
 use Rattle.score.proofs.Energy.{idle-turned}

@@ -1,0 +1,18 @@
+-- `pair::revision_from` meets its contract.
+use Rattle.call.specs.Layout.{callAt}
+use borrow.Author.Needs.{needs}
+use Rattle.pair.proofs.revision_from.Statement.{statement}
+use Rattle.pair.proofs.revision_from.Tie as tie
+
+add-u32-at : tie.Need-add-u32-at
+add-u32-at c = search needs
+
+u32-at-requires : tie.Need-u32-at-requires
+u32-at-requires c κs = search needs
+
+returns : tie.Need-returns
+unfolding callAt
+returns c = c .u32-at .ensures
+
+pub revision-from-spec : {M : Type 1} → statement M
+revision-from-spec = tie.close (tie.spec add-u32-at u32-at-requires returns)

@@ -1,0 +1,18 @@
+-- `pair::same_word` meets its contract.
+use mathlib.Core.Path.{ap₂}
+use lib.Dec.{eqb}
+use borrow.Author.Needs.{needs}
+use Rattle.pair.proofs.same_word.Statement.{statement}
+use Rattle.pair.proofs.same_word.Tie as tie
+
+word-at-requires : tie.Need-word-at-requires
+word-at-requires c κs = search needs
+
+word-at-requires-2 : tie.Need-word-at-requires-2
+word-at-requires-2 c κs = search needs
+
+returns : tie.Need-returns
+returns c = ap₂ eqb (c .before .word-at .ensures) (c .word-at2 .ensures)
+
+pub same-word-spec : {M : Type 1} → statement M
+same-word-spec = tie.close (tie.spec word-at-requires word-at-requires-2 returns)

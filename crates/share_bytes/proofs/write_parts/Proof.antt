@@ -1,0 +1,77 @@
+-- `share_bytes::write_parts` meets its contract.
+use mathlib.Core.Path.{_≡_, _∙_}
+use mathlib.Core.List.{map}
+use Prim.Native.Nat.{_-_, _≤_}
+use native.Mathlib.Omega.{arith}
+use lib.ListN.{length, take}
+use Rattle.le.specs.Le.{Stores}
+use Rattle.share.specs.Forms.{blank}
+use Rattle.share_bytes.specs.Bytes.{partIn}
+use Rattle.share_bytes.specs.Bytes.{partsBytes}
+use Rattle.share_bytes.proofs.Spelling.{parts-none, parts-stored}
+use borrow.Author.Needs.{needs}
+use Rattle.share_bytes.proofs.write_parts.Statement.{statement}
+use Rattle.share_bytes.proofs.write_parts.Tie as tie
+
+abbrev Inv-loop : tie.InvT-loop
+Inv-loop count out₀ lines i₀ out i = (i ≤ count) × (length out ≡ length out₀) × Stores out₀ 0 (partsBytes (map (λ l. partIn l) (take i lines))) out
+
+abbrev μ-loop : tie.MeasureT-loop
+μ-loop count out₀ lines i₀ out i = count - i
+
+loop-holds : tie.Need-loop-holds Inv-loop μ-loop
+loop-holds c = (omega arith, search needs, parts-none (c .before .args .t1) (c .before .args .out .now))
+
+mul-l : tie.Need-mul-l Inv-loop μ-loop
+mul-l c = search needs
+
+array-copy-out-l : tie.Need-array-copy-out-l Inv-loop μ-loop
+array-copy-out-l c = search needs
+
+mul-write-part : tie.Need-mul-write-part Inv-loop μ-loop
+mul-write-part c = search needs
+
+write-part-requires : tie.Need-write-part-requires Inv-loop μ-loop
+write-part-requires c κs = omega (arith, c .before .before .before .before .before .loop .inv .1)
+
+add-i : tie.Need-add-i Inv-loop μ-loop
+add-i c = search needs
+
+loop-less : tie.Need-loop-less Inv-loop μ-loop
+loop-less c = search needs
+
+loop-again : tie.Need-loop-again Inv-loop μ-loop
+loop-again c =
+    let s = c .before .before .before .before .before .before .before .before .before .before in
+    let l = c .before .before .before .before .before .before .before .before .loop in
+    let long : length (s .args .t1) ≡ 64 = search needs in (
+      omega arith,
+      c .before .before .write-part .kept .1 .1 .0 ∙ l .inv .1,
+      parts-stored (s .args .t1) (l .i) blank (omega arith) (l .inv .2) (c .before .before .write-part .ensures),
+    )
+
+same-length : tie.Need-same-length Inv-loop μ-loop
+same-length c = search needs
+
+returns : tie.Need-returns Inv-loop μ-loop
+returns c =
+    let l = c .before .loop in
+    let e : l .i ≡ c .before .before .before .args .count = omega arith in
+    rw e at (l .inv .2)
+
+pub write-parts-spec : {M : Type 1} → statement M
+write-parts-spec =
+    tie.close
+    (tie.spec
+    Inv-loop
+    μ-loop
+    loop-holds
+    mul-l
+    array-copy-out-l
+    mul-write-part
+    write-part-requires
+    add-i
+    loop-less
+    loop-again
+    same-length
+    returns)
