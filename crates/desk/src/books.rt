@@ -1,98 +1,16 @@
-// Books as files: loaded and checked, shown, joined, stored.
-use crate::args::Held;
-use crate::args::number;
-use crate::args::path;
-use crate::print;
+// Books as files: checked, shown, joined, and one call looked up.
 use book::call_of;
-use book::check;
 use book::header_of;
-use files::Loaded;
-use files::Stored;
+use clerk::args::Held;
+use clerk::args::number;
+use clerk::print;
+use clerk::shelf::none;
+use clerk::shelf::open;
+use clerk::shelf::records;
+use clerk::shelf::refused_at;
+use clerk::shelf::save;
 ghost use Prim.Native.Nat.{_≤_};
 ghost use lib.ListN.{length};
-ghost use Rattle.io.specs.Counts.{Counts};
-
-fn none() -> Held
-    ensures { λ r. ⌜ r .n ≤ 0 ⌝ }
-{
-    Held { ok: false, n: 0 }
-}
-
-// The whole file in the buffer's first bytes.
-pub fn load(path: &[u8], buf: &mut [u8]) -> Held
-    ensures { λ r. ⌜ r .n ≤ length (now (buf .exit)) ⌝ }
-{
-    let loaded = files::load(path, buf);
-    match loaded {
-        Loaded::Whole(n) => Held { ok: true, n },
-        Loaded::Missing => {
-            print::failed(path, b"no such file");
-            none()
-        }
-        Loaded::TooLong => {
-            print::failed(path, b"longer than 65536 bytes");
-            none()
-        }
-        Loaded::Failed => {
-            print::failed(path, b"cannot be read");
-            none()
-        }
-    }
-}
-
-// The bytes as the whole file that argument i names.
-pub fn save(i: usize, bytes: &[u8]) -> bool {
-    let mut buf = io::buffer();
-    let p = path(i, &mut buf);
-    let n = p.n;
-    if !p.ok {
-        return false;
-    }
-    store(&buf[0..n], bytes)
-}
-
-fn store(path: &[u8], bytes: &[u8]) -> bool {
-    match files::store(path, bytes) {
-        Stored::Done => return true,
-        Stored::BadName => print::failed(path, b"too long a name to write beside it"),
-        Stored::NotMade => print::failed(path, b"no file can be made beside it"),
-        Stored::NotWritten => print::failed(path, b"could not be written whole, and is as it was"),
-        Stored::NotRenamed => print::failed(path, b"could not be replaced, and is as it was"),
-        Stored::Unsure => print::failed(path, b"is written, but its folder could not be synced"),
-    }
-    false
-}
-
-// How many records a sound book of so many bytes has.
-pub fn records(bytes: usize) -> usize {
-    if bytes < 16 {
-        return 0;
-    }
-    (bytes - 16) / 32
-}
-
-// The book that argument i names, in the buffer's first bytes, sound.
-pub fn open(i: usize, book: &mut [u8]) -> Held
-    ensures { λ r. ⌜ r .n ≤ length (now (book .exit)) ⌝ }
-{
-    let mut buf = io::buffer();
-    let p = path(i, &mut buf);
-    let n = p.n;
-    if !p.ok {
-        return none();
-    }
-    let b = load(&buf[0..n], book);
-    if !b.ok {
-        return none();
-    }
-    let m = b.n;
-    let v = check(&book[0..m]);
-    if v.number != 0 {
-        print::refused(v.number, v.place, &buf[0..n]);
-        return none();
-    }
-    b
-}
 
 pub fn check_book() {
     let mut book = io::large_buffer();
@@ -164,14 +82,6 @@ fn take_over(from: &[u8], size: usize, all: &mut [u8]) -> Held
     }
     bytes::copy(&from[0..size], all);
     Held { ok: true, n: size }
-}
-
-// A refusal of what argument i names.
-pub fn refused_at(number: u32, place: usize, i: usize) {
-    let mut buf = io::buffer();
-    let p = path(i, &mut buf);
-    let n = p.n;
-    print::refused(number, place, &buf[0..n]);
 }
 
 // Argument i joined to the books before it, of which the first is argument `from`.

@@ -1,10 +1,5 @@
 // New books, and changes to one: each a book of one record, joined in.
-use crate::args::number;
-use crate::args::signed;
 use crate::books::join_bytes;
-use crate::books::open;
-use crate::books::save;
-use crate::print;
 use book::Header;
 use book::call_of;
 use book::header_of;
@@ -12,6 +7,11 @@ use book::write::write_none;
 use book::write::write_one;
 use call::Call;
 use call::Content;
+use clerk::args::number;
+use clerk::args::signed;
+use clerk::print;
+use clerk::shelf::open;
+use clerk::shelf::save;
 ghost use Prim.Native.Nat.{_≤_};
 ghost use lib.ListN.{length};
 

@@ -1,12 +1,11 @@
 // The desk's day, on files: `desk help` says how.
-mod args;
 mod books;
 mod change;
 mod month;
-mod print;
 
-use args::argument;
-use args::is_word;
+use clerk::args::argument;
+use clerk::args::is_word;
+use clerk::print;
 
 fn main() {
     let mut word = io::buffer();

@@ -1,15 +1,15 @@
 // A member's score, and the whole month: the books joined, every member scored, the gap shared.
-use crate::args::Held;
-use crate::args::number;
-use crate::args::path;
 use crate::books::join_all;
-use crate::books::load;
-use crate::books::open;
-use crate::books::records;
-use crate::books::refused_at;
-use crate::print;
 use book::call_of;
 use book::header_of;
+use clerk::args::Held;
+use clerk::args::number;
+use clerk::args::path;
+use clerk::print;
+use clerk::shelf::load;
+use clerk::shelf::open;
+use clerk::shelf::records;
+use clerk::shelf::refused_at;
 use pay::Member;
 use score::answer::Score;
 use share::Line;

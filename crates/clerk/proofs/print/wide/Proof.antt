@@ -1,8 +1,8 @@
--- `desk::print::wide` meets its contract.
+-- `clerk::print::wide` meets its contract.
 use Rattle.pay.proofs.Signed.{wide-fits}
 use borrow.Author.Needs.{needs}
-use Rattle.desk.proofs.print.wide.Statement.{statement}
-use Rattle.desk.proofs.print.wide.Tie as tie
+use Rattle.clerk.proofs.print.wide.Statement.{statement}
+use Rattle.clerk.proofs.print.wide.Tie as tie
 
 cast-result : tie.Need-cast-result
 cast-result c = wide-fits (c .args .a) (c .fits .a .sfits)

@@ -1,10 +1,10 @@
--- `desk::args::is_word` meets its contract.
+-- `clerk::args::is_word` meets its contract.
 use Prim.Native.Nat.{_≤_, _-_}
 use native.Mathlib.Omega.{arith}
 use lib.ListN.{length}
 use borrow.Author.Needs.{needs}
-use Rattle.desk.proofs.args.is_word.Statement.{statement}
-use Rattle.desk.proofs.args.is_word.Tie as tie
+use Rattle.clerk.proofs.args.is_word.Statement.{statement}
+use Rattle.clerk.proofs.args.is_word.Tie as tie
 
 abbrev Inv-loop : tie.InvT-loop
 Inv-loop word name i₀ i = i ≤ length word

@@ -1,10 +1,10 @@
--- `desk::books::load` meets its contract.
+-- `clerk::shelf::load` meets its contract.
 use mathlib.Core.Path.{subst}
 use lib.ListN.{length}
 use Rattle.files.specs.Fits.{Fits}
 use borrow.Author.Needs.{needs}
-use Rattle.desk.proofs.books.load.Statement.{statement}
-use Rattle.desk.proofs.books.load.Tie as tie
+use Rattle.clerk.proofs.shelf.load.Statement.{statement}
+use Rattle.clerk.proofs.shelf.load.Tie as tie
 
 load-requires : tie.Need-load-requires
 load-requires c κs = search needs

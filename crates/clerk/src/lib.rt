@@ -1,0 +1,4 @@
+// What every command of the desk needs: its arguments, the files that they name, and what it prints.
+pub mod args;
+pub mod print;
+pub mod shelf;
