@@ -28,7 +28,7 @@ static const struct side sides[2] = {{nwb_check, nwb_join, nwb_score, nwb_share}
 struct book { uint8_t bytes[BOOK_MOST]; size_t len; };
 static struct book full, full_revised, full_bad, even, odd, most, single, window, events;
 static uint32_t series[2976];
-static uint8_t lines[64 * 24];
+static uint8_t lines[64 * 24], equal_lines[64 * 24];
 
 static uint8_t out[BOOK_MOST];
 static uint64_t place, length, grains, fen;
@@ -92,6 +92,9 @@ static void build(void)
     for (uint32_t i = 0; i < 64; i++)
         l[i] = (struct line){(uint16_t)(i + 1), (uint8_t)(i % 3), 1000 + i * 7919u % 100000, 1000000 + i * 104729u, i * 31};
     put_lines(lines, l, 64);
+    for (uint32_t i = 0; i < 64; i++) /* every remainder the same, half of them one fen up: ties to the lower numbers */
+        l[i] = (struct line){(uint16_t)(i + 1), 0, 1000, i == 0 ? 6400032 : 0, 0};
+    put_lines(equal_lines, l, 64);
 }
 
 /* ---- rows ---- */
@@ -109,6 +112,7 @@ static uint32_t check_full(const struct side *s) { return s->check(full.bytes, f
 static uint32_t score_window(const struct side *s) { return s->score(1, 1, 300001, window.bytes, window.len, series, 2976, &place, &grains, &fen); }
 static uint32_t score_events(const struct side *s) { return s->score(1, 1, 300001, events.bytes, events.len, series, 2976, &place, &grains, &fen); }
 static uint32_t share_full(const struct side *s) { return s->share(lines, sizeof lines, out, sizeof out, &place, &gap); }
+static uint32_t share_equal(const struct side *s) { return s->share(equal_lines, sizeof equal_lines, out, sizeof out, &place, &gap); }
 
 static const struct { const char *name; uint32_t (*call)(const struct side *); uint32_t no; } rows[] = {
     {"join, 512 + 512 equal keys", join_equal, 0},
@@ -119,6 +123,7 @@ static const struct { const char *name; uint32_t (*call)(const struct side *); u
     {"score, deep window of a whole month", score_window, 0},
     {"score, 512 events", score_events, 0},
     {"share, 64 lines", share_full, 0},
+    {"share, 64 lines of one energy", share_equal, 0},
 };
 enum { ROWS = sizeof rows / sizeof *rows };
 

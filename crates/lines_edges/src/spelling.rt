@@ -9,21 +9,6 @@ pub struct Spelled {
     pub next: usize,
 }
 
-// The place of the first line feed from a place on, or the end.
-pub fn line_end(text: &[u8], from: usize) -> usize
-    requires { ⌜ from ≤ length (now text) ⌝ }
-    ensures { λ r. ⌜ (from ≤ r) × (r ≤ length (now (text .entry))) ⌝ }
-{
-    let mut i = from;
-    while i < text.len() {
-        if text[i] == b'\n' {
-            return i;
-        }
-        i += 1;
-    }
-    i
-}
-
 // What a hexadecimal digit is worth, in lower case.
 fn worth(text: &[u8], at: usize) -> u8
     ensures { λ r. ⌜ r < 16 ⌝ }
@@ -60,11 +45,11 @@ fn put(out: &mut [u8], at: usize, b: u8)
     }
 }
 
-// The text that a case spells, as far as there is room: how many bytes.
-pub fn spell(text: &[u8], out: &mut [u8]) -> usize
+// The text that a case spells from a place on, as far as there is room: how many bytes.
+pub fn spell(text: &[u8], from: usize, out: &mut [u8]) -> usize
     ensures { λ r. ⌜ (r ≤ length (now (out .exit))) × (length (now (out .exit)) ≡ length (now (out .entry))) ⌝ }
 {
-    let mut i = 0;
+    let mut i = from;
     let mut n = 0;
     while i < text.len() {
         if n == out.len() {

@@ -2,12 +2,13 @@
 use mathlib.Core.Path.{_≡_, refl, sym, ap, _∙_}
 use mathlib.Core.Bool.{Bool, true, false, cond}
 use mathlib.Core.List.{List, [], _∷_, _++_}
-use Prim.Native.Nat.{ℕ, zero, suc, _≤_, _<_}
+use Prim.Native.Nat.{ℕ, zero, suc, min, _≤_, _<_}
+use native.Mathlib.Nat.{min-eq-left, min-eq-right}
 use native.Mathlib.Decide.{decLe}
 use native.Mathlib.Omega.{arith}
 use borrow.Author.Tests.{le-ltb}
 use lib.ListN.{length, take, length-append}
-use lib.Seq.{take-all}
+use lib.Seq.{take-all, length-take-le}
 use Rattle.share.specs.declared.Line.{Line}
 use Rattle.share.specs.Sharing.{soundLine, firstBad, refused, sharing}
 use Rattle.share.specs.Forms.{blank, counted}
@@ -40,6 +41,28 @@ counted-many lines count e h =
     let whole : counted lines count ≡ lines ++ blank ∷ [] = take-all count (lines ++ blank ∷ []) (omega arith) in
     let same : firstBad 0 (lines ++ blank ∷ []) ≡ firstBad 0 (take 64 lines) = bad-blank 0 lines ∙ ap (firstBad 0) (sym (take-all 64 lines (omega arith))) in
     rw (whole, ← same) (sharing-10 (lines ++ blank ∷ []) (omega (arith, bad-blank 0 lines, bad-le 0 lines)))
+
+-- the array form looks at the lines that the array has, however many are counted
+module _ (lines : List Line) (count n : ℕ) (e : length lines ≡ 64) (m : n ≡ min count 64) where
+  pub counted-bad : firstBad 0 (take n lines) < count → refused 10 (firstBad 0 (take n lines)) ≡ sharing (counted lines count)
+  counted-bad h = go (decLe count 64)
+    where
+      go : Dec (count ≤ 64) → refused 10 (firstBad 0 (take n lines)) ≡ sharing (counted lines count)
+      go (yes f) =
+          let same : n ≡ count = m ∙ min-eq-left f in
+          rw (counted-few lines count (omega arith), ← same) (sharing-10 (take n lines) (omega (arith, length-take-le n lines (omega arith))))
+      go (no f) =
+          let same : n ≡ 64 = m ∙ min-eq-right (omega arith) in
+          rw same (counted-many lines count e (omega arith))
+
+  pub counted-sound : count ≤ firstBad 0 (take n lines) → (n ≡ count) × (count ≤ 64)
+  counted-sound h = go (decLe count 64)
+    where
+      go : Dec (count ≤ 64) → (n ≡ count) × (count ≤ 64)
+      go (yes f) = (m ∙ min-eq-left f, f)
+      go (no f) =
+          let same : n ≡ 64 = m ∙ min-eq-right (omega arith) in
+          absurd (omega (arith, bad-le 0 (take n lines), length-take-le n lines (omega arith)))
 
 bad-take : (before n : ℕ) (ls : List Line) → firstBad before ls ≤ n → firstBad before (take n ls) ≡ firstBad before ls
 bad-take before zero ls h = omega arith

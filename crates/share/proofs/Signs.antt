@@ -44,6 +44,13 @@ abs-down a c h = rw (diff-down a c h) (omega arith)
 pub abs-up : (a c : ℕ) → c ≤ a → a - c ≡ natAbs (pos a -ℤ pos c)
 abs-up a c h = rw (diff-up a c h)
 
+pub abs-most : (a c m : ℕ) → a ≤ m → c ≤ m → natAbs (pos a -ℤ pos c) ≤ m
+abs-most a c m h k = go (decLe c a)
+  where
+    go : Dec (c ≤ a) → natAbs (pos a -ℤ pos c) ≤ m
+    go (yes l) = omega (arith, abs-up a c l)
+    go (no f) = omega (arith, abs-down a c (omega arith))
+
 -- a difference of two amounts below 2 ^ 63 fits 64 bits
 pub diff-fits : (a b : ℕ) → a < 2 ^ 63 → b < 2 ^ 63 → SFits w64 (pos a -ℤ pos b)
 diff-fits a b h k = go (decLe b a)

@@ -40,11 +40,7 @@ pub struct Answer {
 pub fn share(lines: [Line; 64], count: usize) -> Shared
     ensures { λ r. ⌜ r ≡ sharedArray lines count ⌝ }
 {
-    if 64 < count {
-        let bad = settle::first_bad(lines, 64);
-        return settle::refuse(10, bad, lines);
-    }
-    let bad = settle::first_bad(lines, count);
+    let bad = settle::first_bad(lines, array::seen(count));
     if bad < count {
         return settle::refuse(10, bad, lines);
     }

@@ -121,6 +121,13 @@ fn difference(a: Fen, b: Fen) -> SignedFen
     SignedFen((a.0 as i64) - (b.0 as i64))
 }
 
+// How far apart two amounts are.
+fn apart(a: u64, b: u64) -> Fen
+    ensures { λ r. ⌜ r .0 ≡ natAbs (pos a -ℤ pos b) ⌝ }
+{
+    if a < b { Fen(b - a) } else { Fen(a - b) }
+}
+
 fn with(l: Line, share: SignedFen, amount: SignedFen) -> Line
     ensures { λ r. ⌜ r ≡ filled l (record { share = share .0; amount = amount .0 }) ⌝ }
 {
@@ -236,10 +243,7 @@ pub fn settle(lines: [Line; 64], count: usize) -> Shared
         return refuse(15, 0, lines);
     }
     let a = s.assessed.0;
+    let amount = apart(a, c);
     let whole = difference(Fen(a), Fen(c));
-    if a < c {
-        part(lines, count, Fen(c - a), true, whole)
-    } else {
-        part(lines, count, Fen(a - c), false, whole)
-    }
+    part(lines, count, amount, a < c, whole)
 }

@@ -1,45 +1,51 @@
 -- `edges::run` meets its contract.
-use Prim.Native.Nat.{_≤_, _-_}
+use Prim.Native.Nat.{_-_}
 use lib.ListN.{length}
 use borrow.Author.Needs.{needs}
 use Rattle.edges.proofs.run.Statement.{statement}
 use Rattle.edges.proofs.run.Tie as tie
 
 abbrev Inv-loop : tie.InvT-loop
-Inv-loop text tally₀ reader₀ line₀ i₀ tally reader line i = i ≤ length text
+Inv-loop text tally₀ at₀ tally at = Unit {0}
 
 abbrev μ-loop : tie.MeasureT-loop
-μ-loop text tally₀ reader₀ line₀ i₀ tally reader line i = length text - i
+μ-loop text tally₀ at₀ tally at = length text - at
 
-new-requires : tie.Need-new-requires Inv-loop μ-loop
-new-requires c κs = search needs
+start-requires : tie.Need-start-requires Inv-loop μ-loop
+start-requires c κs = search needs
 
 loop-holds : tie.Need-loop-holds Inv-loop μ-loop
 loop-holds c = search needs
 
-shared-slice-read-step : tie.Need-shared-slice-read-step Inv-loop μ-loop
-shared-slice-read-step c = search needs
+sub-before : tie.Need-sub-before Inv-loop μ-loop
+sub-before c = search needs
 
-step-requires : tie.Need-step-requires Inv-loop μ-loop
-step-requires c κs = search needs
+part-before-start : tie.Need-part-before-start Inv-loop μ-loop
+part-before-start c = search needs
 
-shared-slice-read-if1 : tie.Need-shared-slice-read-if1 Inv-loop μ-loop
-shared-slice-read-if1 c = search needs
+part-before-end : tie.Need-part-before-end Inv-loop μ-loop
+part-before-end c = search needs
 
-row-requires : tie.Need-row-requires Inv-loop μ-loop
-row-requires c κs = search needs
+before-requires : tie.Need-before-requires Inv-loop μ-loop
+before-requires c κs = search needs
+
+add-end : tie.Need-add-end Inv-loop μ-loop
+add-end c = search needs
+
+sub-with : tie.Need-sub-with Inv-loop μ-loop
+sub-with c = search needs
+
+part-with-start : tie.Need-part-with-start Inv-loop μ-loop
+part-with-start c = search needs
+
+part-with-end : tie.Need-part-with-end Inv-loop μ-loop
+part-with-end c = search needs
 
 with-requires : tie.Need-with-requires Inv-loop μ-loop
 with-requires c κs = search needs
 
-new-requires-2 : tie.Need-new-requires-2 Inv-loop μ-loop
-new-requires-2 c κs = search needs
-
-more-requires : tie.Need-more-requires Inv-loop μ-loop
-more-requires c κs = search needs
-
-add-i : tie.Need-add-i Inv-loop μ-loop
-add-i c = search needs
+add-at : tie.Need-add-at Inv-loop μ-loop
+add-at c = search needs
 
 loop-less : tie.Need-loop-less Inv-loop μ-loop
 loop-less c = search needs
@@ -56,16 +62,18 @@ run-spec =
     (tie.spec
     Inv-loop
     μ-loop
-    new-requires
+    start-requires
     loop-holds
-    shared-slice-read-step
-    step-requires
-    shared-slice-read-if1
-    row-requires
+    sub-before
+    part-before-start
+    part-before-end
+    before-requires
+    add-end
+    sub-with
+    part-with-start
+    part-with-end
     with-requires
-    new-requires-2
-    more-requires
-    add-i
+    add-at
     loop-less
     loop-again
     returns)

@@ -11,11 +11,26 @@ Inv-loop text tally₀ at₀ tally at = Unit {0}
 abbrev μ-loop : tie.MeasureT-loop
 μ-loop text tally₀ at₀ tally at = length text - at
 
+start-requires : tie.Need-start-requires Inv-loop μ-loop
+start-requires c κs = search needs
+
 loop-holds : tie.Need-loop-holds Inv-loop μ-loop
 loop-holds c = search needs
 
-line-end-requires : tie.Need-line-end-requires Inv-loop μ-loop
-line-end-requires c κs = search needs
+sub-before : tie.Need-sub-before Inv-loop μ-loop
+sub-before c = search needs
+
+part-before-start : tie.Need-part-before-start Inv-loop μ-loop
+part-before-start c = search needs
+
+part-before-end : tie.Need-part-before-end Inv-loop μ-loop
+part-before-end c = search needs
+
+before-requires : tie.Need-before-requires Inv-loop μ-loop
+before-requires c κs = search needs
+
+add-end : tie.Need-add-end Inv-loop μ-loop
+add-end c = search needs
 
 sub-with : tie.Need-sub-with Inv-loop μ-loop
 sub-with c = search needs
@@ -47,8 +62,13 @@ run-spec =
     (tie.spec
     Inv-loop
     μ-loop
+    start-requires
     loop-holds
-    line-end-requires
+    sub-before
+    part-before-start
+    part-before-end
+    before-requires
+    add-end
     sub-with
     part-with-start
     part-with-end

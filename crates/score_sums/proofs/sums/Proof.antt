@@ -1,15 +1,15 @@
 -- `score_sums::sums` meets its contract.
-use Prim.Native.Nat.{_≤_, _-_}
+use Prim.Native.Nat.{_-_}
 use lib.ListN.{length}
 use borrow.Author.Needs.{needs}
 use Rattle.score_sums.proofs.sums.Statement.{statement}
 use Rattle.score_sums.proofs.sums.Tie as tie
 
 abbrev Inv-loop : tie.InvT-loop
-Inv-loop text count₀ line₀ i₀ count line i = i ≤ length text
+Inv-loop text tally₀ at₀ tally at = Unit {0}
 
 abbrev μ-loop : tie.MeasureT-loop
-μ-loop text count₀ line₀ i₀ count line i = length text - i
+μ-loop text tally₀ at₀ tally at = length text - at
 
 start-requires : tie.Need-start-requires Inv-loop μ-loop
 start-requires c κs = search needs
@@ -17,26 +17,35 @@ start-requires c κs = search needs
 loop-holds : tie.Need-loop-holds Inv-loop μ-loop
 loop-holds c = search needs
 
-shared-slice-read-step : tie.Need-shared-slice-read-step Inv-loop μ-loop
-shared-slice-read-step c = search needs
+sub-before : tie.Need-sub-before Inv-loop μ-loop
+sub-before c = search needs
 
-step-requires : tie.Need-step-requires Inv-loop μ-loop
-step-requires c κs = search needs
+part-before-start : tie.Need-part-before-start Inv-loop μ-loop
+part-before-start c = search needs
 
-shared-slice-read-if1 : tie.Need-shared-slice-read-if1 Inv-loop μ-loop
-shared-slice-read-if1 c = search needs
+part-before-end : tie.Need-part-before-end Inv-loop μ-loop
+part-before-end c = search needs
 
-with-line-requires : tie.Need-with-line-requires Inv-loop μ-loop
-with-line-requires c κs = search needs
+before-requires : tie.Need-before-requires Inv-loop μ-loop
+before-requires c κs = search needs
 
-more-requires : tie.Need-more-requires Inv-loop μ-loop
-more-requires c κs = search needs
+add-end : tie.Need-add-end Inv-loop μ-loop
+add-end c = search needs
 
-start-requires-2 : tie.Need-start-requires-2 Inv-loop μ-loop
-start-requires-2 c κs = search needs
+sub-with : tie.Need-sub-with Inv-loop μ-loop
+sub-with c = search needs
 
-add-i : tie.Need-add-i Inv-loop μ-loop
-add-i c = search needs
+part-with-start : tie.Need-part-with-start Inv-loop μ-loop
+part-with-start c = search needs
+
+part-with-end : tie.Need-part-with-end Inv-loop μ-loop
+part-with-end c = search needs
+
+with-requires : tie.Need-with-requires Inv-loop μ-loop
+with-requires c κs = search needs
+
+add-at : tie.Need-add-at Inv-loop μ-loop
+add-at c = search needs
 
 loop-less : tie.Need-loop-less Inv-loop μ-loop
 loop-less c = search needs
@@ -55,13 +64,16 @@ sums-spec =
     μ-loop
     start-requires
     loop-holds
-    shared-slice-read-step
-    step-requires
-    shared-slice-read-if1
-    with-line-requires
-    more-requires
-    start-requires-2
-    add-i
+    sub-before
+    part-before-start
+    part-before-end
+    before-requires
+    add-end
+    sub-with
+    part-with-start
+    part-with-end
+    with-requires
+    add-at
     loop-less
     loop-again
     returns)

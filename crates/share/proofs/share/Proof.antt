@@ -1,20 +1,23 @@
 -- `share::share` meets its contract.
 use mathlib.Core.Path.{_≡_, ap, sym, _∙_}
-use Prim.Native.Nat.{ℕ}
+use Prim.Native.Nat.{ℕ, _≤_}
 use native.Mathlib.Omega.{arith}
 use lib.ListN.{length, take}
 use lib.Seq.{length-take-le}
-use Rattle.share.specs.Sharing.{Outcome, refused, sharing}
+use Rattle.share.specs.Sharing.{Outcome, firstBad, refused, sharing}
 use Rattle.share.specs.Forms.{arrayOf, sharedArray}
 use Rattle.share.proofs.Bounds.{all-within}
-use Rattle.share.proofs.Cases.{sharing-10, sharing-on}
-use Rattle.share.proofs.Counted.{counted-few, counted-many}
+use Rattle.share.proofs.Cases.{sharing-on}
+use Rattle.share.proofs.Counted.{counted-few, counted-bad, counted-sound}
 use borrow.Author.Needs.{needs}
 use Rattle.share.proofs.share.Statement.{statement}
 use Rattle.share.proofs.share.Tie as tie
 
+seen-requires : tie.Need-seen-requires
+seen-requires c κs = search needs
+
 first-bad-requires : tie.Need-first-bad-requires
-first-bad-requires c κs = search needs
+first-bad-requires c κs = c .seen .ensures .2
 
 refuse-requires : tie.Need-refuse-requires
 refuse-requires c κs = search needs
@@ -22,56 +25,40 @@ refuse-requires c κs = search needs
 returns : tie.Need-returns
 unfolding sharedArray
 returns c =
-    let s = c .before .before .before in
+    let s = c .before .before .before .before in
+    let n : ℕ = c .before .before .before .seen .result in
     let long : length (s .args .lines) ≡ 64 = search needs in
+    let bad : c .before .before .first-bad .result ≡ firstBad 0 (take n (s .args .lines)) = c .before .before .first-bad .ensures in
     c .refuse .ensures ∙ ap (λ (o : Outcome). arrayOf (s .args .lines) o)
-    (ap (λ (p : ℕ). refused 10 p) (c .before .first-bad .ensures) ∙ counted-many (s .args .lines) (s .args .count) long (c .before .before .if1 .taken))
+    (ap (λ (p : ℕ). refused 10 p) bad ∙ counted-bad (s .args .lines) (s .args .count) n long (c .before .before .before .seen .ensures .0) (omega (arith, bad, c .before .if1 .taken)))
 
-first-bad-requires-2 : tie.Need-first-bad-requires-2
-first-bad-requires-2 c κs = search needs
+-- past the test: the lines counted are in the array, and sound
+all-sound : (c : tie.Else1) → let s = c .before .before .before in
+    (s .args .count ≤ 64) × (length (take (s .args .count) (s .args .lines)) ≤ firstBad 0 (take (s .args .count) (s .args .lines)))
+all-sound c =
+    let s = c .before .before .before in
+    let n : ℕ = c .before .before .seen .result in
+    let long : length (s .args .lines) ≡ 64 = search needs in
+    let bad : c .before .first-bad .result ≡ firstBad 0 (take n (s .args .lines)) = c .before .first-bad .ensures in
+    let few = counted-sound (s .args .lines) (s .args .count) n long (c .before .before .seen .ensures .0) (omega (arith, bad, c .if1 .left)) in
+    let same : firstBad 0 (take n (s .args .lines)) ≡ firstBad 0 (take (s .args .count) (s .args .lines)) = ap (λ (k : ℕ). firstBad 0 (take k (s .args .lines))) (few .0) in
+    let l = length-take-le (s .args .count) (s .args .lines) (omega (arith, few .1)) in
+    (few .1, omega (arith, bad, same, l, c .if1 .left))
 
-refuse-requires-2 : tie.Need-refuse-requires-2
-refuse-requires-2 c κs = search needs
+settle-requires : tie.Need-settle-requires
+settle-requires c κs =
+    let s = c .before .before .before in
+    let l = all-sound c in
+    (l .0, all-within 0 (take (s .args .count) (s .args .lines)) (l .1))
 
 returns-2 : tie.Need-returns-2
 unfolding sharedArray
 returns-2 c =
     let s = c .before .before .before .before in
-    let ls = take (s .args .count) (s .args .lines) in
     let long : length (s .args .lines) ≡ 64 = search needs in
-    let l = length-take-le (s .args .count) (s .args .lines) (omega arith) in
-    c .refuse2 .ensures ∙ ap (λ (o : Outcome). arrayOf (s .args .lines) o)
-    (ap (λ (p : ℕ). refused 10 p) (c .before .before .first-bad2 .ensures) ∙ sharing-10 ls (omega (arith, c .before .before .first-bad2 .ensures, c .before .if2 .taken))
-    ∙ ap sharing (sym (counted-few (s .args .lines) (s .args .count) (omega arith))))
-
-settle-requires : tie.Need-settle-requires
-settle-requires c κs =
-    let s = c .before .before .before in
-    let ls = take (s .args .count) (s .args .lines) in
-    let long : length (s .args .lines) ≡ 64 = search needs in
-    let l = length-take-le (s .args .count) (s .args .lines) (omega arith) in
-    (omega arith, all-within 0 ls (omega (arith, c .before .first-bad2 .ensures, c .if2 .left)))
-
-returns-3 : tie.Need-returns-3
-unfolding sharedArray
-returns-3 c =
-    let s = c .before .before .before .before in
-    let ls = take (s .args .count) (s .args .lines) in
-    let long : length (s .args .lines) ≡ 64 = search needs in
-    let l = length-take-le (s .args .count) (s .args .lines) (omega arith) in
+    let l = all-sound (c .before) in
     c .settle .ensures ∙ ap (λ (o : Outcome). arrayOf (s .args .lines) o)
-    (sharing-on ls (omega (arith, c .before .before .first-bad2 .ensures, c .before .if2 .left))
-    ∙ ap sharing (sym (counted-few (s .args .lines) (s .args .count) (omega arith))))
+    (sharing-on (take (s .args .count) (s .args .lines)) (l .1) ∙ ap sharing (sym (counted-few (s .args .lines) (s .args .count) (omega (arith, l .0)))))
 
 pub share-spec : {M : Type 1} → statement M
-share-spec =
-    tie.close
-    (tie.spec
-    first-bad-requires
-    refuse-requires
-    returns
-    first-bad-requires-2
-    refuse-requires-2
-    returns-2
-    settle-requires
-    returns-3)
+share-spec = tie.close (tie.spec seen-requires first-bad-requires refuse-requires returns settle-requires returns-2)

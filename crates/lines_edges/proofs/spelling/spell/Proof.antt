@@ -7,10 +7,10 @@ use Rattle.lines_edges.proofs.spelling.spell.Statement.{statement}
 use Rattle.lines_edges.proofs.spelling.spell.Tie as tie
 
 abbrev Inv-loop : tie.InvT-loop
-Inv-loop text out₀ i₀ n₀ out i n = (n ≤ length out) × (length out ≡ length out₀)
+Inv-loop text from out₀ i₀ n₀ out i n = (n ≤ length out) × (length out ≡ length out₀)
 
 abbrev μ-loop : tie.MeasureT-loop
-μ-loop text out₀ i₀ n₀ out i n = length text - i
+μ-loop text from out₀ i₀ n₀ out i n = length text - i
 
 loop-holds : tie.Need-loop-holds Inv-loop μ-loop
 loop-holds c = search needs

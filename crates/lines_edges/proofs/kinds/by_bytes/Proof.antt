@@ -1,9 +1,9 @@
--- `lines_edges::cases::by_bytes` meets its contract.
+-- `lines_edges::kinds::by_bytes` meets its contract.
 use Prim.Native.Nat.{_≤_, _-_}
 use lib.ListN.{length}
 use borrow.Author.Needs.{needs}
-use Rattle.lines_edges.proofs.cases.by_bytes.Statement.{statement}
-use Rattle.lines_edges.proofs.cases.by_bytes.Tie as tie
+use Rattle.lines_edges.proofs.kinds.by_bytes.Statement.{statement}
+use Rattle.lines_edges.proofs.kinds.by_bytes.Tie as tie
 
 abbrev Inv-loop : tie.InvT-loop
 Inv-loop text reader₀ i₀ reader i = i ≤ length text

@@ -1,10 +1,10 @@
--- `edges::cases::fill` meets its contract.
+-- `edges::kinds::fill` meets its contract.
 use mathlib.Core.Path.{_≡_}
 use lib.ListN.{length}
 use Prim.Native.Nat.{_≤_, _-_}
 use borrow.Author.Needs.{needs}
-use Rattle.edges.proofs.cases.fill.Statement.{statement}
-use Rattle.edges.proofs.cases.fill.Tie as tie
+use Rattle.edges.proofs.kinds.fill.Statement.{statement}
+use Rattle.edges.proofs.kinds.fill.Tie as tie
 
 abbrev Inv-loop : tie.InvT-loop
 Inv-loop b₀ n i₀ b i = (i ≤ n) × (length b ≡ length b₀)

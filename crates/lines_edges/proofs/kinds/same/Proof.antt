@@ -1,8 +1,8 @@
--- `lines_edges::cases::same` meets its contract.
+-- `lines_edges::kinds::same` meets its contract.
 use Prim.Native.Nat.{_≤_, _-_}
 use borrow.Author.Needs.{needs}
-use Rattle.lines_edges.proofs.cases.same.Statement.{statement}
-use Rattle.lines_edges.proofs.cases.same.Tie as tie
+use Rattle.lines_edges.proofs.kinds.same.Statement.{statement}
+use Rattle.lines_edges.proofs.kinds.same.Tie as tie
 
 abbrev Inv-loop : tie.InvT-loop
 Inv-loop all₀ a b i₀ all i = i ≤ 64

@@ -1,15 +1,15 @@
--- `lines_edges::spelling::line_end` meets its contract.
+-- `cases::row::before` meets its contract.
 use Prim.Native.Nat.{_≤_, _-_}
 use lib.ListN.{length}
 use borrow.Author.Needs.{needs}
-use Rattle.lines_edges.proofs.spelling.line_end.Statement.{statement}
-use Rattle.lines_edges.proofs.spelling.line_end.Tie as tie
+use Rattle.cases.proofs.row.before.Statement.{statement}
+use Rattle.cases.proofs.row.before.Tie as tie
 
 abbrev Inv-loop : tie.InvT-loop
-Inv-loop text from i₀ i = (from ≤ i) × (i ≤ length text)
+Inv-loop text b i₀ i = i ≤ length text
 
 abbrev μ-loop : tie.MeasureT-loop
-μ-loop text from i₀ i = length text - i
+μ-loop text b i₀ i = length text - i
 
 loop-holds : tie.Need-loop-holds Inv-loop μ-loop
 loop-holds c = search needs
@@ -32,8 +32,8 @@ loop-again c = search needs
 returns-2 : tie.Need-returns-2 Inv-loop μ-loop
 returns-2 c = search needs
 
-pub line-end-spec : {M : Type 1} → statement M
-line-end-spec =
+pub before-spec : {M : Type 1} → statement M
+before-spec =
     tie.close
     (tie.spec
     Inv-loop

@@ -1,5 +1,5 @@
 // Each kind of case: what the crates do, held against what the case's line says.
-use crate::head::Head;
+use cases::row::Row;
 use lines::Reader;
 use lines::Taken;
 use share::Line;
@@ -63,52 +63,57 @@ fn in_halves(text: &[u8]) -> Taken {
     third.finish()
 }
 
+// Whether a refusal's number and place, or zeros, are those that the case says.
+fn told(row: Row, number: u32, place: usize) -> bool {
+    (number as u64 == row.value(1)) & (place as u64 == row.value(2))
+}
+
 // 1 number place count | text: the text read whole, a byte at a time, and in two parts.
-pub fn reading(head: Head, text: &[u8]) -> bool {
+pub fn reading(row: Row, text: &[u8]) -> bool {
     let t = lines::read_text(text);
-    let told = (t.number as u64 == head.value(1))
-        & (t.place as u64 == head.value(2))
-        & (t.count as u64 == head.value(3));
-    told & (head.count() == 4) & same(t, by_bytes(text)) & same(t, in_halves(text))
+    let right = told(row, t.number, t.place) & (t.count as u64 == row.value(3)) & (row.count == 4);
+    right & same(t, by_bytes(text)) & same(t, in_halves(text))
 }
 
 // Whether the line at a place has the share and the amount that the case says, or zeros where it says none.
-fn part_is(s: Shared, head: Head, i: usize) -> bool {
+fn part_is(s: Shared, row: Row, i: usize) -> bool {
     if i < 64 {
         let lines = s.lines;
         let l = lines[i];
         let share = le::bits64(l.share.0);
         let amount = le::bits64(l.amount.0);
-        return (share == head.value(4 + 2 * i)) & (amount == head.value(5 + 2 * i));
+        return (share == row.value(4 + 2 * i)) & (amount == row.value(5 + 2 * i));
     }
     false
 }
 
-// 2 number place R, share amount for each line | text: the sharing of the text, of six lines at the most.
-pub fn sharing(head: Head, text: &[u8]) -> bool {
-    let t = lines::read_text(text);
-    let count = t.count;
-    let s = t.shared();
-    let named = if s.number == 0 { count } else { 0 };
-    if 6 < named {
-        return false;
-    }
-    let told = (s.number as u64 == head.value(1))
-        & (s.place as u64 == head.value(2))
-        & (le::bits64(s.gap.0) == head.value(3));
-    let mut all = told & (head.count() == 4 + 2 * named);
+fn parts_are(s: Shared, row: Row) -> bool {
+    let mut all = true;
     let mut i: usize = 0;
     while i < 64 {
-        all = all & part_is(s, head, i);
+        all = all & part_is(s, row, i);
         i += 1;
     }
     all
 }
 
+// 2 number place R, share amount for each line | text: the sharing of the text, of fourteen lines at the most.
+pub fn sharing(row: Row, text: &[u8]) -> bool {
+    let t = lines::read_text(text);
+    let count = t.count;
+    let s = t.shared();
+    let named = if s.number == 0 { count } else { 0 };
+    if 14 < named {
+        return false;
+    }
+    let right = told(row, s.number, s.place) & (le::bits64(s.gap.0) == row.value(3));
+    right & (row.count == 4 + 2 * named) & parts_are(s, row)
+}
+
 // 3 settled | text: whether the answer is known, whatever follows.
-pub fn settling(head: Head, text: &[u8]) -> bool {
+pub fn settling(row: Row, text: &[u8]) -> bool {
     let first = Reader::start();
     let reader = first.feed(text);
     let settled: u64 = if reader.is_settled() { 1 } else { 0 };
-    (head.count() == 2) & (settled == head.value(1))
+    (row.count == 2) & (settled == row.value(1))
 }
