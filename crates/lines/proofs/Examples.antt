@@ -4,6 +4,7 @@ use mathlib.Core.Bool.{Bool, true, _&&_}
 use mathlib.Core.List.{List, [], _∷_, _++_}
 use Prim.Native.Nat.{ℕ}
 use lib.Dec.{eqb}
+use Rattle.row.specs.Numbers.{numbersIn}
 use Rattle.share.specs.Sharing.{soundLine}
 use Rattle.lines.specs.declared.Taken.{Taken}
 use Rattle.lines.specs.Text.{lineOf, textLines, arrayFrom, judged, readText}
@@ -60,5 +61,5 @@ every (c ∷ cs) = as-said c (readText (c .text)) && every cs
 
 -- Each text is read as the table says.
 pub reads-as-told : every cases ≡ true
-unfolding every as-said cases sample first second third readText judged textLines lineOf soundLine arrayFrom
+unfolding every as-said cases sample first second third readText judged textLines lineOf numbersIn soundLine arrayFrom
 reads-as-told = refl

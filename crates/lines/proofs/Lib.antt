@@ -1,7 +1,6 @@
-pub mod Rows
 pub mod Texts
+pub mod Lines
 pub mod Sheets
-pub mod Judging
 pub mod Settling
 pub mod Promises
 pub mod Examples

@@ -9,19 +9,21 @@ use lib.Dec.{leb, ltb, eqb}
 use lib.ListN.{length, take, getD, replicate, length-take, length-replicate}
 use borrow.Author.Tests.{ltb-true, ltb-false, leb-true, eqb-true, eqb-false, lt-ltb, le-ltb, le-leb, eq-eqb, ne-eqb, not-true, not-false}
 use Rattle.le.proofs.Tests.{Hold, each, all}
+use Rattle.row.specs.declared.Row.{Row}
+use Rattle.row.specs.Numbers.{onto, partsOf, linesOf, isDigit, digits, some, numbers, value, held}
+use Rattle.row.specs.Meaning.{begun, isRow, rowAt, rowParts, rowNumbers}
+use Rattle.row.specs.Judging.{judgeFrom, outcomeOf}
+use Rattle.row.proofs.Texts.{and-false, or-true, grows, Without, line-last, by-parts}
+use Rattle.row.proofs.Rows.{foreign, none-row}
 use Rattle.share.specs.declared.Line.{Line}
 use Rattle.share.specs.Sharing.{soundLine, mostNumber, mostStatus, mostEnergy, mostCompensation, mostAssessment}
 use Rattle.share.specs.Forms.{blank}
 use Rattle.share.proofs.Counted.{blank-bad}
-use Rattle.lines.specs.declared.row.Row.{Row}
 use Rattle.lines.specs.declared.Reader.{Reader}
 use Rattle.lines.specs.declared.Taken.{Taken}
-use Rattle.lines.specs.Text.{onto, piecesOf, linesOf, isDigit, digits, some, numbers, value, asLine, refusedAt}
-use Rattle.lines.specs.Meaning.{fair, begun, isFive, rowAt, rowPieces, rowLine, linesFrom, judgeFrom, meaning}
+use Rattle.lines.specs.Text.{asLine, refusedAt}
+use Rattle.lines.specs.Meaning.{rowLine, linesFrom, inTurn, meaning}
 use Rattle.lines.specs.Settling.{numberBytes, zeros, bestBytes, Settled, Tells}
-use Rattle.lines.proofs.Rows.{and-false, or-true, grows}
-use Rattle.lines.proofs.Judging.{fair-sound}
-use Rattle.lines.proofs.Texts.{Without, line-last}
 
 -- The bytes that end the open number
 
@@ -162,7 +164,7 @@ in-first b w zs h k z = (h, k, omega (arith, z 0), omega (arith, z 1), omega (ar
 zeroPieces : ℕ → List (List ℕ)
 zeroPieces k = replicate k (48 ∷ [])
 
-zero-values : (k j : ℕ) → getD (map (value 0) (zeroPieces k)) j 0 ≡ 0
+zero-values : (k j : ℕ) → getD (map held (map (value 0) (zeroPieces k))) j 0 ≡ 0
 unfolding zeroPieces
 zero-values zero j = refl
 zero-values (suc k) zero = refl
@@ -176,7 +178,7 @@ zero-numbers (suc k) = zero-numbers k
 no-space : (d : ℕ) → isDigit d ≡ true → eqb d 32 ≡ false
 no-space d h = ne-eqb d 32 (λ e. omega (arith, leb-true 48 d (each (leb 48 d) (leb d 57 ∷ []) h .0), e))
 
-best-pieces : (p : List ℕ) (k : ℕ) → digits p ≡ true → piecesOf (p ++ zeros k) ≡ p ∷ zeroPieces k
+best-pieces : (p : List ℕ) (k : ℕ) → digits p ≡ true → partsOf 32 (p ++ zeros k) ≡ p ∷ zeroPieces k
 unfolding zeroPieces
 best-pieces [] zero h = refl
 best-pieces [] (suc k) h = ap (λ (ps : List (List ℕ)). [] ∷ onto 48 ps) (best-pieces [] k refl)
@@ -186,33 +188,29 @@ best-pieces (d ∷ p) k h =
 
 -- The best bytes
 
--- the numbers of a line of which `p` is left of the open one, and the pieces `ps` come behind it
+-- the numbers of a line of which `p` is left of the open one, and the parts `ps` come behind it
 abbrev fiveWith : Row → List ℕ → List (List ℕ) → List ℕ
-fiveWith row p ps = take (row .at) (row .ended) ++ value (row .value) p ∷ map (value 0) ps
+fiveWith row p ps = take (row .at) (row .ended) ++ map held (value (row .value) p ∷ map (value 0) ps)
 
 -- a sound line is five numbers
-five-of : (b : ℕ) (row : Row) (p : List ℕ) (ps : List (List ℕ)) → soundLine b (rowAt row p ps) ≡ true
-    → (isFive row p ps ≡ true) × (soundLine b (asLine (fiveWith row p ps)) ≡ true)
-five-of b row p ps h = go (isFive row p ps) refl h
+five-of : (b : ℕ) (row : Row) (p : List ℕ) (ps : List (List ℕ)) → soundLine b (asLine (rowAt 4 row p ps)) ≡ true
+    → (isRow 4 row p ps ≡ true) × (soundLine b (asLine (fiveWith row p ps)) ≡ true)
+five-of b row p ps h = go (isRow 4 row p ps) refl h
   where
-    go : (t : Bool) → isFive row p ps ≡ t → soundLine b (cond t (fair (asLine (fiveWith row p ps))) blank) ≡ true
-        → (isFive row p ps ≡ true) × (soundLine b (asLine (fiveWith row p ps)) ≡ true)
-    go true e k = (e, sym (fair-sound b (asLine (fiveWith row p ps))) ∙ k)
+    go : (t : Bool) → isRow 4 row p ps ≡ t → soundLine b (asLine (cond t (fiveWith row p ps) [])) ≡ true
+        → (isRow 4 row p ps ≡ true) × (soundLine b (asLine (fiveWith row p ps)) ≡ true)
+    go true e k = (e, k)
     go false e k = absurd (true≢false (sym k ∙ blank-bad b))
-
-of-five : (b : ℕ) (row : Row) (p : List ℕ) (ps : List (List ℕ)) → isFive row p ps ≡ true
-    → soundLine b (asLine (fiveWith row p ps)) ≡ true → soundLine b (rowAt row p ps) ≡ true
-of-five b row p ps e h = rw e (fair-sound b (asLine (fiveWith row p ps)) ∙ h)
 
 five-tests : Row → List ℕ → List (List ℕ) → List Bool
 five-tests row p ps = digits p ∷ (row .digit || some p) ∷ numbers ps ∷ eqb (row .at + length ps) 4 ∷ []
 
-module _ (b : ℕ) (row : Row) (long : length (row .ended) ≡ 4) where
-  best-at : (p : List ℕ) (ps : List (List ℕ)) → soundLine b (rowAt row p ps) ≡ true → soundLine b (rowLine row (bestBytes row)) ≡ true
-  unfolding five-tests zeroPieces
+module _ (b : ℕ) (row : Row) (long : length (row .ended) ≡ 5) where
+  best-at : (p : List ℕ) (ps : List (List ℕ)) → soundLine b (asLine (rowAt 4 row p ps)) ≡ true → soundLine b (rowLine row (bestBytes row)) ≡ true
+  unfolding five-tests zeroPieces rowNumbers
   best-at p ps h = go (decLe 1 (row .at))
     where
-      five : (isFive row p ps ≡ true) × (soundLine b (asLine (fiveWith row p ps)) ≡ true)
+      five : (isRow 4 row p ps ≡ true) × (soundLine b (asLine (fiveWith row p ps)) ≡ true)
       five = five-of b row p ps h
 
       limits : In b (fiveWith row p ps)
@@ -228,35 +226,33 @@ module _ (b : ℕ) (row : Row) (long : length (row .ended) ≡ 4) where
           → In b (fiveWith row (numberBytes row) (zeroPieces (4 - row .at)))
           → soundLine b (rowLine row (bestBytes row)) ≡ true
       end ds s l =
-          rw (best-pieces (numberBytes row) (4 - row .at) ds)
-          (of-five b row (numberBytes row) (zeroPieces (4 - row .at))
-          (all (not (row .bad)) (five-tests row (numberBytes row) (zeroPieces (4 - row .at)))
-          (t .0, (ds, (s, (zero-numbers (4 - row .at), (eq-eqb (row .at + length (zeroPieces (4 - row .at))) 4 (omega (arith, few, length-replicate {A = List ℕ} (4 - row .at) (48 ∷ []))), tt))))))
-          (in-sound b (fiveWith row (numberBytes row) (zeroPieces (4 - row .at))) l))
+          let all-tests : isRow 4 row (numberBytes row) (zeroPieces (4 - row .at)) ≡ true =
+          all (not (row .bad)) (five-tests row (numberBytes row) (zeroPieces (4 - row .at)))
+          (t .0, (ds, (s, (zero-numbers (4 - row .at), (eq-eqb (row .at + length (zeroPieces (4 - row .at))) 4 (omega (arith, few, length-replicate {A = List ℕ} (4 - row .at) (48 ∷ []))), tt))))) in
+          rw (best-pieces (numberBytes row) (4 - row .at) ds, all-tests) (in-sound b (fiveWith row (numberBytes row) (zeroPieces (4 - row .at))) l)
 
       go : Dec (1 ≤ row .at) → soundLine b (rowLine row (bestBytes row)) ≡ true
       go (yes k) =
           let n = next row p k (t .1 .1 .0) in
           let size : length (take (row .at) (row .ended)) ≡ row .at = length-take (row .at) (row .ended) ∙ omega (arith, few) in
           end (n .digits) (n .some)
-          (in-next b (take (row .at) (row .ended)) (value (row .value) p) (value (row .value) (numberBytes row)) (map (value 0) ps) (map (value 0) (zeroPieces (4 - row .at)))
-          (omega arith) (omega (arith, few)) (n .low) (zero-values (4 - row .at)) limits)
+          (in-next b (take (row .at) (row .ended)) (held (value (row .value) p)) (held (value (row .value) (numberBytes row)))
+          (map held (map (value 0) ps)) (map held (map (value 0) (zeroPieces (4 - row .at))))
+          (omega arith) (omega (arith, few)) (omega (arith, n .low)) (zero-values (4 - row .at)) limits)
       go (no k) =
           let none : row .at ≡ 0 = omega arith in
           let pre : take (row .at) (row .ended) ≡ [] = ap (λ (n : ℕ). take n (row .ended)) none in
-          let l = subst (λ (ns : List ℕ). In b (ns ++ value (row .value) p ∷ map (value 0) ps)) pre limits in
-          let f = first b row p (omega arith) (t .1 .0) (t .1 .1 .0) (l .0) (l .1) in
+          let l = subst (λ (ns : List ℕ). In b (ns ++ map held (value (row .value) p ∷ map (value 0) ps))) pre limits in
+          let f = first b row p (omega arith) (t .1 .0) (t .1 .1 .0) (omega (arith, l .0)) (omega (arith, l .1)) in
           end (f .digits) (f .some)
-          (subst (λ (ns : List ℕ). In b (ns ++ value (row .value) (numberBytes row) ∷ map (value 0) (zeroPieces (4 - row .at)))) (sym pre)
-          (in-first b (value (row .value) (numberBytes row)) (map (value 0) (zeroPieces (4 - row .at))) (f .above) (f .within) (zero-values (4 - row .at))))
+          (subst (λ (ns : List ℕ). In b (ns ++ map held (value (row .value) (numberBytes row) ∷ map (value 0) (zeroPieces (4 - row .at))))) (sym pre)
+          (in-first b (held (value (row .value) (numberBytes row))) (map held (map (value 0) (zeroPieces (4 - row .at))))
+          (omega (arith, f .above, f .within)) (omega (arith, f .within)) (zero-values (4 - row .at))))
 
   -- IF ANY BYTES MAKE AN OPEN LINE SOUND, THE BEST ONES DO.
   pub best-sound : (rest : List ℕ) → soundLine b (rowLine row rest) ≡ true → soundLine b (rowLine row (bestBytes row)) ≡ true
-  best-sound rest h = by-pieces (piecesOf rest) h
-    where
-      by-pieces : (qs : List (List ℕ)) → soundLine b (rowPieces row qs) ≡ true → soundLine b (rowLine row (bestBytes row)) ≡ true
-      by-pieces [] k = best-at [] [] k
-      by-pieces (p ∷ ps) k = best-at p ps k
+  unfolding rowNumbers
+  best-sound rest h = by-parts 32 (λ ps. soundLine b (asLine (rowParts 4 row ps)) ≡ true → soundLine b (rowLine row (bestBytes row)) ≡ true) best-at rest h
 
 -- The reader
 
@@ -297,7 +293,7 @@ lines-alone row [] h = rw h
 lines-alone row (b ∷ bs) h = refl
 
 pub tells-refused : (s : Reader) → s .sheet .refused ≡ true → Tells s true
-unfolding meaning
+unfolding meaning outcomeOf
 tells-refused s h = record { stays = λ _ rest. simp h; moves = λ e. absurd (true≢false e) }
 
 ten-or-none : (s : Reader) (bad good : List ℕ) → meaning s bad .number ≡ 10 → meaning s good .number ≡ 0 → Settled s → ⊥
@@ -307,10 +303,11 @@ ten-or-none s bad good b g h =
 
 module _ (s : Reader) (on : s .sheet .refused ≡ false) where
   pub tells-shut : begun (s .row) ≡ false → Tells s false
-  unfolding meaning
+  unfolding meaning outcomeOf
   tells-shut h =
       let d : s .row .digit ≡ false = no-digit (s .row .bad) (s .row .digit) (ltb 0 (s .row .at)) h in
-      let line : rowLine (s .row) [] ≡ blank = simp (d, and-false) in
+      let none : isRow 4 (s .row) [] [] ≡ false = simp (d, and-false) in
+      let line : rowLine (s .row) [] ≡ blank = ap asLine (none-row 32 4 (s .row) none) in
       record {
         stays = λ e. absurd (true≢false (sym e));
         moves = λ _. ten-or-none s (10 ∷ []) [] (rw (on, line, blank-bad (s .sheet .before))) (rw (on, h));
@@ -325,7 +322,7 @@ module _ (s : Reader) (on : s .sheet .refused ≡ false) where
     takes : List ℕ → Bool
     takes bytes = soundLine (s .sheet .before) (rowLine (s .row) bytes) && ltb (s .sheet .count) mostNumber
 
-    none-taken : length (s .row .ended) ≡ 4 → takes (bestBytes (s .row)) ≡ false → (rest : List ℕ) → takes rest ≡ false
+    none-taken : length (s .row .ended) ≡ 5 → takes (bestBytes (s .row)) ≡ false → (rest : List ℕ) → takes rest ≡ false
     unfolding takes
     none-taken long h rest = go (soundLine (s .sheet .before) (rowLine (s .row) rest)) (ltb (s .sheet .count) mostNumber) refl refl
       where
@@ -335,24 +332,24 @@ module _ (s : Reader) (on : s .sheet .refused ≡ false) where
         go true true e f = absurd (true≢false (sym (all _ (_ ∷ []) (best-sound (s .sheet .before) (s .row) long rest e, (f, tt))) ∙ h))
 
     refused-all : ((rest : List ℕ) → takes rest ≡ false) → (rest : List ℕ) → meaning s rest ≡ refusedAt (s .sheet .count)
-    unfolding meaning takes
+    unfolding meaning takes outcomeOf
     refused-all h rest = rw on (go (linesOf rest))
       where
-        go : (ls : List (List ℕ)) → judgeFrom (s .sheet .before) (s .sheet .lines) (s .sheet .count) (linesFrom (s .row) ls) ≡ refusedAt (s .sheet .count)
+        go : (ls : List (List ℕ)) → judgeFrom inTurn (s .sheet .before) (s .sheet .lines) (s .sheet .count) (linesFrom (s .row) ls) ≡ refusedAt (s .sheet .count)
         go [] = rw (isOpen, h [])
         go (l ∷ ls) = rw (h l)
 
     taken-one : takes (bestBytes (s .row)) ≡ true → meaning s (bestBytes (s .row)) .number ≡ 0
-    unfolding meaning takes
+    unfolding meaning takes outcomeOf
     taken-one h = rw (on, one-line (bestBytes (s .row)) (plain (numberBytes (s .row)) (4 - s .row .at) (number-digits (s .row))), lines-alone (s .row) (bestBytes (s .row)) isOpen, h)
 
     spoilt-one : meaning s (0 ∷ []) .number ≡ 10
-    unfolding meaning
+    unfolding meaning outcomeOf
     spoilt-one =
-        let line : rowLine (s .row) (0 ∷ []) ≡ blank = simp and-false in
+        let line : rowLine (s .row) (0 ∷ []) ≡ blank = ap asLine (foreign 32 4 (s .row) 0 (λ e. omega arith) refl []) in
         rw (on, line, blank-bad (s .sheet .before))
 
-    pub tells-open : (best : Row) (t : Bool) → length (s .row .ended) ≡ 4 → rowLine best [] ≡ rowLine (s .row) (bestBytes (s .row))
+    pub tells-open : (best : Row) (t : Bool) → length (s .row .ended) ≡ 5 → rowLine best [] ≡ rowLine (s .row) (bestBytes (s .row))
         → t ≡ (soundLine (s .sheet .before) (rowLine best []) && ltb (s .sheet .count) mostNumber) → Tells s (not t)
     unfolding takes
     tells-open best t long e f =

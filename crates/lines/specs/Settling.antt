@@ -4,7 +4,7 @@ use mathlib.Core.Bool.{Bool, true, false, cond}
 use mathlib.Core.List.{List, [], _∷_, _++_}
 use Prim.Native.Nat.{ℕ, zero, suc, _-_}
 use lib.Dec.{ltb, eqb}
-use Rattle.lines.specs.declared.row.Row.{Row}
+use Rattle.row.specs.declared.Row.{Row}
 use Rattle.lines.specs.declared.Reader.{Reader}
 use Rattle.lines.specs.Meaning.{meaning}
 

@@ -1,7 +1,9 @@
 // Sharing lines read from text, a byte at a time, in fixed memory, whatever the text's length.
-mod row;
+mod line;
 mod sheet;
 
+use line::best;
+use line::stepped;
 use row::Row;
 use share::Line;
 use share::Shared;
@@ -52,7 +54,7 @@ impl Reader {
                 sheet: closed,
             };
         }
-        let next = row.step(b);
+        let next = stepped(row, b);
         Reader { row: next, sheet }
     }
 
@@ -69,7 +71,7 @@ impl Reader {
                 sheet = sheet.with(row);
                 row = Row::start();
             } else {
-                row = row.step(b);
+                row = stepped(row, b);
             }
             i += 1;
         }
@@ -88,7 +90,7 @@ impl Reader {
         if !row.is_begun() {
             return false;
         }
-        !sheet.takes(row.best())
+        !sheet.takes(best(row))
     }
 
     // The answer, if the text ends here.

@@ -1,7 +1,8 @@
 // The lines taken so far, or that one of them was bad.
 use crate::Taken;
-use crate::row::Row;
-use crate::row::blank_line;
+use crate::line::blank_line;
+use crate::line::line_of;
+use row::Row;
 use share::Line;
 ghost use mathlib.Core.Path.{_≡_};
 ghost use mathlib.Core.Bool.{true, _&&_};
@@ -10,7 +11,8 @@ ghost use mathlib.Core.List.{List, [], _∷_};
 ghost use Rattle.share.specs.declared.Line.{Line};
 ghost use Rattle.share.specs.Sharing.{soundLine, mostNumber};
 ghost use Rattle.lines.specs.Text.{arrayFrom};
-ghost use Rattle.lines.specs.Meaning.{judgeFrom, outcome, rowLine};
+ghost use Rattle.row.specs.Judging.{judgeFrom};
+ghost use Rattle.lines.specs.Meaning.{inTurn, outcome, rowLine};
 
 // How many lines were sound, the number of the last of them (else 0), and the lines; `refused`: the one after them was not.
 pub struct Sheet {
@@ -30,7 +32,7 @@ fn blank_lines() -> [Line; 64]
 impl Sheet {
     // The sheet before any line.
     pub fn start() -> Sheet
-        ensures { λ r. ⌜ ((ls : List Line) → outcome r ls ≡ judgeFrom 0 (arrayFrom []) 0 ls) ⌝ }
+        ensures { λ r. ⌜ ((ls : List Line) → outcome r ls ≡ judgeFrom inTurn 0 (arrayFrom []) 0 ls) ⌝ }
     {
         let lines = blank_lines();
         Sheet {
@@ -52,7 +54,7 @@ impl Sheet {
     pub fn takes(self, row: Row) -> bool
         ensures { λ r. ⌜ r ≡ (soundLine (self .before) (rowLine row []) && ltb (self .count) mostNumber) ⌝ }
     {
-        let l = row.line();
+        let l = line_of(row);
         (self.before < l.number) & (self.count < 64)
     }
 
@@ -63,7 +65,7 @@ impl Sheet {
         if self.refused {
             return self;
         }
-        let l = row.line();
+        let l = line_of(row);
         if l.number <= self.before {
             return self.refuse();
         }

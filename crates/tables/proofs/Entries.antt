@@ -1,23 +1,27 @@
 -- When an entry is sound, and what an entry says that was read from a line. Assumes nothing.
 use mathlib.Core.Path.{_≡_, refl, ap, sym, _∙_}
-use mathlib.Core.Bool.{Bool, true, false, cond, _&&_, true≢false}
+use mathlib.Core.Bool.{Bool, true, false, cond, _&&_}
 use mathlib.Core.List.{List, [], _∷_}
-use Prim.Native.Nat.{ℕ, _≤_, _<_}
+use Prim.Native.Nat.{ℕ, _≤_}
 use native.Mathlib.Omega.{arith}
 use lib.Dec.{ltb, leb}
 use lib.ListN.{length, getD, take}
 use lib.Seq.{take-all}
-use borrow.Author.Tests.{lt-ltb, le-ltb, ltb-true, leb-true}
+use borrow.Author.Tests.{lt-ltb, leb-true}
 use Rattle.le.proofs.Tests.{joined, each}
+use Rattle.row.specs.Numbers.{held}
+use Rattle.row.specs.Meaning.{isRow}
+use Rattle.row.specs.Judging.{fairBy}
+use Rattle.row.proofs.Texts.{and-false}
+use Rattle.row.proofs.Rows.{whole-row, none-row}
+use Rattle.row.proofs.Judging.{Lawful}
 use Rattle.share.specs.Sharing.{soundLine, mostNumber, mostStatus, mostEnergy, mostAssessment}
 use Rattle.pay.specs.Member.{soundLine as soundMember}
-use Rattle.lines.proofs.Rows.{and-false}
-use Rattle.tables.specs.declared.row.Row.{Row}
+use Rattle.tables.specs.declared.cells.Cells.{Cells}
 use Rattle.tables.specs.declared.register.Entry.{Entry}
-use Rattle.tables.specs.Table.{held}
 use Rattle.tables.specs.Register.{asEntry, blankEntry, lineFor, soundEntry}
-use Rattle.tables.specs.Meaning.{isRow, rowNumbers, sixOf, fair}
-use Rattle.tables.proofs.Rows.{end-row, whole-at}
+use Rattle.tables.specs.Meaning.{cellNumbers, sixOf, inTurn, fair}
+use Rattle.tables.proofs.Reading.{end-cells}
 
 -- Limits
 
@@ -51,55 +55,22 @@ sound-is b e = go (leb 1 (e .member .number)) (leb (e .member .number) 64) (leb 
     go true false k c p q b s e a = refl
     go true true k c p q b s e a = once true true (k && c && p && q) b s e a
 
--- such an entry is sound by itself
-within-alone : (e : Entry) → within e ≡ true → soundEntry 0 e ≡ true
-within-alone e h =
-    let p = each (leb 1 (e .member .number)) (bounds e) h in
-    sound-is 0 e ∙ rw (h, lt-ltb 0 (e .member .number) (omega (arith, leb-true 1 (e .member .number) (p .0))))
-
-beyond : (b : ℕ) (e : Entry) → within e ≡ false → soundEntry b e ≡ false
-beyond b e h = sound-is b e ∙ rw h
-
-pub sound-alone : (e : Entry) → soundEntry 0 e ≡ within e
-sound-alone e = go (within e) refl
-  where
-    go : (t : Bool) → within e ≡ t → soundEntry 0 e ≡ t
-    go true h = within-alone e h
-    go false h = beyond 0 e h
-
--- a sound entry has a number above the one before, and at most 64
-pub sound-number : (b : ℕ) (e : Entry) → soundEntry b e ≡ true → (b < e .member .number) × (e .member .number ≤ mostNumber)
-sound-number b e h =
-    let p = each (leb 1 (e .member .number)) (bounds e) in
-    let q = each (within e) (ltb b (e .member .number) ∷ []) (sym (sound-is b e) ∙ h) in
-    (ltb-true b (e .member .number) (q .1 .0), leb-true (e .member .number) mostNumber (p (q .0) .1 .0))
-
--- a blank entry is never sound
-pub blank-bad : (b : ℕ) → soundEntry b blankEntry ≡ false
+pub lawful : Lawful inTurn
 unfolding asEntry
-blank-bad b = beyond b blankEntry refl
-
--- Fair entries
+lawful =
+    record {
+      within = λ e. within e;
+      splits = sound-is;
+      few = λ e h. leb-true (e .member .number) mostNumber (each (leb 1 (e .member .number)) (bounds e) h .1 .0);
+      none = refl;
+    }
 
 fair-by : (t : Bool) (e : Entry) → within e ≡ t → fair e ≡ cond t e blankEntry
-unfolding fair
-fair-by t e h = rw (sound-alone e ∙ h)
-
--- THE NUMBER DECIDES of an entry that was read: it is within its limits, or blank.
-pub fair-rises : (b : ℕ) (e : Entry) → soundEntry b e ≡ ltb b (fair e .member .number)
-unfolding asEntry
-fair-rises b e = go (within e) refl
-  where
-    go : (t : Bool) → within e ≡ t → soundEntry b e ≡ ltb b (fair e .member .number)
-    go true h = sound-is b e ∙ rw (h, fair-by true e h)
-    go false h = beyond b e h ∙ rw (fair-by false e h) (sym (le-ltb b 0 (omega arith)))
-
-pub fair-is : (b : ℕ) (e : Entry) → soundEntry b e ≡ true → e ≡ fair e
-fair-is b e h = go (within e) refl
-  where
-    go : (t : Bool) → within e ≡ t → e ≡ fair e
-    go true k = sym (fair-by true e k)
-    go false k = absurd (true≢false (sym h ∙ beyond b e k))
+unfolding fairBy
+fair-by true e h =
+    let p = each (leb 1 (e .member .number)) (bounds e) h in
+    rw (sound-is 0 e, h, lt-ltb 0 (e .member .number) (omega (arith, leb-true 1 (e .member .number) (p .0))))
+fair-by false e h = rw (sound-is 0 e, h)
 
 -- Six numbers
 
@@ -134,25 +105,25 @@ six-limits d a h =
     (leb-true _ _ (q .0), leb-true _ _ (q .1 .1 .0), leb-true _ _ (q .1 .1 .1 .1 .0), leb-true _ _ (q .1 .1 .1 .1 .1 .0), leb-true _ _ (q .1 .1 .1 .1 .1 .1 .0), leb-true _ _ (q .1 .1 .1 .1 .1 .1 .1 .0))
 
 pub six-sound : (d : List ℕ) (a : ℕ) → length d ≡ 5 → within (entryBy d a) ≡ true → entryBy d a ≡ fair (asEntry (sixOf d a))
-six-sound d a l h = sym (fair-by true (entryBy d a) h) ∙ ap fair (entry-by d a l)
+six-sound d a l h = sym (fair-by true (entryBy d a) h) ∙ ap (λ (e : Entry). fair e) (entry-by d a l)
 
 pub six-bad : (d : List ℕ) (a : ℕ) → length d ≡ 5 → within (entryBy d a) ≡ false → blankEntry ≡ fair (asEntry (sixOf d a))
-six-bad d a l h = sym (fair-by false (entryBy d a) h) ∙ ap fair (entry-by d a l)
+six-bad d a l h = sym (fair-by false (entryBy d a) h) ∙ ap (λ (e : Entry). fair e) (entry-by d a l)
 
 -- A line that ends
 
 take-five : (d : List ℕ) → length d ≡ 5 → take 5 d ≡ d
 take-five d h = take-all 5 d (omega arith)
 
-pub entry-whole : (row : Row) (v : ℕ) → row .last ≡ 5 → length (row .ended) ≡ 5 → isRow row [] [] ≡ true → v ≡ held (row .value)
-    → fair (asEntry (sixOf (row .ended) v)) ≡ fair (asEntry (rowNumbers row []))
-entry-whole row v six l h e =
-    let five : take (row .at) (row .ended) ≡ row .ended = ap (λ (n : ℕ). take n (row .ended)) (whole-at row h ∙ six) ∙ take-five (row .ended) l in
-    rw (end-row row, h, five, e)
+pub entry-whole : (cells : Cells) (v : ℕ) → length (cells .row .ended) ≡ 5 → isRow 5 (cells .row) [] [] ≡ true → v ≡ held (cells .row .value)
+    → fair (asEntry (sixOf (cells .row .ended) v)) ≡ fair (asEntry (cellNumbers 5 cells []))
+entry-whole cells v l h e =
+    let six = end-cells 5 cells ∙ whole-row 44 5 (cells .row) v h e in
+    rw (six, take-five (cells .row .ended) l)
 
 blank-beyond : within blankEntry ≡ false
 unfolding asEntry
 blank-beyond = refl
 
-pub entry-none : (row : Row) → isRow row [] [] ≡ false → blankEntry ≡ fair (asEntry (rowNumbers row []))
-entry-none row h = rw (end-row row, h) (sym (fair-by false blankEntry blank-beyond))
+pub entry-none : (cells : Cells) → isRow 5 (cells .row) [] [] ≡ false → blankEntry ≡ fair (asEntry (cellNumbers 5 cells []))
+entry-none cells h = rw (end-cells 5 cells ∙ none-row 44 5 (cells .row) h) (sym (fair-by false blankEntry blank-beyond))

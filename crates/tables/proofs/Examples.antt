@@ -4,11 +4,12 @@ use mathlib.Core.Bool.{Bool, true, false, _&&_}
 use mathlib.Core.List.{List, [], _∷_, _++_}
 use Prim.Native.Nat.{ℕ}
 use lib.Dec.{eqb}
+use Rattle.row.specs.Numbers.{numbersIn, numbersOf}
 use Rattle.share.specs.Sharing.{soundLine}
 use Rattle.pay.specs.Member.{soundLine as soundMember}
 use Rattle.tables.specs.declared.register.Entry.{Entry}
 use Rattle.tables.specs.declared.register.Register.{Register}
-use Rattle.tables.specs.Table.{numbersIn, rowOf, toldOf}
+use Rattle.tables.specs.Table.{rowOf, toldOf}
 use Rattle.tables.specs.Register.{asEntry, lineFor, soundEntry, entriesOf, arrayFrom, accepted, judged, readRegister}
 use Rattle.tables.specs.Series.{outputOf, seriesOf, filledWith}
 
@@ -46,7 +47,7 @@ secondEntry =
 
 -- The first line ends in a carriage return and a line feed, the last in neither.
 pub register-read : readRegister (first ++ 13 ∷ 10 ∷ second) ≡ accepted (firstEntry ∷ secondEntry ∷ [])
-unfolding first second firstEntry secondEntry readRegister judged entriesOf rowOf numbersIn asEntry soundEntry soundMember soundLine lineFor arrayFrom
+unfolding first second firstEntry secondEntry readRegister judged entriesOf rowOf numbersOf numbersIn asEntry soundEntry soundMember soundLine lineFor arrayFrom
 register-read = refl
 
 pub record Case : Type 0 where
@@ -86,7 +87,7 @@ every (c ∷ cs) = as-said c (readRegister (c .text)) && every cs
 
 -- Each text is read as the table says.
 pub reads-as-told : every cases ≡ true
-unfolding every as-said cases first second ninth readRegister judged entriesOf rowOf numbersIn asEntry soundEntry soundMember soundLine lineFor arrayFrom
+unfolding every as-said cases first second ninth readRegister judged entriesOf rowOf numbersOf numbersIn asEntry soundEntry soundMember soundLine lineFor arrayFrom
 reads-as-told = refl
 
 -- Series
@@ -97,29 +98,29 @@ three = 49 ∷ 50 ∷ 10 ∷ 49 ∷ 120 ∷ 13 ∷ 10 ∷ 49 ∷ 51 ∷ []
 
 -- A line that is no number is told by the largest u32; what is behind the text's last line stays.
 pub series-read : filledWith (9 ∷ 9 ∷ 9 ∷ 9 ∷ []) (seriesOf three) ≡ record { count = 3; values = 12 ∷ 4294967295 ∷ 13 ∷ 9 ∷ [] }
-unfolding three filledWith seriesOf outputOf rowOf numbersIn
+unfolding three filledWith seriesOf outputOf rowOf numbersOf numbersIn
 series-read = refl
 
 -- Where there is no room, the rest is not read.
 pub series-short : filledWith (9 ∷ 9 ∷ []) (seriesOf three) ≡ record { count = 2; values = 12 ∷ 4294967295 ∷ [] }
-unfolding three filledWith seriesOf outputOf rowOf numbersIn
+unfolding three filledWith seriesOf outputOf rowOf numbersOf numbersIn
 series-short = refl
 
 -- Numbers
 
 -- "42" with a carriage return; nothing; "1,2"; and a number past every limit.
 pub number-read : toldOf (rowOf 1 (52 ∷ 50 ∷ 13 ∷ [])) ≡ record { is = true; number = 42 }
-unfolding toldOf rowOf numbersIn
+unfolding toldOf rowOf numbersOf numbersIn
 number-read = refl
 
 pub nothing-read : toldOf (rowOf 1 []) ≡ record { is = false; number = 0 }
-unfolding toldOf rowOf numbersIn
+unfolding toldOf rowOf numbersOf numbersIn
 nothing-read = refl
 
 pub two-read : toldOf (rowOf 1 (49 ∷ 44 ∷ 50 ∷ [])) ≡ record { is = false; number = 0 }
-unfolding toldOf rowOf numbersIn
+unfolding toldOf rowOf numbersOf numbersIn
 two-read = refl
 
 pub large-read : toldOf (rowOf 1 (57 ∷ 57 ∷ 57 ∷ 57 ∷ 57 ∷ 57 ∷ 57 ∷ 57 ∷ 57 ∷ 57 ∷ 57 ∷ 57 ∷ 57 ∷ 57 ∷ [])) ≡ record { is = true; number = 1000000000000 }
-unfolding toldOf rowOf numbersIn
+unfolding toldOf rowOf numbersOf numbersIn
 large-read = refl

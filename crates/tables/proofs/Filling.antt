@@ -8,11 +8,11 @@ use native.Mathlib.Omega.{arith}
 use lib.ListN.{length, getD, take, drop, set, length-append, length-map}
 use lib.Seq.{append-snoc}
 use borrow.Author.Tests.{lt-ltb, le-ltb}
-use Rattle.lines.specs.Text.{linesOf}
-use Rattle.tables.specs.declared.row.Row.{Row}
+use Rattle.row.specs.Numbers.{linesOf}
+use Rattle.tables.specs.declared.cells.Cells.{Cells}
 use Rattle.tables.specs.Table.{rowOf}
 use Rattle.tables.specs.Series.{outputOf, seriesOf, filledWith}
-use Rattle.tables.specs.Meaning.{begun, rowNumbers, rowsFrom, fillFrom, Fresh, Follows}
+use Rattle.tables.specs.Meaning.{begun, cellNumbers, rowsFrom, fillFrom, Fresh, Follows}
 use Rattle.tables.proofs.Texts.{line-ends, line-goes-on, at-end}
 
 -- One output
@@ -31,7 +31,7 @@ put-none out n ns h rows = full out n h rows ∙ sym (full out n h (ns ∷ rows)
 -- All of them
 
 abbrev rowsIn : List (List ℕ) → List (List ℕ)
-rowsIn ls = map (λ l. rowOf 1 l) ls
+rowsIn ls = map (rowOf 1) ls
 
 abbrev outputsIn : List (List ℕ) → List ℕ
 outputsIn ls = map (λ l. outputOf (rowOf 1 l)) ls
@@ -76,27 +76,27 @@ filled out text =
 
 -- A byte of the text
 
-module _ {out' : List ℕ} {n' : ℕ} (out : List ℕ) (n : ℕ) (row row' r : Row) (text : List ℕ) (i : ℕ) (h : i < length text) where
+module _ {out' : List ℕ} {n' : ℕ} (out : List ℕ) (n : ℕ) (cells cells' r : Cells) (text : List ℕ) (i : ℕ) (h : i < length text) where
   -- it ends its line
-  pub series-line : {o : List ℕ} {m : ℕ} → getD text i 0 ≡ 10 → row .last ≡ 0 → row' ≡ r → Fresh 0 r → out' ≡ o → n' ≡ m
-      → ((rows : List (List ℕ)) → fillFrom o m rows ≡ fillFrom out n (rowNumbers row [] ∷ rows))
-      → fillFrom out' n' (rowsFrom row' (linesOf (drop (i + 1) text))) ≡ fillFrom out n (rowsFrom row (linesOf (drop i text)))
-  series-line e c p f q k s =
-      (λ j. fillFrom (q j) (k j) (rowsFrom (p j) (linesOf (drop (i + 1) text))))
-      ∙ line-ends (λ rows. fillFrom out n rows) (λ rows. fillFrom _ _ rows) row r 0 text i h e c f s
+  pub series-line : {o : List ℕ} {m : ℕ} → getD text i 0 ≡ 10 → cells' ≡ r → Fresh r → out' ≡ o → n' ≡ m
+      → ((rows : List (List ℕ)) → fillFrom o m rows ≡ fillFrom out n (cellNumbers 0 cells [] ∷ rows))
+      → fillFrom out' n' (rowsFrom 0 cells' (linesOf (drop (i + 1) text))) ≡ fillFrom out n (rowsFrom 0 cells (linesOf (drop i text)))
+  series-line e p f q k s =
+      (λ j. fillFrom (q j) (k j) (rowsFrom 0 (p j) (linesOf (drop (i + 1) text))))
+      ∙ line-ends (λ rows. fillFrom out n rows) (λ rows. fillFrom _ _ rows) 0 cells r text i h e f s
 
   -- it is another one
-  pub series-byte : (getD text i 0 ≡ 10 → ⊥) → row' ≡ r → Follows row (getD text i 0) r → out' ≡ out → n' ≡ n
-      → fillFrom out' n' (rowsFrom row' (linesOf (drop (i + 1) text))) ≡ fillFrom out n (rowsFrom row (linesOf (drop i text)))
+  pub series-byte : (getD text i 0 ≡ 10 → ⊥) → cells' ≡ r → Follows 0 cells (getD text i 0) r → out' ≡ out → n' ≡ n
+      → fillFrom out' n' (rowsFrom 0 cells' (linesOf (drop (i + 1) text))) ≡ fillFrom out n (rowsFrom 0 cells (linesOf (drop i text)))
   series-byte ne p f q k =
-      (λ j. fillFrom (q j) (k j) (rowsFrom (p j) (linesOf (drop (i + 1) text))))
-      ∙ line-goes-on (λ rows. fillFrom out n rows) (λ rows. fillFrom out n rows) row r 0 text i h ne f (λ rows. refl)
+      (λ j. fillFrom (q j) (k j) (rowsFrom 0 (p j) (linesOf (drop (i + 1) text))))
+      ∙ line-goes-on (λ rows. fillFrom out n rows) (λ rows. fillFrom out n rows) 0 cells r text i h ne f (λ rows. refl)
 
 -- The end of the text
 
-module _ (out : List ℕ) (n : ℕ) (row : Row) (text : List ℕ) (i : ℕ) (h : length text ≤ i) where
-  pub series-open : begun row ≡ true → fillFrom out n (rowNumbers row [] ∷ []) ≡ fillFrom out n (rowsFrom row (linesOf (drop i text)))
-  series-open e = rw (at-end row text i h, e)
+module _ (out : List ℕ) (n : ℕ) (cells : Cells) (text : List ℕ) (i : ℕ) (h : length text ≤ i) where
+  pub series-open : begun cells ≡ true → fillFrom out n (cellNumbers 0 cells [] ∷ []) ≡ fillFrom out n (rowsFrom 0 cells (linesOf (drop i text)))
+  series-open e = rw (at-end 0 cells text i h, e)
 
-  pub series-shut : begun row ≡ false → fillFrom out n [] ≡ fillFrom out n (rowsFrom row (linesOf (drop i text)))
-  series-shut e = rw (at-end row text i h, e)
+  pub series-shut : begun cells ≡ false → fillFrom out n [] ≡ fillFrom out n (rowsFrom 0 cells (linesOf (drop i text)))
+  series-shut e = rw (at-end 0 cells text i h, e)

@@ -1,4 +1,4 @@
-pub mod Rows
+pub mod Reading
 pub mod Texts
 pub mod Filling
 pub mod Entries

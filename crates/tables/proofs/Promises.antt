@@ -2,28 +2,31 @@
 use mathlib.Core.Path.{_≡_, refl, ap, sym, _∙_}
 use mathlib.Core.Bool.{Bool, true, false, cond, _&&_}
 use mathlib.Core.List.{List, [], _∷_, _++_, map}
-use Prim.Native.Nat.{ℕ, zero, suc, min, _+_, _-_, _≤_, _<_}
+use Prim.Native.Nat.{ℕ, suc, min, _+_, _-_, _≤_, _<_}
 use native.Mathlib.Omega.{arith}
 use lib.Dec.{ltb, leb, eqb}
 use lib.IntN.{pos}
 use lib.ListN.{length, getD, take, drop, replicate, length-append, length-take, length-drop}
-use borrow.Author.Tests.{ltb-true, ltb-false, lt-ltb, le-ltb, leb-true, leb-false, le-leb, lt-leb}
+use borrow.Author.Tests.{ltb-true, ltb-false, lt-ltb, le-ltb, leb-true}
 use Rattle.le.proofs.Tests.{joined, each}
+use Rattle.row.specs.Numbers.{numbers, value, numbersIn, ceiling, held, numbersOf}
+use Rattle.row.proofs.Texts.{by-parts}
+use Rattle.row.proofs.Held.{capped, at-least-one, held-at}
+use Rattle.row.proofs.Judging.{sound-number, blank-bad}
 use Rattle.units.specs.declared.Fen.{Fen}
 use Rattle.share.specs.declared.Line.{Line}
 use Rattle.share.specs.declared.Shared.{Shared}
 use Rattle.share.specs.Sharing.{sharing, mostNumber, mostStatus, mostEnergy, mostAssessment}
 use Rattle.share.specs.Forms.{arrayOf, counted, sharedArray}
 use Rattle.share.proofs.Counted.{counted-few}
-use Rattle.lines.specs.Text.{numbers, value}
 use Rattle.tables.specs.declared.Told.{Told}
 use Rattle.tables.specs.declared.register.Entry.{Entry}
 use Rattle.tables.specs.declared.register.Register.{Register}
-use Rattle.tables.specs.Table.{plain, cellsOf, ceiling, held, cellValue, numbersIn, rowOf, toldOf}
+use Rattle.tables.specs.Table.{plain, cellsOf, rowOf, toldOf}
 use Rattle.tables.specs.Register.{asEntry, blankEntry, lineFor, soundEntry, firstBad, entriesOf, arrayFrom, refusedAt, accepted, judged, readRegister, linesFor, statementOf}
 use Rattle.tables.specs.Series.{Filled, noOutput, outputOf, seriesOf, filledWith}
-use Rattle.tables.proofs.Rows.{by-cells}
-use Rattle.tables.proofs.Entries.{bounds, within, sound-is, sound-number, blank-bad}
+use Rattle.tables.specs.Meaning.{inTurn}
+use Rattle.tables.proofs.Entries.{bounds, within, sound-is, lawful}
 use Rattle.tables.proofs.Sharing.{length-lines}
 
 -- Two outcomes that a contract allows are one
@@ -58,23 +61,6 @@ series-fits before vs after n e =
     let l : length after ≡ length (take (length before) vs ++ drop (length vs) before) = ap (λ (r : Filled). length (r .values)) e in
     omega (arith, c, l, length-append (take (length before) vs) (drop (length vs) before), length-take (length before) vs, length-drop (length vs) before)
 
--- Numbers past every limit
-
--- a cap above a limit moves no number across it
-capped : (x cap most : ℕ) → most < cap → leb (min x cap) most ≡ leb x most
-capped x cap most h = go (leb x most) refl
-  where
-    go : (t : Bool) → leb x most ≡ t → leb (min x cap) most ≡ t
-    go true e = le-leb (min x cap) most (omega (arith, leb-true x most e))
-    go false e = lt-leb (min x cap) most (omega (arith, leb-false x most e))
-
-at-least-one : (x : ℕ) → leb 1 (held x) ≡ leb 1 x
-at-least-one x = go (leb 1 x) refl
-  where
-    go : (t : Bool) → leb 1 x ≡ t → leb 1 (held x) ≡ t
-    go true e = le-leb 1 (held x) (omega (arith, leb-true 1 x e))
-    go false e = lt-leb 1 (held x) (omega (arith, leb-false 1 x e))
-
 -- Series
 
 -- a line is one decimal number of at most 5,000,000 kW
@@ -83,18 +69,18 @@ isOutput cells = numbers cells && eqb (length cells) 1 && leb (value 0 (getD cel
 
 -- THE BAD LINES OF A SERIES are those that scoring refuses with 11: an output is at most 5,000,000 kW just where its line says such a number.
 pub series-value : (l : List ℕ) → leb (outputOf (rowOf 1 l)) 5000000 ≡ isOutput (cellsOf (plain l))
-unfolding rowOf numbersIn outputOf
-series-value l = by-cells (λ cs. leb (outputOf (numbersIn 1 cs)) 5000000 ≡ isOutput cs) one (plain l)
+unfolding rowOf numbersOf numbersIn outputOf
+series-value l = by-parts 44 (λ cs. leb (outputOf (map held (numbersIn 1 cs))) 5000000 ≡ isOutput cs) one (plain l)
   where
     low : (v : ℕ) → leb (min (held v) noOutput) 5000000 ≡ leb v 5000000
     low v = capped (held v) noOutput 5000000 (omega arith) ∙ capped v ceiling 5000000 (omega arith)
 
-    go : (t : Bool) (v : ℕ) (ns : List ℕ) → leb (outputOf (cond t (held v ∷ ns) [])) 5000000 ≡ (t && leb v 5000000)
+    go : (t : Bool) (v : ℕ) (ns : List ℕ) → leb (outputOf (map held (cond t (v ∷ ns) []))) 5000000 ≡ (t && leb v 5000000)
     go true v ns = low v
     go false v ns = refl
 
-    one : (p : List ℕ) (ps : List (List ℕ)) → leb (outputOf (numbersIn 1 (p ∷ ps))) 5000000 ≡ isOutput (p ∷ ps)
-    one p ps = go (numbers (p ∷ ps) && eqb (length (p ∷ ps)) 1) (value 0 p) (map (λ c. cellValue c) ps)
+    one : (p : List ℕ) (ps : List (List ℕ)) → leb (outputOf (map held (numbersIn 1 (p ∷ ps)))) 5000000 ≡ isOutput (p ∷ ps)
+    one p ps = go (numbers (p ∷ ps) && eqb (length (p ∷ ps)) 1) (value 0 p) (map (value 0) ps)
 
 -- Entries
 
@@ -104,7 +90,7 @@ isRowOf columns l = numbers (cellsOf (plain l)) && eqb (length (cellsOf (plain l
 
 -- the numbers of a line as they stand, however large
 abbrev pub written : ℕ → List ℕ → List ℕ
-written columns l = cond (isRowOf columns l) (map (λ c. value 0 c) (cellsOf (plain l))) []
+written columns l = numbersIn columns (cellsOf (plain l))
 
 abbrev heldEntry : Entry → Entry
 heldEntry e =
@@ -115,28 +101,19 @@ heldEntry e =
       assessment = record { 0 = held (e .assessment .0) };
     }
 
-held-at : (cells : List (List ℕ)) (i : ℕ) → getD (map (λ c. cellValue c) cells) i 0 ≡ held (getD (map (λ c. value 0 c) cells) i 0)
-held-at [] i = refl
-held-at (c ∷ cells) zero = refl
-held-at (c ∷ cells) (suc i) = held-at cells i
-
-held-cells : (cells : List (List ℕ)) → asEntry (map (λ c. cellValue c) cells) ≡ heldEntry (asEntry (map (λ c. value 0 c) cells))
+held-entry : (ns : List ℕ) → asEntry (map held ns) ≡ heldEntry (asEntry ns)
 unfolding asEntry
-held-cells cells =
+held-entry ns =
     λ i. record {
-      member = record { number = held-at cells 0 i; kind = held-at cells 1 i; rated = record { 0 = held-at cells 2 i } };
-      status = held-at cells 3 i;
-      energy = record { 0 = held-at cells 4 i };
-      assessment = record { 0 = held-at cells 5 i };
+      member = record { number = held-at ns 0 i; kind = held-at ns 1 i; rated = record { 0 = held-at ns 2 i } };
+      status = held-at ns 3 i;
+      energy = record { 0 = held-at ns 4 i };
+      assessment = record { 0 = held-at ns 5 i };
     }
 
 held-row : (l : List ℕ) → asEntry (rowOf 6 l) ≡ heldEntry (asEntry (written 6 l))
-unfolding rowOf numbersIn asEntry
-held-row l = go (isRowOf 6 l)
-  where
-    go : (t : Bool) → asEntry (cond t (map (λ c. cellValue c) (cellsOf (plain l))) []) ≡ heldEntry (asEntry (cond t (map (λ c. value 0 c) (cellsOf (plain l))) []))
-    go true = held-cells (cellsOf (plain l))
-    go false = refl
+unfolding rowOf numbersOf
+held-row l = held-entry (written 6 l)
 
 held-within : (e : Entry) → within (heldEntry e) ≡ within e
 held-within e =
@@ -177,8 +154,8 @@ entry-as-written before l h =
 
 -- A line that is not six numbers is never sound.
 pub bad-line : (before : ℕ) (l : List ℕ) → isRowOf 6 l ≡ false → soundEntry before (asEntry (rowOf 6 l)) ≡ false
-unfolding rowOf numbersIn
-bad-line before l h = rw h (blank-bad before)
+unfolding rowOf numbersOf numbersIn
+bad-line before l h = rw h (blank-bad inTurn lawful before)
 
 -- Registers
 
@@ -206,7 +183,7 @@ sound-rising before (e ∷ es) h k = go (soundEntry before e) refl k (sound-risi
         → (before + suc (length es) ≤ mostNumber) × Rising before (e ∷ es)
     go false s k rec = absurd (omega arith)
     go true s k rec =
-        let n = sound-number before e s in
+        let n = sound-number inTurn lawful before e s in
         let r = rec (n .1) (omega arith) in
         (omega (arith, n .0, r .0), (n .0, r .1))
 

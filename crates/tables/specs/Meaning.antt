@@ -1,59 +1,46 @@
 -- What a reader's state says: the answer of a text of which it has read all but the rest. Assumes nothing.
 use mathlib.Core.Path.{_≡_}
-use mathlib.Core.Bool.{Bool, true, false, cond, not, _&&_, _||_}
+use mathlib.Core.Bool.{Bool, true, false, cond, _||_}
 use mathlib.Core.List.{List, [], _∷_, _++_, map}
 use Prim.Native.Nat.{ℕ, suc, _+_}
-use lib.Dec.{ltb, eqb}
-use lib.ListN.{length, set, take}
+use lib.Dec.{ltb}
+use lib.ListN.{length, set}
+use Rattle.row.specs.Numbers.{some}
+use Rattle.row.specs.Meaning.{begun as rowBegun, rowNumbers}
+use Rattle.row.specs.Judging.{Judge, fairBy, Standing, outcomeOf, leftFrom}
 use Rattle.share.specs.Sharing.{mostNumber}
-use Rattle.lines.specs.Text.{digits, some, numbers, value}
-use Rattle.tables.specs.declared.row.Row.{Row}
+use Rattle.tables.specs.declared.cells.Cells.{Cells}
 use Rattle.tables.specs.declared.register.Entry.{Entry}
 use Rattle.tables.specs.declared.register.Register.{Register}
 use Rattle.tables.specs.declared.register.Roll.{Roll}
-use Rattle.tables.specs.Table.{plain, cellsOf, held, cellValue, rowOf}
+use Rattle.tables.specs.Table.{comma, plain, rowOf}
 use Rattle.tables.specs.Register.{blankEntry, asEntry, soundEntry, refusedAt}
 use Rattle.tables.specs.Series.{Filled, outputOf}
 
 -- The line that is being read
 
 -- a byte of the line was read
-abbrev pub begun : Row → Bool
-begun row = row .bad || row .shut || row .digit || ltb 0 (row .at)
-
--- the numbers are as many as they should be, if `p` is left of the open one and the cells `ps` come behind it
-abbrev pub isRow : Row → List ℕ → List (List ℕ) → Bool
-isRow row p ps = not (row .bad) && digits p && (row .digit || some p) && numbers ps && eqb (row .at + length ps) (row .last)
-
--- those numbers; none where the line is bad
-abbrev pub rowAt : Row → List ℕ → List (List ℕ) → List ℕ
-rowAt row p ps = cond (isRow row p ps) (take (row .at) (row .ended) ++ held (value (row .value) p) ∷ map (λ c. cellValue c) ps) []
-
--- the same by all its cells that are left, the open number first
-abbrev pub rowCells : Row → List (List ℕ) → List ℕ
-rowCells row [] = rowAt row [] []
-rowCells row (p ∷ ps) = rowAt row p ps
+abbrev pub begun : Cells → Bool
+begun cells = cells .shut || rowBegun (cells .row)
 
 -- the numbers of the line, if `rest` is what is left of it; behind a carriage return nothing may be left
-unfoldable pub rowNumbers : Row → List ℕ → List ℕ
-rowNumbers row rest = cond (row .shut) (cond (some rest) [] (rowAt row [] [])) (rowCells row (cellsOf (plain rest)))
+unfoldable pub cellNumbers : ℕ → Cells → List ℕ → List ℕ
+cellNumbers last cells rest =
+    cond (cells .shut) (cond (some rest) [] (rowNumbers comma last (cells .row) [])) (rowNumbers comma last (cells .row) (plain rest))
 
--- the row before any byte of a line of so many numbers and one
-pub record Fresh (last : ℕ) (row : Row) : Type 0 where
-  pub columns : row .last ≡ last
-  pub unread : begun row ≡ false
-  pub line : (rest : List ℕ) → rowNumbers row rest ≡ rowOf (suc last) rest
+-- the cells before any byte of their line
+pub record Fresh (cells : Cells) : Type 0 where
+  pub unread : begun cells ≡ false
+  pub line : (last : ℕ) (rest : List ℕ) → cellNumbers last cells rest ≡ rowOf (suc last) rest
 
--- the row after a byte of its line
-pub record Follows (row : Row) (b : ℕ) (r : Row) : Type 0 where
-  pub columns : r .last ≡ row .last
+-- the cells after a byte of their line
+pub record Follows (last : ℕ) (cells : Cells) (b : ℕ) (r : Cells) : Type 0 where
   pub begun : begun r ≡ true
-  pub line : (rest : List ℕ) → rowNumbers r rest ≡ rowNumbers row (b ∷ rest)
+  pub line : (rest : List ℕ) → cellNumbers last r rest ≡ cellNumbers last cells (b ∷ rest)
 
 -- the rows that are left: the one that is being read, and those behind it
-abbrev pub rowsFrom : Row → List (List ℕ) → List (List ℕ)
-rowsFrom row [] = cond (begun row) (rowNumbers row [] ∷ []) []
-rowsFrom row (l ∷ ls) = rowNumbers row l ∷ map (λ x. rowOf (suc (row .last)) x) ls
+abbrev pub rowsFrom : ℕ → Cells → List (List ℕ) → List (List ℕ)
+rowsFrom last cells ls = leftFrom (begun cells) (cellNumbers last cells) (rowOf (suc last)) ls
 
 -- The register
 
@@ -61,19 +48,29 @@ rowsFrom row (l ∷ ls) = rowNumbers row l ∷ map (λ x. rowOf (suc (row .last)
 abbrev pub sixOf : List ℕ → ℕ → List ℕ
 sixOf ended value = ended ++ value ∷ []
 
+-- entries are judged in turn: 10 at the first that is not sound, or all of them
+abbrev pub inTurn : Judge Entry Register
+inTurn =
+    record {
+      sound = soundEntry;
+      number = λ e. e .member .number;
+      most = mostNumber;
+      blank = blankEntry;
+      refused = refusedAt;
+      taken = λ n all. record { number = 0; place = 0; count = n; entries = all };
+    }
+
 -- an entry that is not sound after no number is as bad as a blank one
-unfoldable pub fair : Entry → Entry
-fair e = cond (soundEntry 0 e) e blankEntry
+abbrev pub fair : Entry → Entry
+fair e = fairBy inTurn e
 
--- n entries stand in `all` already, the last of number `before`; those that are left are judged in turn
-abbrev pub judgeFrom : ℕ → List Entry → ℕ → List (List ℕ) → Register
-judgeFrom before all n [] = record { number = 0; place = 0; count = n; entries = all }
-judgeFrom before all n (ns ∷ rows) =
-    cond (soundEntry before (asEntry ns) && ltb n mostNumber) (judgeFrom (asEntry ns .member .number) (set all n (asEntry ns)) (n + 1) rows) (refusedAt n)
+-- a roll's entries, as they are judged so far
+abbrev pub standing : Roll → Standing Entry
+standing roll = record { refused = roll .refused; before = roll .before; count = roll .count; all = roll .entries }
 
--- the answer, if these rows are left: a refusal stays at its place
-unfoldable pub outcome : Roll → List (List ℕ) → Register
-outcome roll rows = cond (roll .refused) (refusedAt (roll .count)) (judgeFrom (roll .before) (roll .entries) (roll .count) rows)
+-- the answer, if these rows are left
+abbrev pub outcome : Roll → List (List ℕ) → Register
+outcome roll rows = outcomeOf inTurn (standing roll) (map asEntry rows)
 
 -- The series
 

@@ -11,7 +11,7 @@ use Rattle.share.specs.declared.Shared.{Shared}
 use Rattle.share.specs.Sharing.{soundLine, mostNumber}
 use Rattle.share.specs.Forms.{sharedArray}
 use Rattle.pay.specs.Member.{soundLine as soundMember}
-use Rattle.lines.specs.Text.{linesOf}
+use Rattle.row.specs.Numbers.{linesOf}
 use Rattle.tables.specs.declared.register.Entry.{Entry}
 use Rattle.tables.specs.declared.register.Register.{Register}
 use Rattle.tables.specs.Table.{rowOf}

@@ -3,7 +3,7 @@ use mathlib.Core.Bool.{cond}
 use mathlib.Core.List.{List, _++_, map}
 use Prim.Native.Nat.{ℕ, min}
 use lib.ListN.{length, getD, take, drop}
-use Rattle.lines.specs.Text.{some, linesOf}
+use Rattle.row.specs.Numbers.{some, linesOf}
 use Rattle.tables.specs.Table.{rowOf}
 
 -- the largest u32 is no output: it stands for a line that is no number, and scoring refuses it with 11 at its index

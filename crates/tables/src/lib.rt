@@ -1,9 +1,9 @@
 // Texts that a spreadsheet saves: a register, a series, a number.
+mod cells;
 pub mod register;
-mod row;
 pub mod series;
 
-use row::Row;
+use cells::Cells;
 ghost use mathlib.Core.Path.{_≡_};
 ghost use Rattle.tables.specs.Table.{rowOf, toldOf};
 
@@ -17,11 +17,11 @@ pub struct Told {
 pub fn number(text: &[u8]) -> Told
     ensures { λ r. ⌜ r ≡ toldOf (rowOf 1 (now (text .entry))) ⌝ }
 {
-    let mut row = Row::start(0);
+    let mut cells = Cells::start();
     let mut i: usize = 0;
     while i < text.len() {
-        row = row.step(text[i]);
+        cells = cells.step(0, text[i]);
         i += 1;
     }
-    row.told()
+    cells.told()
 }

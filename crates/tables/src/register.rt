@@ -1,7 +1,7 @@
 // The register of a month: a line a member, and the statement of its members' scores.
-use crate::row::Row;
-use crate::row::hold;
+use crate::cells::Cells;
 use pay::Member;
+use row::hold;
 use share::Line;
 use share::Shared;
 use units::Fen;
@@ -11,13 +11,14 @@ use units::SignedFen;
 use units::Thousandths;
 ghost use mathlib.Core.Path.{_≡_};
 ghost use mathlib.Core.Bool.{true};
-ghost use mathlib.Core.List.{List, [], _∷_};
+ghost use mathlib.Core.List.{List, [], _∷_, map};
 ghost use Prim.Native.Nat.{ℕ};
 ghost use lib.ListN.{replicate};
+ghost use Rattle.row.specs.Judging.{judgeFrom};
 ghost use Rattle.share.specs.Sharing.{mostNumber};
 ghost use Rattle.share.specs.Forms.{blank};
 ghost use Rattle.tables.specs.Register.{asEntry, blankEntry, lineFor, arrayFrom, readRegister, linesFor, statementOf};
-ghost use Rattle.tables.specs.Meaning.{rowNumbers, rowsFrom, sixOf, fair, judgeFrom, outcome};
+ghost use Rattle.tables.specs.Meaning.{cellNumbers, rowsFrom, sixOf, inTurn, fair, outcome};
 
 // A member, and what its sharing line needs besides its compensation.
 pub struct Entry {
@@ -92,11 +93,11 @@ fn typed(ended: [u64; 5], assessed: u64) -> Entry
 }
 
 // The entry that a line says, if it ends here.
-fn entry_of(row: Row) -> Entry
-    requires { ⌜ row .last ≡ 5 ⌝ }
-    ensures { λ r. ⌜ r ≡ fair (asEntry (rowNumbers row [])) ⌝ }
+fn entry_of(cells: Cells) -> Entry
+    ensures { λ r. ⌜ r ≡ fair (asEntry (cellNumbers 5 cells [])) ⌝ }
 {
-    if row.is_whole() {
+    let row = cells.row;
+    if row.is_whole(5) {
         let ended = row.ended;
         return typed(ended, hold(row.value));
     }
@@ -106,7 +107,7 @@ fn entry_of(row: Row) -> Entry
 impl Roll {
     // The roll before any line.
     fn start() -> Roll
-        ensures { λ r. ⌜ ((rows : List (List ℕ)) → outcome r rows ≡ judgeFrom 0 (arrayFrom []) 0 rows) ⌝ }
+        ensures { λ r. ⌜ ((rows : List (List ℕ)) → outcome r rows ≡ judgeFrom inTurn 0 (arrayFrom []) 0 (map asEntry rows)) ⌝ }
     {
         let entries = blank_entries();
         Roll {
@@ -125,14 +126,13 @@ impl Roll {
     }
 
     // The roll after the end of a line. An entry that was read is within its limits or blank: its number decides.
-    fn with(self, row: Row) -> Roll
-        requires { ⌜ row .last ≡ 5 ⌝ }
-        ensures { λ r. ⌜ ((rows : List (List ℕ)) → outcome r rows ≡ outcome self (rowNumbers row [] ∷ rows)) ⌝ }
+    fn with(self, cells: Cells) -> Roll
+        ensures { λ r. ⌜ ((rows : List (List ℕ)) → outcome r rows ≡ outcome self (cellNumbers 5 cells [] ∷ rows)) ⌝ }
     {
         if self.refused {
             return self;
         }
-        let e = entry_of(row);
+        let e = entry_of(cells);
         if e.member.number <= self.before {
             return self.refuse();
         }
@@ -172,37 +172,36 @@ impl Roll {
         }
     }
 
-    // The answer where the text ends in this row: a line that was begun ends here.
-    fn ended(self, row: Row) -> Register
-        requires { ⌜ row .last ≡ 5 ⌝ }
-        ensures { λ r. ⌜ r ≡ outcome self (rowsFrom row []) ⌝ }
+    // The answer where the text ends in these cells: a line that was begun ends here.
+    fn ended(self, cells: Cells) -> Register
+        ensures { λ r. ⌜ r ≡ outcome self (rowsFrom 5 cells []) ⌝ }
     {
-        if row.is_begun() {
-            let closed = self.with(row);
+        if cells.is_begun() {
+            let closed = self.with(cells);
             return closed.answer();
         }
         self.answer()
     }
 }
 
-// What a register's text says. The roll is large: between line feeds only the row moves.
+// What a register's text says. The roll is large: between line feeds only the cells move.
 pub fn read_register(text: &[u8]) -> Register
     ensures { λ r. ⌜ r ≡ readRegister (now (text .entry)) ⌝ }
 {
-    let mut row = Row::start(5);
+    let mut cells = Cells::start();
     let mut roll = Roll::start();
     let mut i: usize = 0;
     while i < text.len() {
         let b = text[i];
         if b == b'\n' {
-            roll = roll.with(row);
-            row = Row::start(5);
+            roll = roll.with(cells);
+            cells = Cells::start();
         } else {
-            row = row.step(b);
+            cells = cells.step(5, b);
         }
         i += 1;
     }
-    roll.ended(row)
+    roll.ended(cells)
 }
 
 impl Entry {

@@ -30,8 +30,8 @@ with-requires c κs = tt
 start-requires : tie.Need-start-requires Inv-loop μ-loop
 start-requires c κs = tt
 
-step-requires : tie.Need-step-requires Inv-loop μ-loop
-step-requires c κs = tt
+stepped-requires : tie.Need-stepped-requires Inv-loop μ-loop
+stepped-requires c κs = tt
 
 add-i : tie.Need-add-i Inv-loop μ-loop
 add-i c = omega arith
@@ -71,7 +71,7 @@ feed-spec =
     shared-slice-read-b
     with-requires
     start-requires
-    step-requires
+    stepped-requires
     add-i
     loop-less
     loop-again

@@ -25,7 +25,7 @@ takes-requires c κs = tt
 returns-3 : tie.Need-returns-3
 returns-3 c =
     let s = c .before .before .before .before .before .before .before .args .self in
-    let long : length (s .row .ended) ≡ 4 = search needs in
+    let long : length (s .row .ended) ≡ 5 = search needs in
     let begun = sym (c .before .before .before .is-begun .ensures) ∙ not-false _ (c .before .before .if2 .left) in
     tells-open s (c .before .before .before .before .if1 .left) begun (c .before .best .result) (c .takes .result) long (c .before .best .ensures) (c .takes .ensures)
 

@@ -1,7 +1,5 @@
 -- `lines::Reader::start` meets its contract.
-use mathlib.Core.Path.{_∙_}
 use Rattle.lines.proofs.Sheets.{starts}
-use Rattle.lines.proofs.Judging.{judged-in-turn}
 use borrow.Author.Needs.{needs}
 use Rattle.lines.proofs.Reader.start.Statement.{statement}
 use Rattle.lines.proofs.Reader.start.Tie as tie
@@ -13,7 +11,7 @@ start-requires-2 : tie.Need-start-requires-2
 start-requires-2 c κs = search needs
 
 returns : tie.Need-returns
-returns c = λ text. starts (c .before .start .result) (c .start2 .result) (c .before .start .ensures) (c .start2 .ensures) text ∙ judged-in-turn text
+returns c = starts (c .before .start .result) (c .start2 .result) (c .before .start .ensures) (c .start2 .ensures)
 
 pub start-spec : {M : Type 1} → statement M
 start-spec = tie.close (tie.spec start-requires start-requires-2 returns)

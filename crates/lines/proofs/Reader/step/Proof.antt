@@ -15,13 +15,13 @@ returns c =
     let a = c .before .before .before .before .before .args in
     step-feed (a .self .row) (c .start .result) (a .self .sheet) (c .before .with .result) (a .b) (c .before .before .if1 .taken) (c .start .ensures) (c .before .with .ensures)
 
-step-requires : tie.Need-step-requires
-step-requires c κs = search needs
+stepped-requires : tie.Need-stepped-requires
+stepped-requires c κs = search needs
 
 returns-2 : tie.Need-returns-2
 returns-2 c =
     let a = c .before .before .before .before .args in
-    step-other (a .self .row) (c .step .result) (a .self .sheet) (a .b) (c .before .if1 .left) (c .step .ensures)
+    step-other (a .self .row) (c .stepped .result) (a .self .sheet) (a .b) (c .before .if1 .left) (c .stepped .ensures)
 
 pub step-spec : {M : Type 1} → statement M
-step-spec = tie.close (tie.spec with-requires start-requires returns step-requires returns-2)
+step-spec = tie.close (tie.spec with-requires start-requires returns stepped-requires returns-2)

@@ -17,19 +17,17 @@ typed-requires c κs = search needs
 
 returns : tie.Need-returns
 returns c =
-    let s = c .before .before .before .before .before in
-    let row = s .args .row in
-    let long : length (row .ended) ≡ 5 = search needs in
+    let cells = c .before .before .before .before .before .before .args .cells in
+    let long : length (cells .row .ended) ≡ 5 = search needs in
     let whole = sym (c .before .before .before .before .is-whole .ensures) ∙ c .before .before .before .if1 .taken in
-    c .typed .ensures ∙ entry-whole row (c .before .hold .result) (s .pre) long whole (c .before .hold .ensures)
+    c .typed .ensures ∙ entry-whole cells (c .before .hold .result) long whole (c .before .hold .ensures)
 
 blank-entry-requires : tie.Need-blank-entry-requires
 blank-entry-requires c κs = search needs
 
 returns-2 : tie.Need-returns-2
 returns-2 c =
-    let row = c .before .before .before .args .row in
-    c .blank-entry .ensures ∙ entry-none row (sym (c .before .before .is-whole .ensures) ∙ c .before .if1 .left)
+    c .blank-entry .ensures ∙ entry-none (c .before .before .before .before .args .cells) (sym (c .before .before .is-whole .ensures) ∙ c .before .if1 .left)
 
 pub entry-of-spec : {M : Type 1} → statement M
 entry-of-spec =

@@ -1,11 +1,10 @@
 -- `tables::register::read_register` meets its contract.
-use mathlib.Core.Path.{_≡_, ap, _∙_}
+use mathlib.Core.Path.{_≡_, _∙_}
 use mathlib.Core.Logic.{⊎-elim}
 use Prim.Native.Nat.{_-_, _≤_, _<_}
 use native.Mathlib.Omega.{arith}
 use lib.ListN.{length, drop}
-use Rattle.lines.specs.Text.{linesOf}
-use Rattle.tables.specs.declared.row.Row.{Row}
+use Rattle.row.specs.Numbers.{linesOf}
 use Rattle.tables.specs.Register.{readRegister}
 use Rattle.tables.specs.Meaning.{rowsFrom, outcome}
 use Rattle.tables.proofs.Judging.{register-line, register-byte, register-end, starts}
@@ -13,10 +12,10 @@ use Rattle.tables.proofs.register.read_register.Statement.{statement}
 use Rattle.tables.proofs.register.read_register.Tie as tie
 
 abbrev Inv-loop : tie.InvT-loop
-Inv-loop text row₀ roll₀ i₀ row roll i = (i ≤ length text) × (row .last ≡ 5) × (outcome roll (rowsFrom row (linesOf (drop i text))) ≡ readRegister text)
+Inv-loop text cells₀ roll₀ i₀ cells roll i = (i ≤ length text) × (outcome roll (rowsFrom 5 cells (linesOf (drop i text))) ≡ readRegister text)
 
 abbrev μ-loop : tie.MeasureT-loop
-μ-loop text row₀ roll₀ i₀ row roll i = length text - i
+μ-loop text cells₀ roll₀ i₀ cells roll i = length text - i
 
 start-requires : tie.Need-start-requires Inv-loop μ-loop
 start-requires c κs = tt
@@ -27,19 +26,19 @@ start-requires-2 c κs = tt
 loop-holds : tie.Need-loop-holds Inv-loop μ-loop
 loop-holds c =
     let s = c .before .start in
-    (omega arith, s .ensures .columns, starts (s .result) (c .start2 .result) (s .ensures) (c .start2 .ensures) (c .before .before .before .args .text .now))
+    (omega arith, starts (s .result) (c .start2 .result) (s .ensures) (c .start2 .ensures) (c .before .before .before .args .text .now))
 
 shared-slice-read-b : tie.Need-shared-slice-read-b Inv-loop μ-loop
 shared-slice-read-b c = omega arith
 
 with-requires : tie.Need-with-requires Inv-loop μ-loop
-with-requires c κs = c .before .before .before .loop .inv .1
+with-requires c κs = tt
 
 start-requires-3 : tie.Need-start-requires-3 Inv-loop μ-loop
 start-requires-3 c κs = tt
 
 step-requires : tie.Need-step-requires Inv-loop μ-loop
-step-requires c κs = let l = c .before .before .before .loop in omega (arith, l .inv .1)
+step-requires c κs = omega arith
 
 add-i : tie.Need-add-i Inv-loop μ-loop
 add-i c = omega arith
@@ -54,22 +53,21 @@ loop-again c =
     let t = c .if1 in
     let more : l .i < length text = omega arith in (
       omega arith,
-      ⊎-elim (λ w. ap (λ (r : Row). r .last) (w .3) ∙ w .2 .ensures .columns) (λ w. ap (λ (r : Row). r .last) (w .2) ∙ w .1 .ensures .columns ∙ l .inv .1) (t .came),
       ⊎-elim
-          (λ w. register-line (l .roll) (t .roll) (l .row) (t .row) (w .2 .result) text (l .i) more (w .1 .result) (w .0 .taken) (l .inv .1) (w .3) (w .2 .ensures) (w .4) (w .1 .ensures))
-          (λ w. register-byte (l .roll) (t .roll) (l .row) (t .row) (w .1 .result) text (l .i) more (w .0 .left) (w .2) (w .1 .ensures) (w .3))
+          (λ w. register-line (l .roll) (t .roll) (l .cells) (t .cells) (w .2 .result) text (l .i) more (w .1 .result) (w .0 .taken) (w .3) (w .2 .ensures) (w .4) (w .1 .ensures))
+          (λ w. register-byte (l .roll) (t .roll) (l .cells) (t .cells) (w .1 .result) text (l .i) more (w .0 .left) (w .2) (w .1 .ensures) (w .3))
           (t .came)
-          ∙ l .inv .2,
+          ∙ l .inv .1,
     )
 
 ended-requires : tie.Need-ended-requires Inv-loop μ-loop
-ended-requires c κs = c .before .loop .inv .1
+ended-requires c κs = tt
 
 returns : tie.Need-returns Inv-loop μ-loop
 returns c =
     let l = c .before .before .loop in
     let text = c .before .before .before .before .before .before .args .text .now in
-    c .ended .ensures ∙ register-end (l .roll) (l .row) text (l .i) (omega arith) ∙ l .inv .2
+    c .ended .ensures ∙ register-end (l .roll) (l .cells) text (l .i) (omega arith) ∙ l .inv .1
 
 pub read-register-spec : {M : Type 1} → statement M
 read-register-spec =

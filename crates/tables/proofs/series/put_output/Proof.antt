@@ -1,7 +1,7 @@
 -- `tables::series::put_output` meets its contract.
 use Rattle.tables.proofs.Filling.{put-one, put-none}
 use mathlib.Core.List.{[]}
-use Rattle.tables.specs.Meaning.{rowNumbers}
+use Rattle.tables.specs.Meaning.{cellNumbers}
 use borrow.Author.Needs.{needs}
 use Rattle.tables.proofs.series.put_output.Statement.{statement}
 use Rattle.tables.proofs.series.put_output.Tie as tie
@@ -24,12 +24,12 @@ same-length c = search needs
 returns : tie.Need-returns
 returns c =
     let a = c .before .before .before .args in
-    put-one (a .out .now) (a .n) (c .output .result) (rowNumbers (a .row) []) (c .before .if1 .taken) (c .output .ensures)
+    put-one (a .out .now) (a .n) (c .output .result) (cellNumbers 0 (a .cells) []) (c .before .if1 .taken) (c .output .ensures)
 
 returns-2 : tie.Need-returns-2
 returns-2 c =
     let a = c .before .before .args in
-    put-none (a .out .now) (a .n) (rowNumbers (a .row) []) (c .if1 .left)
+    put-none (a .out .now) (a .n) (cellNumbers 0 (a .cells) []) (c .if1 .left)
 
 pub put-output-spec : {M : Type 1} → statement M
 put-output-spec =

@@ -5,25 +5,22 @@ use mathlib.Core.Logic.{⊎-elim}
 use Prim.Native.Nat.{ℕ, _-_, _≤_, _<_}
 use native.Mathlib.Omega.{arith}
 use lib.ListN.{length, drop}
-use Rattle.lines.specs.Text.{linesOf}
-use borrow.Author.Needs.{needs}
-use Rattle.tables.specs.declared.row.Row.{Row}
+use Rattle.row.specs.Numbers.{linesOf}
 use Rattle.tables.specs.Series.{seriesOf, filledWith}
 use Rattle.tables.specs.Meaning.{rowsFrom, fillFrom}
 use Rattle.tables.proofs.Texts.{fresh-rows}
 use Rattle.tables.proofs.Filling.{filled, series-line, series-byte, series-open, series-shut}
 use borrow.Author.Needs.{needs}
-use borrow.Author.Needs.{needs}
 use Rattle.tables.proofs.series.read_series.Statement.{statement}
 use Rattle.tables.proofs.series.read_series.Tie as tie
 
 abbrev Inv-loop : tie.InvT-loop
-Inv-loop text out₀ row₀ n₀ i₀ out row n i =
-    (i ≤ length text) × (length out ≡ length out₀) × (row .last ≡ 0)
-    × (fillFrom out n (rowsFrom row (linesOf (drop i text))) ≡ filledWith out₀ (seriesOf text))
+Inv-loop text out₀ cells₀ n₀ i₀ out cells n i =
+    (i ≤ length text) × (length out ≡ length out₀)
+    × (fillFrom out n (rowsFrom 0 cells (linesOf (drop i text))) ≡ filledWith out₀ (seriesOf text))
 
 abbrev μ-loop : tie.MeasureT-loop
-μ-loop text out₀ row₀ n₀ i₀ out row n i = length text - i
+μ-loop text out₀ cells₀ n₀ i₀ out cells n i = length text - i
 
 start-requires : tie.Need-start-requires Inv-loop μ-loop
 start-requires c κs = tt
@@ -34,7 +31,6 @@ loop-holds c =
     let s = c .start .ensures in (
       omega arith,
       refl,
-      s .columns,
       ap (λ (rows : List (List ℕ)). fillFrom (a .out .now) 0 rows) (fresh-rows 0 (c .start .result) s (linesOf (a .text .now))) ∙ filled (a .out .now) (a .text .now),
     )
 
@@ -42,13 +38,13 @@ shared-slice-read-b : tie.Need-shared-slice-read-b Inv-loop μ-loop
 shared-slice-read-b c = omega arith
 
 put-output-requires : tie.Need-put-output-requires Inv-loop μ-loop
-put-output-requires c κs = c .before .before .before .before .loop .inv .2
+put-output-requires c κs = tt
 
 start-requires-2 : tie.Need-start-requires-2 Inv-loop μ-loop
 start-requires-2 c κs = tt
 
 step-requires : tie.Need-step-requires Inv-loop μ-loop
-step-requires c κs = let l = c .before .before .before .loop in omega (arith, l .inv .2)
+step-requires c κs = omega arith
 
 add-i : tie.Need-add-i Inv-loop μ-loop
 add-i c = omega arith
@@ -65,19 +61,18 @@ loop-again c =
     let more : l .i < length text = omega arith in (
       omega arith,
       ⊎-elim (λ w. ap length (w .6) ∙ omega arith) (λ w. ap length (w .2) ∙ l .inv .1) (t .came),
-      ⊎-elim (λ w. ap (λ (r : Row). r .last) (w .7) ∙ w .5 .ensures .columns) (λ w. ap (λ (r : Row). r .last) (w .3) ∙ w .1 .ensures .columns ∙ l .inv .2) (t .came),
       ⊎-elim
-          (λ w. series-line (l .out) (l .n) (l .row) (t .row) (w .5 .result) text (l .i) more (w .0 .taken) (l .inv .2) (w .7) (w .5 .ensures) (w .6) (w .8) (w .2 .ensures))
-          (λ w. series-byte (l .out) (l .n) (l .row) (t .row) (w .1 .result) text (l .i) more (w .0 .left) (w .3) (w .1 .ensures) (w .2) (w .4))
+          (λ w. series-line (l .out) (l .n) (l .cells) (t .cells) (w .5 .result) text (l .i) more (w .0 .taken) (w .7) (w .5 .ensures) (w .6) (w .8) (w .2 .ensures))
+          (λ w. series-byte (l .out) (l .n) (l .cells) (t .cells) (w .1 .result) text (l .i) more (w .0 .left) (w .3) (w .1 .ensures) (w .2) (w .4))
           (t .came)
-          ∙ l .inv .3,
+          ∙ l .inv .2,
     )
 
 is-begun-requires : tie.Need-is-begun-requires Inv-loop μ-loop
 is-begun-requires c κs = tt
 
 put-output-requires-2 : tie.Need-put-output-requires-2 Inv-loop μ-loop
-put-output-requires-2 c κs = c .before .before .before .before .loop .inv .2
+put-output-requires-2 c κs = tt
 
 same-length : tie.Need-same-length Inv-loop μ-loop
 same-length c = search needs
@@ -87,7 +82,7 @@ returns c =
     let l = c .before .before .before .before .before .before .before .loop in
     let text = c .before .before .before .before .before .before .before .before .before .before .before .args .text .now in
     let begun = sym (c .before .before .before .before .before .is-begun .ensures) ∙ c .before .before .before .before .if2 .taken in
-    c .before .before .put-output2 .ensures [] ∙ series-open (l .out) (l .n) (l .row) text (l .i) (omega arith) begun ∙ l .inv .3
+    c .before .before .put-output2 .ensures [] ∙ series-open (l .out) (l .n) (l .cells) text (l .i) (omega arith) begun ∙ l .inv .2
 
 same-length-2 : tie.Need-same-length-2 Inv-loop μ-loop
 same-length-2 c = search needs
@@ -97,7 +92,7 @@ returns-2 c =
     let l = c .before .before .before .loop in
     let text = c .before .before .before .before .before .before .before .args .text .now in
     let unread = sym (c .before .is-begun .ensures) ∙ c .if2 .left in
-    series-shut (l .out) (l .n) (l .row) text (l .i) (omega arith) unread ∙ l .inv .3
+    series-shut (l .out) (l .n) (l .cells) text (l .i) (omega arith) unread ∙ l .inv .2
 
 pub read-series-spec : {M : Type 1} → statement M
 read-series-spec =

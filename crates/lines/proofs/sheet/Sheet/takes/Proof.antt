@@ -1,22 +1,26 @@
 -- `lines::sheet::Sheet::takes` meets its contract.
 use mathlib.Core.Path.{ap, sym, _∙_}
 use mathlib.Core.Bool.{Bool, _&&_}
+use mathlib.Core.List.{[]}
 use lib.Dec.{ltb}
-use Rattle.share.specs.Sharing.{soundLine, mostNumber}
-use Rattle.lines.proofs.Judging.{line-rises}
+use Rattle.row.proofs.Judging.{fair-rises}
+use Rattle.share.specs.declared.Line.{Line}
+use Rattle.share.specs.Sharing.{mostNumber}
+use Rattle.lines.specs.Meaning.{inTurn, rowLine}
+use Rattle.lines.proofs.Lines.{lawful}
 use borrow.Author.Needs.{needs}
 use Rattle.lines.proofs.sheet.Sheet.takes.Statement.{statement}
 use Rattle.lines.proofs.sheet.Sheet.takes.Tie as tie
 
-line-requires : tie.Need-line-requires
-line-requires c κs = search needs
+line-of-requires : tie.Need-line-of-requires
+line-of-requires c κs = search needs
 
 returns : tie.Need-returns
 returns c =
     let a = c .before .before .before .before .args in
-    let l = c .before .before .before .line in
+    let l = c .before .before .before .line-of in
     ap (λ (t : Bool). t && ltb (a .self .count) mostNumber)
-    (sym (line-rises (a .self .before) (a .row) (l .result) (l .ensures)) ∙ ap (soundLine (a .self .before)) (l .ensures))
+    (ap (λ (x : Line). ltb (a .self .before) (x .number)) (l .ensures) ∙ sym (fair-rises inTurn lawful (a .self .before) (rowLine (a .row) [])))
 
 pub takes-spec : {M : Type 1} → statement M
-takes-spec = tie.close (tie.spec line-requires returns)
+takes-spec = tie.close (tie.spec line-of-requires returns)

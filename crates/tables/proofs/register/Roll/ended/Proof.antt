@@ -18,7 +18,7 @@ returns : tie.Need-returns
 returns c =
     let a = c .before .before .before .before .args in
     let begun = sym (c .before .before .before .is-begun .ensures) ∙ c .before .before .if1 .taken in
-    c .answer .ensures ∙ end-open (a .self) (c .before .with .result) (a .row) begun (c .before .with .ensures)
+    c .answer .ensures ∙ end-open (a .self) (c .before .with .result) (a .cells) begun (c .before .with .ensures)
 
 answer-requires-2 : tie.Need-answer-requires-2
 answer-requires-2 c κs = search needs
@@ -27,7 +27,7 @@ returns-2 : tie.Need-returns-2
 returns-2 c =
     let a = c .before .before .before .args in
     let unread = sym (c .before .before .is-begun .ensures) ∙ c .before .if1 .left in
-    c .answer2 .ensures ∙ end-shut (a .self) (a .row) unread
+    c .answer2 .ensures ∙ end-shut (a .self) (a .cells) unread
 
 pub ended-spec : {M : Type 1} → statement M
 ended-spec =

@@ -1,14 +1,22 @@
 -- `tables::register::Roll::with` meets its contract.
-use mathlib.Core.List.{[]}
+use mathlib.Core.List.{[], map}
 use native.Mathlib.Omega.{arith}
-use Rattle.tables.specs.Meaning.{rowNumbers, outcome}
-use Rattle.tables.proofs.Judging.{with-refused, with-bad, with-full, with-sound}
+use Rattle.row.proofs.Judging.{with-refused, with-bad, with-full, with-sound}
+use Rattle.tables.specs.declared.cells.Cells.{Cells}
+use Rattle.tables.specs.declared.register.Entry.{Entry}
+use Rattle.tables.specs.Register.{asEntry}
+use Rattle.tables.specs.Meaning.{cellNumbers, inTurn, standing}
+use Rattle.tables.proofs.Entries.{lawful}
 use borrow.Author.Needs.{needs}
 use Rattle.tables.proofs.register.Roll.with.Statement.{statement}
 use Rattle.tables.proofs.register.Roll.with.Tie as tie
 
+-- the entry as its line says it
+abbrev said : Cells → Entry
+said cells = asEntry (cellNumbers 5 cells [])
+
 returns : tie.Need-returns
-returns c = with-refused (c .before .args .self) (rowNumbers (c .before .args .row) []) (c .if1 .taken)
+returns c = let a = c .before .args in λ rows. with-refused inTurn lawful (standing (a .self)) (said (a .cells)) (c .if1 .taken) (map asEntry rows)
 
 entry-of-requires : tie.Need-entry-of-requires
 entry-of-requires c κs = search needs
@@ -20,7 +28,8 @@ returns-2 : tie.Need-returns-2
 returns-2 c =
     let a = c .before .before .before .before .before .before .args in
     let e = c .before .before .before .before .entry-of in
-    with-bad (a .self) (rowNumbers (a .row) []) (e .result) (c .before .before .before .before .before .if1 .left) (e .ensures) (c .refuse .result) (c .refuse .ensures) (c .before .if2 .taken)
+    λ rows. with-bad inTurn lawful (standing (a .self)) (said (a .cells)) (c .before .before .before .before .before .if1 .left) (e .result) (e .ensures)
+    (standing (c .refuse .result)) (c .refuse .ensures) (c .before .if2 .taken) (map asEntry rows)
 
 refuse-requires-2 : tie.Need-refuse-requires-2
 refuse-requires-2 c κs = search needs
@@ -28,8 +37,8 @@ refuse-requires-2 c κs = search needs
 returns-3 : tie.Need-returns-3
 returns-3 c =
     let a = c .before .before .before .before .before .before .before .args in
-    let e = c .before .before .before .before .before .entry-of in
-    with-full (a .self) (rowNumbers (a .row) []) (e .result) (c .before .before .before .before .before .before .if1 .left) (e .ensures) (c .refuse2 .result) (c .refuse2 .ensures) (c .before .if3 .taken)
+    λ rows. with-full inTurn lawful (standing (a .self)) (said (a .cells)) (c .before .before .before .before .before .before .if1 .left)
+    (standing (c .refuse2 .result)) (c .refuse2 .ensures) (c .before .if3 .taken) (map asEntry rows)
 
 mul-entries : tie.Need-mul-entries
 mul-entries c = search needs
@@ -41,11 +50,11 @@ add-t7 : tie.Need-add-t7
 add-t7 c = search needs
 
 returns-4 : tie.Need-returns-4
-unfolding outcome
 returns-4 c =
     let a = c .before .before .before .before .before .before .before .args in
     let e = c .before .before .before .before .before .entry-of in
-    with-sound (a .self) (rowNumbers (a .row) []) (e .result) (c .before .before .before .before .before .before .if1 .left) (e .ensures) (c .before .before .if2 .left) (omega (arith, c .before .if3 .left))
+    λ rows. with-sound inTurn lawful (standing (a .self)) (said (a .cells)) (c .before .before .before .before .before .before .if1 .left) (e .result) (e .ensures)
+    (c .before .before .if2 .left) (omega (arith, c .before .if3 .left)) (map asEntry rows)
 
 pub with-spec : {M : Type 1} → statement M
 with-spec =

@@ -1,0 +1,113 @@
+// The line that is being read: five numbers parted by blanks, of which the last one read may still grow.
+use row::Row;
+use row::hold;
+use share::Line;
+use units::Fen;
+use units::Mwh;
+use units::SignedFen;
+use units::Thousandths;
+ghost use mathlib.Core.Path.{_≡_};
+ghost use mathlib.Core.List.{List, [], _++_};
+ghost use Prim.Native.Nat.{ℕ};
+ghost use Rattle.share.specs.Forms.{blank};
+ghost use Rattle.lines.specs.Text.{asLine};
+ghost use Rattle.lines.specs.Meaning.{fair, fiveOf, rowLine, Follows};
+ghost use Rattle.lines.specs.Settling.{bestBytes, numberBytes};
+
+// A line that is never sound.
+pub fn blank_line() -> Line
+    ensures { λ r. ⌜ r ≡ blank ⌝ }
+{
+    Line {
+        number: 0,
+        status: 0,
+        energy: Mwh(0),
+        compensation: Fen(0),
+        assessment: Thousandths(0),
+        share: SignedFen(0),
+        amount: SignedFen(0),
+    }
+}
+
+// The row after a byte of its line.
+pub fn stepped(row: Row, b: u8) -> Row
+    ensures { λ r. ⌜ Follows row b r ⌝ }
+{
+    row.step(b' ', 4, b)
+}
+
+// The row after the bytes that end its open number best.
+fn numbered(row: Row) -> Row
+    ensures { λ r. ⌜ ((rest : List ℕ) → rowLine r rest ≡ rowLine row (numberBytes row ++ rest)) ⌝ }
+{
+    if 0 < row.at {
+        if row.digit {
+            return row;
+        }
+        return stepped(row, b'0');
+    }
+    if row.value == 0 {
+        let six = stepped(row, b'6');
+        return stepped(six, b'4');
+    }
+    if row.value < 6 {
+        return stepped(row, b'9');
+    }
+    if row.value == 6 {
+        return stepped(row, b'4');
+    }
+    row
+}
+
+// The row after the bytes that end its line best: if any bytes make it sound, these do.
+pub fn best(start: Row) -> Row
+    ensures { λ r. ⌜ rowLine r [] ≡ rowLine start (bestBytes start) ⌝ }
+{
+    let mut row = numbered(start);
+    let mut i = start.at;
+    while i < 4 {
+        let parted = stepped(row, b' ');
+        row = stepped(parted, b'0');
+        i += 1;
+    }
+    row
+}
+
+// The line of five numbers, or a blank one where a number is past its limit.
+fn typed(ended: [u64; 5], assessed: u64) -> Line
+    ensures { λ r. ⌜ r ≡ fair (asLine (fiveOf ended assessed)) ⌝ }
+{
+    let n = ended[0];
+    let s = ended[1];
+    let e = ended[2];
+    let c = ended[3];
+    if (0 < n)
+        & (n <= 64)
+        & (s <= 2)
+        & (e <= 5000000)
+        & (c <= 100000000000)
+        & (assessed <= 10000000)
+    {
+        return Line {
+            number: n as u16,
+            status: s as u8,
+            energy: Mwh(e as u32),
+            compensation: Fen(c),
+            assessment: Thousandths(assessed as u32),
+            share: SignedFen(0),
+            amount: SignedFen(0),
+        };
+    }
+    blank_line()
+}
+
+// The line, if it ends here.
+pub fn line_of(row: Row) -> Line
+    ensures { λ r. ⌜ r ≡ fair (rowLine row []) ⌝ }
+{
+    if row.is_whole(4) {
+        let ended = row.ended;
+        return typed(ended, hold(row.value));
+    }
+    blank_line()
+}

@@ -1,0 +1,5 @@
+pub mod Texts
+pub mod Held
+pub mod Rows
+pub mod Judging
+pub mod Left
