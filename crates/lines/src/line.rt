@@ -2,6 +2,7 @@
 use row::Row;
 use row::hold;
 use share::Line;
+use share::array::blank_line;
 use units::Fen;
 use units::Mwh;
 use units::SignedFen;
@@ -9,25 +10,9 @@ use units::Thousandths;
 ghost use mathlib.Core.Path.{_≡_};
 ghost use mathlib.Core.List.{List, [], _++_};
 ghost use Prim.Native.Nat.{ℕ};
-ghost use Rattle.share.specs.Forms.{blank};
 ghost use Rattle.lines.specs.Text.{asLine};
 ghost use Rattle.lines.specs.Meaning.{fair, fiveOf, rowLine, Follows};
 ghost use Rattle.lines.specs.Settling.{bestBytes, numberBytes};
-
-// A line that is never sound.
-pub fn blank_line() -> Line
-    ensures { λ r. ⌜ r ≡ blank ⌝ }
-{
-    Line {
-        number: 0,
-        status: 0,
-        energy: Mwh(0),
-        compensation: Fen(0),
-        assessment: Thousandths(0),
-        share: SignedFen(0),
-        amount: SignedFen(0),
-    }
-}
 
 // The row after a byte of its line.
 pub fn stepped(row: Row, b: u8) -> Row

@@ -1,9 +1,9 @@
 // The lines taken so far, or that one of them was bad.
 use crate::Taken;
-use crate::line::blank_line;
 use crate::line::line_of;
 use row::Row;
 use share::Line;
+use share::array::blank_lines;
 ghost use mathlib.Core.Path.{_≡_};
 ghost use mathlib.Core.Bool.{true, _&&_};
 ghost use lib.Dec.{ltb};
@@ -20,13 +20,6 @@ pub struct Sheet {
     pub before: u16,
     pub count: usize,
     pub lines: [Line; 64],
-}
-
-fn blank_lines() -> [Line; 64]
-    ensures { λ r. ⌜ r ≡ arrayFrom [] ⌝ }
-{
-    let none = blank_line();
-    [none; 64]
 }
 
 impl Sheet {

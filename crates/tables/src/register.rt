@@ -4,6 +4,7 @@ use pay::Member;
 use row::hold;
 use share::Line;
 use share::Shared;
+use share::array::blank_lines;
 use units::Fen;
 use units::Kw;
 use units::Mwh;
@@ -13,10 +14,7 @@ ghost use mathlib.Core.Path.{_≡_};
 ghost use mathlib.Core.Bool.{true};
 ghost use mathlib.Core.List.{List, [], _∷_, map};
 ghost use Prim.Native.Nat.{ℕ};
-ghost use lib.ListN.{replicate};
 ghost use Rattle.row.specs.Judging.{judgeFrom};
-ghost use Rattle.share.specs.Sharing.{mostNumber};
-ghost use Rattle.share.specs.Forms.{blank};
 ghost use Rattle.tables.specs.Register.{asEntry, blankEntry, lineFor, arrayFrom, readRegister, linesFor, statementOf};
 ghost use Rattle.tables.specs.Meaning.{cellNumbers, rowsFrom, sixOf, inTurn, fair, outcome};
 
@@ -221,14 +219,6 @@ impl Entry {
             amount: SignedFen(0),
         }
     }
-}
-
-fn blank_lines() -> [Line; 64]
-    ensures { λ r. ⌜ r ≡ replicate mostNumber blank ⌝ }
-{
-    let none = blank_entry();
-    let line = none.line(Fen(0));
-    [line; 64]
 }
 
 // The sharing lines of entries whose members are compensated so, in turn.

@@ -6,8 +6,6 @@ use lib.ListN.{length, take, length-set}
 use Rattle.tables.specs.Register.{linesFor, blankEntry, asEntry}
 use Rattle.tables.proofs.Sharing.{line-next, lines-all}
 use borrow.Author.Needs.{needs}
-use borrow.Author.Needs.{needs}
-use borrow.Author.Needs.{needs}
 use Rattle.tables.proofs.register.lines_for.Statement.{statement}
 use Rattle.tables.proofs.register.lines_for.Tie as tie
 

@@ -5,6 +5,7 @@ use Prim.Native.Nat.{ℕ}
 use Rattle.row.proofs.Judging.{answer-no, answer-yes}
 use Rattle.share.specs.declared.Line.{Line}
 use Rattle.lines.specs.declared.Taken.{Taken}
+use Rattle.lines.specs.Text.{arrayFrom}
 use Rattle.lines.specs.Meaning.{inTurn, standing}
 use Rattle.lines.proofs.Lines.{lawful}
 use borrow.Author.Needs.{needs}
@@ -15,6 +16,7 @@ blank-lines-requires : tie.Need-blank-lines-requires
 blank-lines-requires c κs = search needs
 
 returns : tie.Need-returns
+unfolding arrayFrom
 returns c =
     let s = c .before .before .args .self in
     ap (λ (all : List Line). tell (s .count) all) (c .blank-lines .ensures) ∙ answer-no inTurn lawful (standing s) (c .before .if1 .taken)
