@@ -1,5 +1,5 @@
 -- What an outcome can be: the lines are shared, or they are refused. Assumes nothing.
-use mathlib.Core.Path.{_≡_, refl, sym, ap, _∙_}
+use mathlib.Core.Path.{_≡_, refl, sym, ap, ap₂, _∙_}
 use mathlib.Core.Bool.{Bool, true, false, _&&_, true≢false}
 use mathlib.Core.List.{List, []}
 use mathlib.Core.Logic.{_⊎_, inl, inr}
@@ -62,6 +62,14 @@ taken ls h = go (outcome ls)
     go : Taken ls ⊎ Refused ls → Taken ls
     go (inl t) = t
     go (inr r) = let n : r .number ≡ 0 = sym (ap (λ (o : Outcome). o .number) (r .is)) ∙ h in absurd (omega (arith, r .some))
+
+-- where one is given, they are refused with it
+pub refused-is : (ls : List Line) (number place : ℕ) → number ≡ sharing ls .number → place ≡ sharing ls .place → (number ≡ 0 → ⊥) → refused number place ≡ sharing ls
+refused-is ls number place en ep some = go (outcome ls)
+  where
+    go : Taken ls ⊎ Refused ls → refused number place ≡ sharing ls
+    go (inl t) = absurd (some (en ∙ ap (λ (o : Outcome). o .number) (t .is)))
+    go (inr r) = ap₂ refused (en ∙ ap (λ (o : Outcome). o .number) (r .is)) (ep ∙ ap (λ (o : Outcome). o .place) (r .is)) ∙ sym (r .is)
 
 -- a refusal gives no line anything
 pub none-given : (ls : List Line) → 0 < sharing ls .number → sharing ls .parts ≡ []

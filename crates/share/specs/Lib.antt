@@ -2,3 +2,4 @@ pub mod Sharing
 pub mod Limits
 pub mod Forms
 pub mod Verdict
+pub mod Inner

@@ -1,7 +1,7 @@
 // Sharing: the gap between assessments and compensations, carried by the lines by weight.
 pub mod array;
 pub mod lent;
-mod settle;
+pub mod settle;
 
 use units::Fen;
 use units::Mwh;
@@ -40,9 +40,16 @@ pub struct Answer {
 pub fn share(lines: [Line; 64], count: usize) -> Shared
     ensures { λ r. ⌜ r ≡ sharedArray lines count ⌝ }
 {
-    let bad = settle::first_bad(lines, array::seen(count));
-    if bad < count {
-        return settle::refuse(10, bad, lines);
+    let o = settle::outcome(lines, count);
+    if o.number != 0 {
+        return settle::refuse(o.number, o.place, lines);
     }
-    settle::settle(lines, count)
+    let gap = o.gap;
+    let shares = o.shares;
+    Shared {
+        number: 0,
+        place: 0,
+        gap,
+        lines: settle::fill_in(lines, shares, count, o.negative),
+    }
 }

@@ -1,17 +1,20 @@
 // The array form, step by step: the lines in turn, the sums, the weights, the shares, the lines filled in.
 use crate::Line;
 use crate::Shared;
+use crate::array::seen;
 use units::Fen;
 use units::SignedFen;
 ghost use mathlib.Core.Path.{_≡_};
-ghost use mathlib.Core.List.{map};
+ghost use mathlib.Core.List.{List, map};
 ghost use Prim.Native.Nat.{ℕ, _+_, _*_, _^_, _<_, _≤_};
 ghost use lib.ListN.{getD, take};
 ghost use lib.IntN.{pos, natAbs, _-ℤ_};
 ghost use Rattle.apportion.specs.Apportion.{total, apportion};
-ghost use Rattle.share.specs.Sharing.{factor, weightOf, weightsBy, compensated, assessed, below, gap, partOf, partsBy, soundLine, firstBad, refused, settled, mostEnergy, mostCompensation};
+ghost use Rattle.share.specs.Sharing.{factor, weightOf, weightsBy, compensated, assessed, below, gap, partOf, partsBy, soundLine, firstBad, refused, settled, sharing, mostEnergy, mostCompensation};
+ghost use Rattle.share.specs.declared.Line.{Line};
 ghost use Rattle.share.specs.Limits.{Within, AllWithin};
-ghost use Rattle.share.specs.Forms.{filled, fill, cleared, arrayOf};
+ghost use Rattle.share.specs.Forms.{filled, fill, cleared, counted, arrayOf};
+ghost use Rattle.share.specs.Inner.{Carries};
 
 // C and A.
 pub struct Totals {
@@ -21,6 +24,15 @@ pub struct Totals {
 
 // What each line carries, without its sign.
 pub struct FenEach(pub [u64; 64]);
+
+// What sharing says before it is filled in: a refusal's number and place, or zeros; R, whether it is below zero, and what each line carries of it.
+pub struct Carried {
+    pub number: u32,
+    pub place: usize,
+    pub gap: SignedFen,
+    pub negative: bool,
+    pub shares: FenEach,
+}
 
 // The factor of a status; `negative` says that A < C, so that R is below zero.
 fn factor_of(negative: bool, status: u8) -> u64
@@ -58,7 +70,7 @@ fn sound(l: Line, before: u16) -> bool
 }
 
 // The place of the first line that is not sound, or count.
-pub fn first_bad(lines: [Line; 64], count: usize) -> usize
+fn first_bad(lines: [Line; 64], count: usize) -> usize
     requires { ⌜ count ≤ 64 ⌝ }
     ensures { λ r. ⌜ r ≡ firstBad 0 (take count lines) ⌝ }
 {
@@ -138,7 +150,7 @@ fn with(l: Line, share: SignedFen, amount: SignedFen) -> Line
 }
 
 // A line with its share, with the sign put on, and its amount.
-fn finish(l: Line, s: Fen, negative: bool) -> Line
+pub fn finish(l: Line, s: Fen, negative: bool) -> Line
     requires { ⌜ Within l × (s .0 ≤ mostCompensation) ⌝ }
     ensures { λ r. ⌜ r ≡ filled l (partOf negative l (s .0)) ⌝ }
 {
@@ -167,7 +179,7 @@ fn clear(lines: [Line; 64]) -> [Line; 64]
 }
 
 // The first lines with their shares filled in, the others cleared.
-fn fill_in(lines: [Line; 64], shares: FenEach, count: usize, negative: bool) -> [Line; 64]
+pub fn fill_in(lines: [Line; 64], shares: FenEach, count: usize, negative: bool) -> [Line; 64]
     requires { ⌜ (count ≤ 64) × AllWithin (take count lines) ⌝ }
     requires { ⌜ ((k : ℕ) → k < count → getD (shares .0) k 0 ≤ mostCompensation) ⌝ }
     ensures { λ r. ⌜ r ≡ fill (partsBy negative (take count lines) (take count (shares .0))) (map (λ l. cleared l) lines) ⌝ }
@@ -210,40 +222,65 @@ pub fn refuse(number: u32, place: usize, lines: [Line; 64]) -> Shared
     }
 }
 
+fn refusal(number: u32, place: usize) -> Carried
+    requires { ⌜ 0 < number ⌝ }
+    ensures { λ r. ⌜ ((lines : List Line) (count : ℕ) → Carries lines count (refused number place) r) ⌝ }
+{
+    Carried {
+        number,
+        place,
+        gap: SignedFen(0),
+        negative: false,
+        shares: FenEach([0; 64]),
+    }
+}
+
 // 16, or the sharing of |R|; `negative` says that R, in `whole`, is below zero.
-fn part(lines: [Line; 64], count: usize, amount: Fen, negative: bool, whole: SignedFen) -> Shared
+fn part(lines: [Line; 64], count: usize, amount: Fen, negative: bool, whole: SignedFen) -> Carried
     requires { ⌜ (count ≤ 64) × AllWithin (take count lines) × (amount .0 ≤ mostCompensation) × (compensated (take count lines) ≤ mostCompensation) ⌝ }
     requires { ⌜ (amount .0 ≡ natAbs (gap (take count lines))) × (negative ≡ below (take count lines)) × (whole .0 ≡ gap (take count lines)) ⌝ }
-    ensures { λ r. ⌜ r ≡ arrayOf lines (settled (take count lines)) ⌝ }
+    ensures { λ r. ⌜ Carries lines count (settled (take count lines)) r ⌝ }
 {
     let ws = weights_of(lines, count, negative);
     let all = apportion::sum_of(&ws[..count]);
     if 0 < amount.0 {
         if all == 0 {
-            return refuse(16, 0, lines);
+            return refusal(16, 0);
         }
     }
-    let ss = shares_of(amount, ws, count);
-    Shared {
+    let shares = shares_of(amount, ws, count);
+    Carried {
         number: 0,
         place: 0,
         gap: whole,
-        lines: fill_in(lines, ss, count, negative),
+        negative,
+        shares,
     }
 }
 
 // 15, 16, or the sharing.
-pub fn settle(lines: [Line; 64], count: usize) -> Shared
+fn settle(lines: [Line; 64], count: usize) -> Carried
     requires { ⌜ (count ≤ 64) × AllWithin (take count lines) ⌝ }
-    ensures { λ r. ⌜ r ≡ arrayOf lines (settled (take count lines)) ⌝ }
+    ensures { λ r. ⌜ Carries lines count (settled (take count lines)) r ⌝ }
 {
     let s = sums(lines, count);
     let c = s.compensated.0;
     if 100000000000 < c {
-        return refuse(15, 0, lines);
+        return refusal(15, 0);
     }
     let a = s.assessed.0;
     let amount = apart(a, c);
     let whole = difference(Fen(a), Fen(c));
     part(lines, count, amount, a < c, whole)
+}
+
+// 10, 15, 16, or the sharing, of the first `count` of 64 lines.
+pub fn outcome(lines: [Line; 64], count: usize) -> Carried
+    ensures { λ r. ⌜ Carries lines count (sharing (counted lines count)) r ⌝ }
+{
+    let bad = first_bad(lines, seen(count));
+    if bad < count {
+        return refusal(10, bad);
+    }
+    settle(lines, count)
 }

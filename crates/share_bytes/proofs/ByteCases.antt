@@ -1,21 +1,22 @@
 -- The outcome over bytes by its cases, and the lines that the array form is handed. Assumes nothing.
 use mathlib.Core.Path.{_≡_, refl, sym, ap, _∙_}
-use mathlib.Core.List.{List, [], map}
+use mathlib.Core.List.{List, []}
 use Prim.Native.Nat.{ℕ, _*_, _/_, _%_, _≤_, _<_}
 use native.Mathlib.Decide.{decLe}
 use native.Mathlib.Omega.{arith}
 use mathlib.Core.Logic.{_≢_}
 use borrow.Author.Tests.{lt-ltb, le-ltb, eq-eqb, ne-eqb}
-use lib.ListN.{length, take, length-map}
+use lib.ListN.{length, take}
 use lib.Seq.{take-all}
 use Rattle.le.specs.Le.{Stores}
+use Rattle.units.specs.declared.SignedFen.{SignedFen}
+use Rattle.share.specs.declared.Answer.{Answer}
 use Rattle.share.specs.declared.Line.{Line}
 use Rattle.share.specs.Sharing.{Part, Outcome, refused, sharing}
-use Rattle.share.specs.Forms.{fill, cleared, counted}
-use Rattle.share_bytes.specs.Bytes.{partIn}
+use Rattle.share.specs.Forms.{counted, answerOf}
 use Rattle.share_bytes.specs.Bytes.{linesFrom, linesOf, partsBytes, ifRoom, sharingBytes}
 use Rattle.share.proofs.Counted.{same-sharing}
-use Rattle.share_bytes.proofs.Spelling.{length-lines, lines-take, parts-back}
+use Rattle.share_bytes.proofs.Spelling.{length-lines, lines-take}
 use Rattle.share.proofs.Outcomes.{taken, none-given, each-given}
 
 -- 1
@@ -61,8 +62,6 @@ read-same bytes n m lines e few many t =
         take-all (length (linesFrom bytes 0 n)) lines (omega (arith, length-lines bytes 0 n)) ∙ sym (take-all m lines (omega (arith, many (omega arith))))
         ∙ t ∙ ap (linesFrom bytes 0) (many (omega arith)) ∙ lines-take bytes 0 64 n (omega arith)
 
--- the parts that the array form filled in
-pub parts-of : (ps : List Part) (lines : List Line) (n : ℕ) → length ps ≡ n → n ≤ length lines → map (λ l. partIn l) (take n (fill ps (map (λ l. cleared l) lines))) ≡ ps
-parts-of ps lines n e h =
-    ap (λ (k : ℕ). map (λ l. partIn l) (take k (fill ps (map (λ l. cleared l) lines)))) (sym e)
-    ∙ parts-back ps (map (λ l. cleared l) lines) (omega (arith, length-map lines (λ l. cleared l)))
+-- the answer of an outcome, from its number, place and R
+pub told-is : (o : Outcome) (number place : ℕ) (whole : SignedFen) → number ≡ o .number → place ≡ o .place → whole .0 ≡ o .gap → _≡_ {A = Answer} (record { number = number; place = place; gap = whole }) (answerOf o)
+told-is o number place whole en ep ew = λ i. record { number = en i; place = ep i; gap = record { 0 = ew i } }

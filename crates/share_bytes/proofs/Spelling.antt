@@ -1,12 +1,13 @@
 -- Lines and parts as bytes. Assumes nothing.
-use mathlib.Core.Path.{_≡_, refl, sym, ap, _∙_}
-use mathlib.Core.List.{List, [], _∷_, _++_, map, append-nil, append-assoc}
+use mathlib.Core.Path.{_≡_, refl, sym, ap, _∙_, subst}
+use mathlib.Core.Bool.{Bool}
+use mathlib.Core.List.{List, [], _∷_, _++_, append-nil, append-assoc}
 use Prim.Native.Nat.{ℕ, zero, suc, _+_, _*_, _≤_, _<_}
 use native.Mathlib.Nat.{not-suc-le-zero}
 use native.Mathlib.Numerals.{add-one}
 use native.Mathlib.Omega.{arith}
-use lib.ListN.{length, getD, take, length-append, length-map}
-use lib.Seq.{length-take-le, sets}
+use lib.ListN.{length, getD, take, length-append}
+use lib.Seq.{length-take-le, getD-take, take-all, sets}
 use mir.Syntax.{w64}
 use lib.IntN.{ℤ}
 use mir.Val.{ofZ, toZ, SFits}
@@ -14,9 +15,9 @@ use mir.Facts.{toZ-ofZ}
 use Rattle.le.specs.Le.{leBytes, Stores}
 use Rattle.le.proofs.Laws.{length-leBytes, then}
 use Rattle.share.specs.declared.Line.{Line}
-use Rattle.share.specs.Sharing.{Part}
-use Rattle.share.specs.Forms.{fill}
-use Rattle.share_bytes.specs.Bytes.{partIn}
+use Rattle.share.specs.Sharing.{Part, partOf, partsBy}
+use Rattle.share.specs.Forms.{filled}
+use Rattle.share.proofs.Lines.{length-parts, part-at}
 use Rattle.share_bytes.specs.Bytes.{lineAt, linesFrom, partBytes, partsBytes}
 
 -- Lines read
@@ -59,32 +60,54 @@ pub part-stored : (p : Part) (at : ℕ) {k l m : List ℕ} → Stores k at (leBy
 unfolding partBytes
 part-stored p at f g = then (at + 8) (ap (λ (n : ℕ). at + n) (sym (length-leBytes 8 (ofZ w64 (p .share))))) f g
 
-parts-more : (ls : List Line) (i : ℕ) (d : Line) → i < length ls
-    → partsBytes (map (λ l. partIn l) (take i ls)) ++ partBytes (partIn (getD ls i d)) ≡ partsBytes (map (λ l. partIn l) (take (suc i) ls))
+parts-more : (ps : List Part) (i : ℕ) (d : Part) → i < length ps → partsBytes (take i ps) ++ partBytes (getD ps i d) ≡ partsBytes (take (suc i) ps)
 unfolding partsBytes
 parts-more [] i d h = absurd (not-suc-le-zero h)
-parts-more (l ∷ ls) zero d h = sym (append-nil (partBytes (partIn l)))
-parts-more (l ∷ ls) (suc i) d h =
-    append-assoc (partBytes (partIn l)) (partsBytes (map (λ l. partIn l) (take i ls))) (partBytes (partIn (getD ls i d)))
-    ∙ ap (λ (t : List ℕ). partBytes (partIn l) ++ t) (parts-more ls i d (omega arith))
+parts-more (p ∷ ps) zero d h = sym (append-nil (partBytes p))
+parts-more (p ∷ ps) (suc i) d h =
+    append-assoc (partBytes p) (partsBytes (take i ps)) (partBytes (getD ps i d)) ∙ ap (λ (t : List ℕ). partBytes p ++ t) (parts-more ps i d (omega arith))
 
-pub parts-none : (ls : List Line) (k : List ℕ) → Stores k 0 (partsBytes (map (λ l. partIn l) (take 0 ls))) k
+pub parts-none : (ps : List Part) (k : List ℕ) → Stores k 0 (partsBytes (take 0 ps)) k
 unfolding partsBytes
-parts-none ls k = record { is = refl }
+parts-none ps k = record { is = refl }
 
--- the parts of the first i lines, and of one more
-pub parts-stored : (ls : List Line) (i : ℕ) (d : Line) {k l m : List ℕ} → i < length ls → Stores k 0 (partsBytes (map (λ l. partIn l) (take i ls))) l
-    → Stores l (16 * i) (partBytes (partIn (getD ls i d))) m → Stores k 0 (partsBytes (map (λ l. partIn l) (take (i + 1) ls))) m
-parts-stored ls i d {k} {l} {m} h f g =
-    let at : 16 * i ≡ 0 + length (partsBytes (map (λ l. partIn l) (take i ls))) =
-    omega (arith, length-partsBytes (map (λ l. partIn l) (take i ls)), length-map (take i ls) (λ l. partIn l), length-take-le i ls (omega arith)) in
-    rw (add-one, ← parts-more ls i d h) (then (16 * i) at f g)
+-- the first i parts, and one more
+pub parts-stored : (ps : List Part) (i : ℕ) (d : Part) {k l m : List ℕ} → i < length ps → Stores k 0 (partsBytes (take i ps)) l
+    → Stores l (16 * i) (partBytes (getD ps i d)) m → Stores k 0 (partsBytes (take (i + 1) ps)) m
+parts-stored ps i d {k} {l} {m} h f g =
+    let at : 16 * i ≡ 0 + length (partsBytes (take i ps)) = omega (arith, length-partsBytes (take i ps), length-take-le i ps (omega arith)) in
+    rw (add-one, ← parts-more ps i d h) (then (16 * i) at f g)
 
--- what was filled in is read again
-pub parts-back : (ps : List Part) (ls : List Line) → length ps ≤ length ls → map (λ l. partIn l) (take (length ps) (fill ps ls)) ≡ ps
-parts-back [] ls h = refl
-parts-back (p ∷ ps) [] h = absurd (omega arith)
-parts-back (p ∷ ps) (l ∷ ls) h = ap (λ (qs : List Part). p ∷ qs) (parts-back ps ls (omega arith))
+-- what a line has been given
+abbrev partIn : Line → Part
+partIn l = record { share = l .share .0; amount = l .amount .0 }
+
+-- the parts of the first lines of an array
+module _ (isBelow : Bool) (lines : List Line) (ss : List ℕ) (n : ℕ) (few : n ≤ length lines) (each : n ≤ length ss) where
+  abbrev given : List Part
+  given = partsBy isBelow (take n lines) (take n ss)
+
+  same-length : length (take n ss) ≡ length (take n lines)
+  same-length = length-take-le n ss each ∙ sym (length-take-le n lines few)
+
+  length-given : length given ≡ n
+  length-given = length-parts isBelow (take n lines) (take n ss) same-length ∙ length-take-le n lines few
+
+  given-at : (i : ℕ) (d : Line) (p : Part) → i < n → getD given i p ≡ partOf isBelow (getD lines i d) (getD ss i 0)
+  given-at i d p h =
+      part-at isBelow (take n lines) (take n ss) i d p same-length (omega (arith, length-take-le n lines few)) ∙ rw (getD-take n lines i d h, getD-take n ss i 0 h)
+
+  -- one line more: its part as it was filled in
+  pub part-more : (i : ℕ) (d l : Line) {k b m : List ℕ} → i < n → l ≡ filled (getD lines i d) (partOf isBelow (getD lines i d) (getD ss i 0)) → Stores k 0 (partsBytes (take i given)) b
+      → Stores b (16 * i) (partBytes (partIn l)) m → Stores k 0 (partsBytes (take (i + 1) given)) m
+  part-more i d l {k} {b} {m} h e f g =
+      let p : Part = partOf isBelow d 0 in
+      let same : partIn l ≡ getD given i p =
+      ap partIn e ∙ sym (given-at i d p h) in
+      parts-stored given i p (omega (arith, length-given)) f (subst (λ (q : Part). Stores b (16 * i) (partBytes q) m) same g)
+
+  pub all-written : {k m : List ℕ} → Stores k 0 (partsBytes (take n given)) m → Stores k 0 (partsBytes given) m
+  all-written {k} {m} f = subst (λ (ps : List Part). Stores k 0 (partsBytes ps) m) (take-all n given (omega (arith, length-given))) f
 
 -- a signed number stored as its bits: the machine's way through them and back changes nothing
 pub bits-stored : (z : ℤ) {at : ℕ} {k l : List ℕ} → SFits w64 z → Stores k at (leBytes 8 (ofZ w64 (toZ w64 (ofZ w64 z)))) l → Stores k at (leBytes 8 (ofZ w64 z)) l

@@ -55,10 +55,6 @@ unfoldable pub linesBytes : List Line → List ℕ
 linesBytes [] = []
 linesBytes (l ∷ ls) = lineThen l (linesBytes ls)
 
--- what is filled in of a line
-abbrev pub partIn : Line → Part
-partIn l = record { share = l .share .0; amount = l .amount .0 }
-
 -- the outcome is 16 bytes a line: share i64, amount i64
 unfoldable pub partBytes : Part → List ℕ
 partBytes p = leBytes 8 (ofZ w64 (p .share)) ++ leBytes 8 (ofZ w64 (p .amount))

@@ -1,22 +1,23 @@
 // Sharing over bytes: 24 a line in, 16 a line out.
 use share::Answer;
 use share::Line;
-use share::array::answer_of;
 use share::array::blank_line;
 use share::array::blank_lines;
 use share::array::seen;
+use share::settle::FenEach;
+use share::settle::finish;
+use share::settle::outcome;
 use units::Fen;
 use units::Mwh;
 use units::SignedFen;
 use units::Thousandths;
 ghost use mathlib.Core.Path.{_≡_};
-ghost use mathlib.Core.List.{map};
-ghost use Prim.Native.Nat.{_+_, _*_, _≤_};
-ghost use lib.ListN.{length, take};
+ghost use Prim.Native.Nat.{ℕ, _+_, _*_, _<_, _≤_};
+ghost use lib.ListN.{length, getD, take};
 ghost use Rattle.le.specs.Le.{Stores};
-ghost use Rattle.share.specs.Sharing.{refused};
-ghost use Rattle.share.specs.Forms.{answerOf};
-ghost use Rattle.share_bytes.specs.Bytes.{partIn, fieldsAt, reservedZero, lineAt, linesFrom, partBytes, partsBytes, BytesShared};
+ghost use Rattle.share.specs.Sharing.{partsBy, mostCompensation};
+ghost use Rattle.share.specs.Limits.{AllWithin};
+ghost use Rattle.share_bytes.specs.Bytes.{fieldsAt, reservedZero, lineAt, linesFrom, partBytes, partsBytes, BytesShared};
 
 fn reserved_zero(s: &[u8], at: usize) -> bool
     requires { ⌜ at + 24 ≤ length (now s) ⌝ }
@@ -80,29 +81,29 @@ fn write_part(share: SignedFen, amount: SignedFen, out: &mut [u8], at: usize)
     le::put_i64(out, at + 8, amount.0);
 }
 
-// The shares and amounts of the first `count` lines.
-fn write_parts(lines: [Line; 64], count: usize, out: &mut [u8])
-    requires { ⌜ (count ≤ 64) × (16 * count ≤ length (now out)) ⌝ }
-    ensures { λ _. ⌜ Stores (now (out .entry)) 0 (partsBytes (map (λ l. partIn l) (take count lines))) (now (out .exit)) ⌝ }
+// The share and the amount of each of the first `count` lines, straight to its place.
+fn write_parts(lines: [Line; 64], shares: FenEach, negative: bool, count: usize, out: &mut [u8])
+    requires { ⌜ (count ≤ 64) × (16 * count ≤ length (now out)) × AllWithin (take count lines) ⌝ }
+    requires { ⌜ ((k : ℕ) → k < count → getD (shares .0) k 0 ≤ mostCompensation) ⌝ }
+    ensures { λ _. ⌜ Stores (now (out .entry)) 0 (partsBytes (partsBy negative (take count lines) (take count (shares .0)))) (now (out .exit)) ⌝ }
 {
+    let ss = shares.0;
     let mut i: usize = 0;
     while i < count {
         let l = lines[i];
-        let share = l.share;
-        let amount = l.amount;
+        let s = Fen(ss[i]);
+        let done = finish(l, s, negative);
+        let share = done.share;
+        let amount = done.amount;
         write_part(share, amount, out, 16 * i);
         i += 1;
     }
 }
 
-fn refusal(number: u32) -> Answer
-    ensures { λ r. ⌜ r ≡ answerOf (refused number 0) ⌝ }
+fn answer(number: u32, place: usize, gap: SignedFen) -> Answer
+    ensures { λ r. ⌜ r ≡ record { number = number; place = place; gap = gap } ⌝ }
 {
-    Answer {
-        number,
-        place: 0,
-        gap: SignedFen(0),
-    }
+    Answer { number, place, gap }
 }
 
 // The sharing of the lines in `input`, what each gets to the front of `out`.
@@ -110,19 +111,20 @@ pub fn share_bytes(input: &[u8], out: &mut [u8]) -> Answer
     ensures { λ r. ⌜ BytesShared (now (input .entry)) (now (out .entry)) (now (out .exit)) r ⌝ }
 {
     if input.len() % 24 != 0 {
-        return refusal(1);
+        return answer(1, 0, SignedFen(0));
     }
     let count = input.len() / 24;
     let lines = lines_of(input, seen(count));
-    let s = share::share(lines, count);
-    let answer = answer_of(s);
-    if s.number != 0 {
-        return answer;
+    let o = outcome(lines, count);
+    let gap = o.gap;
+    let told = answer(o.number, o.place, gap);
+    if o.number != 0 {
+        return told;
     }
     if out.len() < 16 * count {
-        return refusal(9);
+        return answer(9, 0, SignedFen(0));
     }
-    let done = s.lines;
-    write_parts(done, count, out);
-    answer
+    let shares = o.shares;
+    write_parts(lines, shares, o.negative, count, out);
+    told
 }

@@ -1,23 +1,25 @@
 -- `share::share` meets its contract.
-use mathlib.Core.Path.{_≡_, ap, sym, _∙_}
-use Prim.Native.Nat.{ℕ, _≤_}
-use native.Mathlib.Omega.{arith}
-use lib.ListN.{length, take}
-use lib.Seq.{length-take-le}
-use Rattle.share.specs.Sharing.{Outcome, firstBad, refused, sharing}
-use Rattle.share.specs.Forms.{arrayOf, sharedArray}
-use Rattle.share.proofs.Bounds.{all-within}
-use Rattle.share.proofs.Cases.{sharing-on}
-use Rattle.share.proofs.Counted.{counted-few, counted-bad, counted-sound}
+use mathlib.Core.Path.{_≡_, sym, ap, _∙_}
+use Rattle.share.specs.Sharing.{Outcome, partsBy, sharing}
+use Rattle.share.specs.Forms.{counted, arrayOf, sharedArray}
+use Rattle.share.specs.Inner.{Given}
+use Rattle.share.proofs.Cases.{accepted-is}
+use Rattle.share.proofs.Outcomes.{taken, refused-is}
+use lib.ListN.{take}
 use borrow.Author.Needs.{needs}
 use Rattle.share.proofs.share.Statement.{statement}
 use Rattle.share.proofs.share.Tie as tie
 
-seen-requires : tie.Need-seen-requires
-seen-requires c κs = search needs
+-- past the test the lines are shared
+none : (c : tie.Else1) → let s = c .before .before .before in sharing (counted (s .args .lines) (s .args .count)) .number ≡ 0
+none c = sym (c .before .before .outcome .ensures .number) ∙ c .if1 .left
 
-first-bad-requires : tie.Need-first-bad-requires
-first-bad-requires c κs = c .seen .ensures .2
+given : (c : tie.Else1) → let s = c .before .before .before in
+    Given (s .args .lines) (s .args .count) (sharing (counted (s .args .lines) (s .args .count))) (c .before .before .outcome .result)
+given c = c .before .before .outcome .ensures .given (none c)
+
+outcome-requires : tie.Need-outcome-requires
+outcome-requires c κs = search needs
 
 refuse-requires : tie.Need-refuse-requires
 refuse-requires c κs = search needs
@@ -26,39 +28,24 @@ returns : tie.Need-returns
 unfolding sharedArray
 returns c =
     let s = c .before .before .before .before in
-    let n : ℕ = c .before .before .before .seen .result in
-    let long : length (s .args .lines) ≡ 64 = search needs in
-    let bad : c .before .before .first-bad .result ≡ firstBad 0 (take n (s .args .lines)) = c .before .before .first-bad .ensures in
-    c .refuse .ensures ∙ ap (λ (o : Outcome). arrayOf (s .args .lines) o)
-    (ap (λ (p : ℕ). refused 10 p) bad ∙ counted-bad (s .args .lines) (s .args .count) n long (c .before .before .before .seen .ensures .0) (omega (arith, bad, c .before .if1 .taken)))
+    let o = c .before .before .before .outcome .ensures in
+    c .refuse .ensures ∙ ap (λ (x : Outcome). arrayOf (s .args .lines) x)
+    (refused-is (counted (s .args .lines) (s .args .count)) _ _ (o .number) (o .place) (c .before .if1 .taken))
 
--- past the test: the lines counted are in the array, and sound
-all-sound : (c : tie.Else1) → let s = c .before .before .before in
-    (s .args .count ≤ 64) × (length (take (s .args .count) (s .args .lines)) ≤ firstBad 0 (take (s .args .count) (s .args .lines)))
-all-sound c =
-    let s = c .before .before .before in
-    let n : ℕ = c .before .before .seen .result in
-    let long : length (s .args .lines) ≡ 64 = search needs in
-    let bad : c .before .first-bad .result ≡ firstBad 0 (take n (s .args .lines)) = c .before .first-bad .ensures in
-    let few = counted-sound (s .args .lines) (s .args .count) n long (c .before .before .seen .ensures .0) (omega (arith, bad, c .if1 .left)) in
-    let same : firstBad 0 (take n (s .args .lines)) ≡ firstBad 0 (take (s .args .count) (s .args .lines)) = ap (λ (k : ℕ). firstBad 0 (take k (s .args .lines))) (few .0) in
-    let l = length-take-le (s .args .count) (s .args .lines) (omega (arith, few .1)) in
-    (few .1, omega (arith, bad, same, l, c .if1 .left))
-
-settle-requires : tie.Need-settle-requires
-settle-requires c κs =
-    let s = c .before .before .before in
-    let l = all-sound c in
-    (l .0, all-within 0 (take (s .args .count) (s .args .lines)) (l .1))
+fill-in-requires : tie.Need-fill-in-requires
+fill-in-requires c κs = let g = given (c .before .before) in ((g .few, g .within), g .small)
 
 returns-2 : tie.Need-returns-2
 unfolding sharedArray
 returns-2 c =
-    let s = c .before .before .before .before in
-    let long : length (s .args .lines) ≡ 64 = search needs in
-    let l = all-sound (c .before) in
-    c .settle .ensures ∙ ap (λ (o : Outcome). arrayOf (s .args .lines) o)
-    (sharing-on (take (s .args .count) (s .args .lines)) (l .1) ∙ ap sharing (sym (counted-few (s .args .lines) (s .args .count) (omega (arith, l .0)))))
+    let s = c .before .before .before .before .before .before in
+    let r = c .before .before .before .before .before .outcome in
+    let ls = counted (s .args .lines) (s .args .count) in
+    let e = c .before .before .before in
+    let t = taken ls (none e) in
+    accepted-is (s .args .lines) ls (r .result .gap) (partsBy (r .result .negative) (take (s .args .count) (s .args .lines)) (take (s .args .count) (r .result .shares .0))) (c .fill-in .result)
+    (r .ensures .gap ∙ ap (λ (o : Outcome). o .gap) (t .is)) (given e .parts ∙ ap (λ (o : Outcome). o .parts) (t .is)) (c .fill-in .ensures)
+    ∙ ap (λ (o : Outcome). arrayOf (s .args .lines) o) (sym (t .is))
 
 pub share-spec : {M : Type 1} → statement M
-share-spec = tie.close (tie.spec seen-requires first-bad-requires refuse-requires returns settle-requires returns-2)
+share-spec = tie.close (tie.spec outcome-requires refuse-requires returns fill-in-requires returns-2)

@@ -1,6 +1,6 @@
 -- `share::settle::part` meets its contract.
 use mathlib.Core.Bool.{Bool}
-use mathlib.Core.Path.{_≡_, ap, sym, _∙_}
+use mathlib.Core.Path.{_≡_, refl, ap, sym, _∙_, subst}
 use mathlib.Core.List.{List}
 use mathlib.Core.Logic.{⊎-elim}
 use Prim.Native.Nat.{ℕ, _^_, _<_}
@@ -9,10 +9,11 @@ use native.Mathlib.Omega.{arith}
 use lib.ListN.{length, take}
 use lib.Seq.{length-take-le}
 use Rattle.apportion.specs.Apportion.{total, apportion}
-use Rattle.share.specs.Sharing.{Outcome, weightsBy, allWeights, partsBy}
-use Rattle.share.specs.Forms.{arrayOf}
+use Rattle.share.specs.Sharing.{Outcome, weightsBy, allWeights}
+use Rattle.share.specs.declared.settle.Carried.{Carried}
+use Rattle.share.specs.Inner.{Carries}
 use Rattle.share.proofs.Bounds.{weights-le}
-use Rattle.share.proofs.Cases.{settled-16, settled-on, accepted-is, parts-are, share-le}
+use Rattle.share.proofs.Cases.{settled-16, settled-on, parts-are, share-le}
 use borrow.Author.Needs.{needs}
 use Rattle.share.proofs.settle.part.Statement.{statement}
 use Rattle.share.proofs.settle.part.Tie as tie
@@ -48,41 +49,46 @@ slice-aggregate-sum-of c =
 sum-of-requires : tie.Need-sum-of-requires
 sum-of-requires c κs = omega (arith, sum-fits (c .before))
 
-refuse-requires : tie.Need-refuse-requires
-refuse-requires c κs = search needs
+refusal-requires : tie.Need-refusal-requires
+refusal-requires c κs = search needs
 
 returns : tie.Need-returns
 returns c =
     let s = c .before .before .before .before .before .before .before in
     let ls = take (s .args .count) (s .args .lines) in
-    c .refuse .ensures ∙ ap (λ (o : Outcome). arrayOf (s .args .lines) o)
+    subst (λ (o : Outcome). Carries (s .args .lines) (s .args .count) o (c .refusal .result))
     (settled-16 ls (s .pre .0 .3) (omega (arith, s .pre .1 .0, c .before .before .if1 .taken))
     (sym (all-is (c .before .before .before .before .before .before)) ∙ sym (c .before .before .before .before .sum-of .ensures) ∙ c .before .if2 .taken))
+    (c .refusal .ensures (s .args .lines) (s .args .count))
 
 shares-of-requires : tie.Need-shares-of-requires
 shares-of-requires c κs =
     let s = c .before .before .before .before .before in
     ((s .pre .0 .0, omega (arith, s .pre .0 .2), sum-fits (c .before .before .before .before)), weighty c)
 
-fill-in-requires : tie.Need-fill-in-requires
-fill-in-requires c κs =
-    let s = c .before .before .before .before .before .before in (
-      (s .pre .0 .0, s .pre .0 .1),
-      λ k h. le-trans (share-le (s .args .amount .0) k (s .args .count) (c .shares-of .result .0) (take (s .args .count) (c .before .before .before .before .before .weights-of .result)) (c .shares-of .ensures) (weighty (c .before)) h) (s .pre .0 .2),
-    )
-
 returns-2 : tie.Need-returns-2
 returns-2 c =
-    let s = c .before .before .before .before .before .before .before in
+    let s = c .before .before .before .before .before .before in
     let a = s .args in
     let ls = take (a .count) (a .lines) in
-    let ss = take (a .count) (c .before .shares-of .result .0) in
+    let ss = take (a .count) (c .shares-of .result .0) in
     let es : ss ≡ apportion (a .amount .0) (weightsBy (a .negative) ls) =
-    c .before .shares-of .ensures ∙ ap (λ (ws : List ℕ). apportion (a .amount .0) ws) (c .before .before .before .before .before .before .weights-of .ensures) in
-    accepted-is (a .lines) ls (a .whole) (partsBy (a .negative) ls ss) (c .fill-in .result) (s .pre .1 .2)
-    (parts-are ls (a .amount .0) (a .negative) ss (s .pre .1 .0) (s .pre .1 .1) es) (c .fill-in .ensures)
-    ∙ ap (λ (o : Outcome). arrayOf (a .lines) o)
-    (settled-on ls (s .pre .0 .3) (λ h. omega (arith, weighty (c .before .before) (omega (arith, s .pre .1 .0)), all-is (c .before .before .before .before .before .before))))
+    c .shares-of .ensures ∙ ap (λ (ws : List ℕ). apportion (a .amount .0) ws) (c .before .before .before .before .before .weights-of .ensures) in
+    let r : Carried = record { number = 0; place = 0; gap = a .whole; negative = a .negative; shares = c .shares-of .result } in
+    subst (λ (o : Outcome). Carries (a .lines) (a .count) o r)
+    (settled-on ls (s .pre .0 .3) (λ h. omega (arith, weighty (c .before) (omega (arith, s .pre .1 .0)), all-is (c .before .before .before .before .before))))
+    (record {
+      number = refl;
+      place = refl;
+      gap = s .pre .1 .2;
+      given = λ z.
+          record {
+            few = s .pre .0 .0;
+            within = s .pre .0 .1;
+            small = λ k h. le-trans (share-le (a .amount .0) k (a .count) (c .shares-of .result .0) (take (a .count) (c .before .before .before .before .before .weights-of .result)) (c .shares-of .ensures) (weighty (c .before)) h) (s .pre .0 .2);
+            parts = parts-are ls (a .amount .0) (a .negative) ss (s .pre .1 .0) (s .pre .1 .1) es;
+          };
+    })
 
 pub part-spec : {M : Type 1} → statement M
 part-spec =
@@ -92,8 +98,7 @@ part-spec =
     array-share-prefix-ws
     slice-aggregate-sum-of
     sum-of-requires
-    refuse-requires
+    refusal-requires
     returns
     shares-of-requires
-    fill-in-requires
     returns-2)

@@ -1,5 +1,5 @@
 -- `share::settle::settle` meets its contract.
-use mathlib.Core.Path.{_≡_, ap, ap₂, sym, _∙_}
+use mathlib.Core.Path.{_≡_, ap, ap₂, _∙_, subst}
 use Prim.Native.Nat.{ℕ, _≤_}
 use native.Mathlib.Omega.{arith}
 use lib.Dec.{ltb}
@@ -7,7 +7,7 @@ use lib.IntN.{pos, natAbs, _-ℤ_}
 use lib.ListN.{length, take}
 use lib.Seq.{length-take-le}
 use Rattle.share.specs.Sharing.{Outcome, compensated, assessed, gap}
-use Rattle.share.specs.Forms.{arrayOf}
+use Rattle.share.specs.Inner.{Carries}
 use Rattle.share.proofs.Signs.{abs-most}
 use Rattle.share.proofs.Bounds.{compensated-le, assessed-le}
 use Rattle.share.proofs.Cases.{settled-15}
@@ -30,14 +30,15 @@ sums-requires c κs =
     let l = length-take-le (c .args .count) (c .args .lines) (omega arith) in
     (c .pre .0, omega (arith, compensated-le ls (c .pre .1)), omega (arith, assessed-fits c))
 
-refuse-requires : tie.Need-refuse-requires
-refuse-requires c κs = search needs
+refusal-requires : tie.Need-refusal-requires
+refusal-requires c κs = search needs
 
 returns : tie.Need-returns
 returns c =
     let s = c .before .before .before in
-    c .refuse .ensures ∙ ap (λ (o : Outcome). arrayOf (s .args .lines) o)
+    subst (λ (o : Outcome). Carries (s .args .lines) (s .args .count) o (c .refusal .result))
     (settled-15 (take (s .args .count) (s .args .lines)) (omega (arith, c .before .before .sums .ensures .0, c .before .if1 .taken)))
+    (c .refusal .ensures (s .args .lines) (s .args .count))
 
 apart-requires : tie.Need-apart-requires
 apart-requires c κs = search needs
@@ -66,4 +67,4 @@ returns-2 : tie.Need-returns-2
 returns-2 c = search needs
 
 pub settle-spec : {M : Type 1} → statement M
-settle-spec = tie.close (tie.spec sums-requires refuse-requires returns apart-requires difference-requires part-requires returns-2)
+settle-spec = tie.close (tie.spec sums-requires refusal-requires returns apart-requires difference-requires part-requires returns-2)
