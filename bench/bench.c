@@ -1,14 +1,14 @@
 /* The archive against the reference, both in this one program and called through the same pointers.
  *
  *     bench                        times every row and prints the table, instructions left out
- *     bench COUNTS                 the same, with the instructions that COUNTS (made by bench/count) has for each row
+ *     bench COUNTS                 the same, with the instructions that COUNTS (made by bench/count-instructions) has for each row
  *     bench --untimed COUNTS       instructions alone: time says nothing under an emulator
- *     bench --calls SIDE ROW N     only makes N calls of one row, SIDE 0 the archive, 1 the reference; for bench/count
+ *     bench --calls SIDE ROW N     only makes N calls of one row, SIDE 0 the archive, 1 the reference; for bench/count-instructions
  *     bench --rows                 how many rows there are
  *
  * Before anything is measured, both sides must give the same answer on every row. */
 #define _DEFAULT_SOURCE
-#include "../tests/kit.h"
+#include "../tests/memory-and-books.h"
 #include "../tests/reference.h"
 #include "nwb.h"
 

@@ -11,20 +11,8 @@
  *  - A length of 0 may come with a null pointer. Any address will do for bytes (a series is aligned as uint32_t asks).
  *    Lengths of bytes are in bytes, the length of a series is in values.
  *
- * Refusal numbers and their places:
- *
- *     1      under 16 bytes, or length not as count says; sharing bytes no multiple of 24     0
- *     2 3 4  mark; version; other header field (a count above 512 included)                   0
- *     5 6    record field; key not above the one before                                       record
- *     7 8 9  year, month or area differ; more than 512 keys; output too short                 0
- *    10      register or sharing line, a 65th line included                                   line, else 0
- *    11      series length; value                                                             65,535; index
- *    12      service or its fields not open to this kind                                      record
- *    13      overlap (meeting is none) with an earlier live call of the same service 1 to 4,
- *            or a second 5, 6, 7 or 9                                                         record
- *    14      contested call                                                                   record
- *    15 16   C above 10^11; R not 0 and all weights 0                                         0
- *    21..26  1 to 6 in the second of two books                                                as there, in the second book
+ * The refusal numbers, when each comes and what its place counts, are the table of docs/FORMAT.md, "Refusal numbers";
+ * the order in which a function asks them is said at the function.
  */
 #ifndef NWB_H
 #define NWB_H

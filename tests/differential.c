@@ -4,10 +4,10 @@
  *     differential [seed [cases [first]]]
  *
  * Every case draws from its own generator, made from the seed and the case's number alone: `differential SEED 1 NUMBER` repeats one.
- * The archive works between guard pages and canaries (kit.h), with garbage in its cells. Number, cells and the lent buffer with what
+ * The archive works between guard pages and canaries (memory-and-books.h), with garbage in its cells. Number, cells and the lent buffer with what
  * lies around it are compared byte for byte, and its inputs must be unchanged. The first difference is printed whole. */
 #define _DEFAULT_SOURCE
-#include "kit.h"
+#include "memory-and-books.h"
 #include "nwb.h"
 #include "reference.h"
 

@@ -2,9 +2,9 @@
  * paper's or worked out by hand from it; nothing here computes one with code that could share a mistake with the archive.
  *
  * Every single call is made at several addresses (against a guard page behind, against one before, at an odd address), with
- * garbage in its cells and canaries around cells and buffers; see kit.h. One line per group, and a last one for all. */
+ * garbage in its cells and canaries around cells and buffers; see memory-and-books.h. One line per group, and a last one for all. */
 #define _DEFAULT_SOURCE
-#include "kit.h"
+#include "memory-and-books.h"
 #include "nwb.h"
 
 #include <inttypes.h>

@@ -1,16 +1,19 @@
--- A line gets one of the left-over exactly where fewer lines come before it than are left over.
-use mathlib.Core.Path.{_≡_, refl, ap, _∙_}
+-- The reckoning comes to the rule: a weight gets one of the units left exactly where fewer come before it than are left. Assumes nothing.
+use mathlib.Core.Path.{_≡_, refl, sym, ap, _∙_}
 use mathlib.Core.Bool.{Bool, true}
-use mathlib.Core.List.{List, [], _∷_}
+use mathlib.Core.List.{List, [], _∷_, map}
 use mathlib.Core.Logic.{_⊎_, inl, inr}
-use Prim.Native.Nat.{ℕ, zero, suc, _+_, _<_}
+use Prim.Native.Nat.{ℕ, zero, suc, _+_, _*_, _/_, _%_, _<_}
+use native.Mathlib.Nat.{not-suc-le-zero}
 use native.Mathlib.Omega.{arith}
 use borrow.Author.Tests.{ltb-true, lt-ltb, le-ltb}
 use lib.Dec.{ltb}
-use lib.ListN.{length, getD}
-use Rattle.apportion.specs.Apportion.{total}
-use Rattle.apportion.proofs.Order.{Before, Ordered}
-use Rattle.apportion.specs.Rank.{comesBefore, count, rank, one}
+use lib.ListN.{length, getD, length-map}
+use lib.Seq.{ext-getD}
+use Rattle.apportion.specs.Apportion.{total, roundedDown, remainders, left, comesBefore, one, count, rank, shareAt, places, apportion}
+use Rattle.apportion.specs.Giving.{reckoned}
+use Rattle.apportion.proofs.Laws.{reckoned-fair, bases-le}
+use Rattle.apportion.proofs.Order.{Before, Ordered, reckoned-ordered}
 use Rattle.apportion.proofs.Rank.{In, in-from, count-le, count-lt, before-true, true-before, before-self}
 
 in-at : (rs : List ℕ) (i j p : ℕ) → p ≡ j + i → i < length rs → In (getD rs i 0) p j rs
@@ -70,17 +73,49 @@ module _ (rs bs os : List ℕ) (lb : length bs ≡ length rs) (lo : length os �
       go (inl u) = absurd (omega (arith, ltb-true (getD bs k 0) (getD os k 0) h))
       go (inr u) = before-true s k (getD rs i 0) i (rw (in-val rs s k 0 k (omega arith) m) (ord .order k i u e))
 
-  pub served-by-rank : (l : ℕ) → total bs + l ≡ total os → (i : ℕ) → i < length rs → getD os i 0 ≡ getD bs i 0 + one (ltb (rank 0 rs (getD rs i 0) i) l)
+  served-by-rank : (l : ℕ) → total bs + l ≡ total os → (i : ℕ) → i < length rs → getD os i 0 ≡ getD bs i 0 + one (ltb (rank rs i) l)
   served-by-rank l t i h = go (ord .each i)
     where
       c : count (more bs os) 0 rs ≡ l
       c = omega (arith, count-more rs bs os lb lo (ord .each))
 
-      go : (getD os i 0 ≡ getD bs i 0) ⊎ (getD os i 0 ≡ getD bs i 0 + 1) → getD os i 0 ≡ getD bs i 0 + one (ltb (rank 0 rs (getD rs i 0) i) l)
+      go : (getD os i 0 ≡ getD bs i 0) ⊎ (getD os i 0 ≡ getD bs i 0 + 1) → getD os i 0 ≡ getD bs i 0 + one (ltb (rank rs i) l)
       go (inr e) =
           let lt = count-lt (λ s k. comesBefore s k (getD rs i 0) i) (more bs os) 0 rs (before-more i e) (getD rs i 0) i (in-at rs i 0 i (omega arith) h)
           (before-self (getD rs i 0) i) (lt-ltb (getD bs i 0) (getD os i 0) (omega arith)) in
-          omega (arith, c, ap one (lt-ltb (rank 0 rs (getD rs i 0) i) l (omega (arith, c))))
+          omega (arith, c, ap one (lt-ltb (rank rs i) l (omega (arith, c))))
       go (inl e) =
           let le = count-le (more bs os) (λ s k. comesBefore s k (getD rs i 0) i) 0 rs (more-before i e) in
-          omega (arith, c, ap one (le-ltb (rank 0 rs (getD rs i 0) i) l (omega (arith, c))))
+          omega (arith, c, ap one (le-ltb (rank rs i) l (omega (arith, c))))
+
+-- The shares by their places
+
+at-place : (f : ℕ → ℕ) (xs : List ℕ) (j i : ℕ) → i < length xs → getD (map f (places j xs)) i 0 ≡ f (j + i)
+at-place f [] j i h = absurd (not-suc-le-zero h)
+at-place f (x ∷ xs) j zero h = ap f (omega arith)
+at-place f (x ∷ xs) j (suc i) h = at-place f xs (suc j) i (omega arith) ∙ ap f (omega arith)
+
+length-places : (j : ℕ) (xs : List ℕ) → length (places j xs) ≡ length xs
+length-places j [] = refl
+length-places j (x ∷ xs) = ap suc (length-places (suc j) xs)
+
+pub share-at : (amount : ℕ) (weights : List ℕ) (i : ℕ) → i < length weights → getD (apportion amount weights) i 0 ≡ shareAt amount weights i
+unfolding apportion
+share-at amount weights i h = at-place (λ k. shareAt amount weights k) weights 0 i h ∙ ap (λ (k : ℕ). shareAt amount weights k) (omega arith)
+
+pub length-apportion : (amount : ℕ) (weights : List ℕ) → length (apportion amount weights) ≡ length weights
+unfolding apportion
+length-apportion amount weights = length-map (places 0 weights) _ ∙ length-places 0 weights
+
+-- THE RECKONING COMES TO THE RULE.
+pub reckoned-by-rank : (amount : ℕ) (weights : List ℕ) → 0 < total weights → reckoned amount weights ≡ apportion amount weights
+reckoned-by-rank amount weights some =
+    let all = total weights in
+    let fair = reckoned-fair amount weights some in
+    let lr = length-map weights (λ (w : ℕ). amount * w % all) in
+    let lb = length-map weights (λ (w : ℕ). amount * w / all) in
+    let long : length (reckoned amount weights) ≡ length weights = fair .long ∙ length-map weights (λ (w : ℕ). amount * w) in
+    ext-getD 0 (reckoned amount weights) (apportion amount weights) (long ∙ sym (length-apportion amount weights))
+    (λ i h. served-by-rank (remainders amount all weights) (roundedDown amount all weights) (reckoned amount weights) (lb ∙ sym lr) (long ∙ sym lr)
+    (reckoned-ordered amount weights some) (left amount weights) (omega (arith, fair .adds, bases-le amount weights some)) i (omega (arith, h, long, lr))
+    ∙ sym (share-at amount weights i (omega (arith, h, long))))

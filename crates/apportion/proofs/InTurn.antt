@@ -8,15 +8,16 @@ use native.Mathlib.Omega.{arith}
 use lib.Dec.{eqb}
 use lib.ListN.{length, getD, set, length-set}
 use lib.Seq.{getD-set-same, getD-set-other, set-getD}
-use Rattle.apportion.specs.Apportion.{total, top, largest, give}
-use Rattle.apportion.specs.Turn.{Given, Turn, served, passed}
+use Rattle.apportion.specs.Apportion.{total}
+use Rattle.apportion.specs.Giving.{top, largestAt, giveOut}
+use Rattle.apportion.specs.Ties.{UnitsGiven, UnitInTurn, served, passed}
 use Rattle.apportion.proofs.Laws.{total-set, at-largest}
 use Rattle.apportion.proofs.Loops.{give-turn, largest-is, le-top}
 
-pub given-none : (k : ℕ) (rs ss : List ℕ) → Given k rs ss k rs ss
+pub given-none : (k : ℕ) (rs ss : List ℕ) → UnitsGiven k rs ss k rs ss
 given-none k rs ss = record { fewer = omega arith; sum = refl; restsLong = refl; sharesLong = refl; same = refl }
 
-pub given-more : {k k′ k″ : ℕ} {rs ss rs′ ss′ rs″ ss″ : List ℕ} → Given k rs ss k′ rs′ ss′ → Given k′ rs′ ss′ k″ rs″ ss″ → Given k rs ss k″ rs″ ss″
+pub given-more : {k k′ k″ : ℕ} {rs ss rs′ ss′ rs″ ss″ : List ℕ} → UnitsGiven k rs ss k′ rs′ ss′ → UnitsGiven k′ rs′ ss′ k″ rs″ ss″ → UnitsGiven k rs ss k″ rs″ ss″
 given-more g h =
     record {
       fewer = omega (arith, g .fewer, h .fewer);
@@ -26,13 +27,13 @@ given-more g h =
       same = h .same ∙ g .same;
     }
 
-pub turn-le : {left most r x : ℕ} → Turn left most r x → x ≤ left
+pub turn-le : {left most r x : ℕ} → UnitInTurn left most r x → x ≤ left
 turn-le (served z p q m) = omega arith
 turn-le (passed z f) = omega arith
 
 -- One unit to the place of the largest.
-pub given-one : (k b : ℕ) (rs ss : List ℕ) → 0 < k → b < length rs → length ss ≡ length rs → b ≡ largest rs
-    → Given k rs ss (k - 1) (set rs b 0) (set ss b (getD ss b 0 + 1))
+pub given-one : (k b : ℕ) (rs ss : List ℕ) → 0 < k → b < length rs → length ss ≡ length rs → b ≡ largestAt rs
+    → UnitsGiven k rs ss (k - 1) (set rs b 0) (set ss b (getD ss b 0 + 1))
 given-one k b rs ss h l e m =
     record {
       fewer = omega arith;
@@ -51,7 +52,7 @@ pub serving-none : (most k : ℕ) (rs : List ℕ) → ((j : ℕ) → getD rs j 0
 serving-none most k rs h = record { all = h; behind = λ j l p q. absurd (omega arith) }
 
 -- The largest, struck, leaves none above it.
-pub struck-le : (rs : List ℕ) (b : ℕ) → b < length rs → b ≡ largest rs → (j : ℕ) → getD (set rs b 0) j 0 ≤ getD rs b 0
+pub struck-le : (rs : List ℕ) (b : ℕ) → b < length rs → b ≡ largestAt rs → (j : ℕ) → getD (set rs b 0) j 0 ≤ getD rs b 0
 struck-le rs b l e j = go (ℕ-discrete j b)
   where
     go : Dec (j ≡ b) → getD (set rs b 0) j 0 ≤ getD rs b 0
@@ -62,7 +63,7 @@ struck-le rs b l e j = go (ℕ-discrete j b)
 
 -- A remainder as large as the largest, in its turn.
 serve : (most k i : ℕ) (rs ss : List ℕ) → i < length rs → length ss ≡ length rs → Serving most rs k i → 0 < k → 0 < most → getD rs i 0 ≡ most
-    → Given k rs ss (k - 1) (set rs i 0) (set ss i (getD ss i 0 + 1)) × Serving most (set rs i 0) (k - 1) (i + 1)
+    → UnitsGiven k rs ss (k - 1) (set rs i 0) (set ss i (getD ss i 0 + 1)) × Serving most (set rs i 0) (k - 1) (i + 1)
 serve most k i rs ss l e s p q m = (
   given-one k i rs ss p l e (largest-is rs i l (λ j h. omega (arith, s .all j)) (λ j h. omega (arith, s .behind j h p q))),
   record { all = λ j. all j (ℕ-discrete j i); behind = λ j h r t. behind j h (ℕ-discrete j i) },
@@ -88,8 +89,8 @@ pass most k i rs ss s f = record { all = s .all; behind = λ j h p q. go j h p q
         below (no n) = omega (arith, s .all i)
     go j h p q (no e) = s .behind j (omega arith) p q
 
-pub serve-step : (most k x i : ℕ) (rs ss : List ℕ) → i < length rs → length ss ≡ length rs → Serving most rs k i → Turn k most (getD rs i 0) x
-    → Given k rs ss (k - x) (set rs i (cond (eqb x 0) (getD rs i 0) 0)) (set ss i (getD ss i 0 + x)) × Serving most (set rs i (cond (eqb x 0) (getD rs i 0) 0)) (k - x) (i + 1)
+pub serve-step : (most k x i : ℕ) (rs ss : List ℕ) → i < length rs → length ss ≡ length rs → Serving most rs k i → UnitInTurn k most (getD rs i 0) x
+    → UnitsGiven k rs ss (k - x) (set rs i (cond (eqb x 0) (getD rs i 0) 0)) (set ss i (getD ss i 0 + x)) × Serving most (set rs i (cond (eqb x 0) (getD rs i 0) 0)) (k - x) (i + 1)
 serve-step most k x i rs ss l e s (served z p q m) = rw z (serve most k i rs ss l e s p q m)
 serve-step most k x i rs ss l e s (passed z f) =
     let a : getD ss i 0 + 0 ≡ getD ss i 0 = omega arith in

@@ -2,17 +2,16 @@
 use mathlib.Core.Path.{_≡_, refl, sym, ap, _∙_}
 use mathlib.Core.Bool.{Bool, true, false, cond}
 use mathlib.Core.List.{List, [], _∷_, map}
-use mathlib.Core.Logic.{_⊎_, inl, inr}
 use Prim.Native.Nat.{ℕ, zero, suc, _+_, _*_, _-_, _/_, _%_, _≤_, _<_, max}
-use native.Mathlib.Nat.{mul-le-mul-right, div-add-mod', mod-lt, zero-div, zero-mul, not-suc-le-zero, le-of-mul-le-mul-right, mul-le-mul-left}
+use native.Mathlib.Nat.{div-add-mod', mod-lt, not-suc-le-zero, le-of-mul-le-mul-right}
 use native.Mathlib.Decide.{ℕ-discrete}
 use native.Mathlib.Omega.{arith}
 use borrow.Author.Tests.{leb-true, leb-false}
 use lib.Dec.{leb}
-use lib.Arith.{digits-div, digits-mod}
 use lib.ListN.{length, getD, set, length-set, length-map}
 use lib.Seq.{getD-set-same, getD-set-other}
-use Rattle.apportion.specs.Apportion.{total, top, largest, roundedDown, remainders, give, apportion, Parts}
+use Rattle.apportion.specs.Apportion.{total, roundedDown, remainders, left}
+use Rattle.apportion.specs.Giving.{top, largestAt, giveOut, reckoned}
 
 -- A store changes the sum by what was there and what is now.
 pub total-set : (xs : List ℕ) (i v : ℕ) → i < length xs → total (set xs i v) + getD xs i 0 ≡ total xs + v
@@ -21,21 +20,21 @@ total-set (x ∷ xs) zero v h = omega arith
 total-set (x ∷ xs) (suc i) v h = omega (arith, total-set xs i v (omega arith))
 
 -- What stands at the place of the largest is the largest.
-pub at-largest : (xs : List ℕ) → getD xs (largest xs) 0 ≡ top xs
+pub at-largest : (xs : List ℕ) → getD xs (largestAt xs) 0 ≡ top xs
 at-largest [] = refl
 at-largest (x ∷ xs) = go (leb (top xs) x) refl (at-largest xs)
   where
-    go : (b : Bool) → leb (top xs) x ≡ b → getD xs (largest xs) 0 ≡ top xs
-        → getD (x ∷ xs) (cond b 0 (suc (largest xs))) 0 ≡ max x (top xs)
+    go : (b : Bool) → leb (top xs) x ≡ b → getD xs (largestAt xs) 0 ≡ top xs
+        → getD (x ∷ xs) (cond b 0 (suc (largestAt xs))) 0 ≡ max x (top xs)
     go true e ih = omega (arith, leb-true (top xs) x e)
     go false e ih = omega (arith, leb-false (top xs) x e)
 
 -- Where the largest is above 0, it is a place of the list.
-pub largest-in : (xs : List ℕ) → 0 < top xs → largest xs < length xs
+pub largest-in : (xs : List ℕ) → 0 < top xs → largestAt xs < length xs
 largest-in [] h = omega arith
 largest-in (x ∷ xs) h = go (leb (top xs) x) refl (largest-in xs)
   where
-    go : (b : Bool) → leb (top xs) x ≡ b → (0 < top xs → largest xs < length xs) → cond b 0 (suc (largest xs)) < suc (length xs)
+    go : (b : Bool) → leb (top xs) x ≡ b → (0 < top xs → largestAt xs < length xs) → cond b 0 (suc (largestAt xs)) < suc (length xs)
     go true e ih = omega arith
     go false e ih = omega (arith, ih (omega (arith, leb-false (top xs) x e)))
 
@@ -92,21 +91,21 @@ AllNear all xs rs ss = (i : ℕ) → i < length xs → Near all (getD xs i 0) (g
 
 -- One turn of giving keeps every line near.
 turn-near : (all : ℕ) (xs rs ss : List ℕ) → length rs ≡ length xs → length ss ≡ length xs → 0 < top rs
-    → AllNear all xs rs ss → AllNear all xs (set rs (largest rs) 0) (set ss (largest rs) (getD ss (largest rs) 0 + 1))
-turn-near all xs rs ss lr ls p near i h = go (ℕ-discrete i (largest rs)) (largest-in rs p)
+    → AllNear all xs rs ss → AllNear all xs (set rs (largestAt rs) 0) (set ss (largestAt rs) (getD ss (largestAt rs) 0 + 1))
+turn-near all xs rs ss lr ls p near i h = go (ℕ-discrete i (largestAt rs)) (largest-in rs p)
   where
-    go : Dec (i ≡ largest rs) → largest rs < length rs
-        → Near all (getD xs i 0) (getD (set rs (largest rs) 0) i 0) (getD (set ss (largest rs) (getD ss (largest rs) 0 + 1)) i 0)
+    go : Dec (i ≡ largestAt rs) → largestAt rs < length rs
+        → Near all (getD xs i 0) (getD (set rs (largestAt rs) 0) i 0) (getD (set ss (largestAt rs) (getD ss (largestAt rs) 0 + 1)) i 0)
     go (yes e) m =
-        let m′ : largest rs < length ss = omega arith in
-        rw (e, getD-set-same rs (largest rs) 0 0, getD-set-same ss (largest rs) (getD ss (largest rs) 0 + 1) 0)
-        (near-served all _ _ _ (omega (arith, at-largest rs)) (near (largest rs) (omega arith)))
-    go (no f) m = rw (getD-set-other rs (largest rs) i 0 0 f, getD-set-other ss (largest rs) i (getD ss (largest rs) 0 + 1) 0 f) (near i h)
+        let m′ : largestAt rs < length ss = omega arith in
+        rw (e, getD-set-same rs (largestAt rs) 0 0, getD-set-same ss (largestAt rs) (getD ss (largestAt rs) 0 + 1) 0)
+        (near-served all _ _ _ (omega (arith, at-largest rs)) (near (largestAt rs) (omega arith)))
+    go (no f) m = rw (getD-set-other rs (largestAt rs) i 0 0 f, getD-set-other ss (largestAt rs) i (getD ss (largestAt rs) 0 + 1) 0 f) (near i h)
 
 -- k turns find a remainder above 0 each.
 abbrev pub Room : ℕ → List ℕ → Type 0
 Room zero rs = Unit {0}
-Room (suc k) rs = (0 < top rs) × Room k (set rs (largest rs) 0)
+Room (suc k) rs = (0 < top rs) × Room k (set rs (largestAt rs) 0)
 
 AllBelow : ℕ → List ℕ → Type 0
 AllBelow all rs = (i : ℕ) → i < length rs → getD rs i 0 < all
@@ -128,24 +127,24 @@ unfolding AllBelow
 room-of zero all rs pos small h = tt
 room-of (suc k) all rs pos small h =
     let p : 0 < top rs = top-some rs (omega arith) in
-    let m : largest rs < length rs = largest-in rs p in (
+    let m : largestAt rs < length rs = largest-in rs p in (
       p,
-      room-of k all (set rs (largest rs) 0) pos (below-set all rs (largest rs) pos small)
-          (omega (arith, total-set rs (largest rs) 0 m, small (largest rs) m)),
+      room-of k all (set rs (largestAt rs) 0) pos (below-set all rs (largestAt rs) pos small)
+          (omega (arith, total-set rs (largestAt rs) 0 m, small (largestAt rs) m)),
     )
 
 -- Giving out k.
 give-fair : (k n all : ℕ) (xs rs ss : List ℕ) → length rs ≡ length xs → length ss ≡ length xs
-    → Room k rs → total ss + k ≡ n → AllNear all xs rs ss → Fair n all xs (give k rs ss)
+    → Room k rs → total ss + k ≡ n → AllNear all xs rs ss → Fair n all xs (giveOut k rs ss)
 give-fair zero n all xs rs ss lr ls room sum near =
     record { adds = omega arith; long = ls; below = λ i h. near i h .below; above = λ i h. near i h .above }
 give-fair (suc k) n all xs rs ss lr ls room sum near =
-    let m : largest rs < length rs = largest-in rs (room .0) in
-    give-fair k n all xs (set rs (largest rs) 0) (set ss (largest rs) (getD ss (largest rs) 0 + 1))
-    (length-set rs (largest rs) 0 ∙ lr)
-    (length-set ss (largest rs) _ ∙ ls)
+    let m : largestAt rs < length rs = largest-in rs (room .0) in
+    give-fair k n all xs (set rs (largestAt rs) 0) (set ss (largestAt rs) (getD ss (largestAt rs) 0 + 1))
+    (length-set rs (largestAt rs) 0 ∙ lr)
+    (length-set ss (largestAt rs) _ ∙ ls)
     (room .1)
-    (omega (arith, total-set ss (largest rs) (getD ss (largest rs) 0 + 1) (omega arith)))
+    (omega (arith, total-set ss (largestAt rs) (getD ss (largestAt rs) 0 + 1) (omega arith)))
     (turn-near all xs rs ss lr ls (room .0) near)
 
 -- The exact parts of n.
@@ -171,64 +170,25 @@ room-for b d n all t e h = let h′ : b * all + t ≡ (b + d) * all = rw (← e)
 pub bases-le : (n : ℕ) (ws : List ℕ) → 0 < total ws → total (roundedDown n (total ws) ws) ≤ n
 bases-le n ws pos = le-of-mul-le-mul-right {k = total ws} (omega (arith, parts-add n (total ws) ws)) pos
 
-pub apportion-room : (n : ℕ) (ws : List ℕ) → 0 < total ws → Room (n - total (roundedDown n (total ws) ws)) (remainders n (total ws) ws)
+pub reckoned-room : (n : ℕ) (ws : List ℕ) → 0 < total ws → Room (left n ws) (remainders n (total ws) ws)
 unfolding AllBelow
-apportion-room n ws pos =
+reckoned-room n ws pos =
     let all = total ws in
     let le = bases-le n ws pos in
-    room-of (n - total (roundedDown n all ws)) all (remainders n all ws) pos (λ i h. start-near n all ws pos i (omega (arith, length-map ws (λ (w : ℕ). n * w % all), length-map ws (λ (w : ℕ). n * w))) .small)
-    (room-for (total (roundedDown n all ws)) (n - total (roundedDown n all ws)) n all (total (remainders n all ws)) (omega arith) (parts-add n all ws))
+    let same = length-map ws (λ (w : ℕ). n * w % all) ∙ sym (length-map ws (λ (w : ℕ). n * w)) in
+    room-of (left n ws) all (remainders n all ws) pos (λ i h. start-near n all ws pos i (omega (arith, same)) .small)
+    (room-for (total (roundedDown n all ws)) (left n ws) n all (total (remainders n all ws)) (omega arith) (parts-add n all ws))
 
 -- THE LARGEST REMAINDER LEMMA, for any amount and any weights that are not all 0.
-pub apportion-fair : (n : ℕ) (ws : List ℕ) → 0 < total ws → Fair n (total ws) (exacts n ws) (apportion n ws)
-unfolding apportion
-apportion-fair n ws pos =
+pub reckoned-fair : (n : ℕ) (ws : List ℕ) → 0 < total ws → Fair n (total ws) (exacts n ws) (reckoned n ws)
+reckoned-fair n ws pos =
     let all = total ws in
     let le = bases-le n ws pos in
-    give-fair (n - total (roundedDown n all ws)) n all (exacts n ws) (remainders n all ws) (roundedDown n all ws)
+    give-fair (left n ws) n all (exacts n ws) (remainders n all ws) (roundedDown n all ws)
     (length-map ws _ ∙ sym (length-map ws _)) (length-map ws _ ∙ sym (length-map ws _))
-    (apportion-room n ws pos)
+    (reckoned-room n ws pos)
     (omega arith)
     (start-near n all ws pos)
-
--- Nothing to share: every share is 0.
-none-bases : (all : ℕ) (ws : List ℕ) → roundedDown 0 all ws ≡ map (λ w. 0) ws
-none-bases all ws = simp (zero-mul, zero-div)
-
-pub none-total : (ws : List ℕ) → total (map (λ w. 0) ws) ≡ 0
-none-total [] = refl
-none-total (w ∷ ws) = omega (arith, none-total ws)
-
-pub apportion-none : (ws : List ℕ) → apportion 0 ws ≡ map (λ w. 0) ws
-unfolding apportion
-apportion-none ws = rw (none-bases (total ws) ws, none-total ws)
-
--- The two ways in which a sharing is possible: nothing to share, or a weight to share it by.
-pub length-apportion : (n : ℕ) (ws : List ℕ) → (n ≡ 0) ⊎ (0 < total ws) → length (apportion n ws) ≡ length ws
-length-apportion n ws (inl e) = rw (e, apportion-none ws) (length-map ws _)
-length-apportion n ws (inr p) = apportion-fair n ws p .long ∙ length-map ws _
-
--- The quotient and the remainder, once more.
-pub parts-div : {x all q r : ℕ} → Parts x all q r → q ≡ x / all
-parts-div {x} {all} {q} {r} p = sym (digits-div q (p .small)) ∙ ap (λ (y : ℕ). y / all) (p .sum)
-
-pub parts-mod : {x all q r : ℕ} → Parts x all q r → r ≡ x % all
-parts-mod {x} {all} {q} {r} p = sym (digits-mod q (p .small)) ∙ ap (λ (y : ℕ). y % all) (p .sum)
-
--- A quotient of n · w by no less than w is at most n.
-pub parts-le : (n w : ℕ) {all q r : ℕ} → Parts (n * w) all q r → w ≤ all → q ≤ n
-parts-le n w {all} {q} {r} p h =
-    le-of-mul-le-mul-right {k = all} (omega (arith, p .sum, mul-le-mul-left n h)) (omega (arith, p .small))
-
--- Halving: the parts of m · w give those of n · w where n is 2 m or 2 m + 1.
-pub parts-none : (n w all : ℕ) → n ≡ 0 → 0 < all → Parts (n * w) all 0 0
-parts-none n w all e h = record { sum = omega (arith, ap (λ (x : ℕ). x * w) e); small = h }
-
-pub parts-even : (n m w : ℕ) {all q r q′ r′ : ℕ} → n ≡ m * 2 → Parts (m * w) all q r → Parts ((q * all + r) * 2 + 0) all q′ r′ → Parts (n * w) all q′ r′
-parts-even n m w e p d = record { sum = omega (arith, d .sum, p .sum, ap (λ (x : ℕ). x * w) e); small = d .small }
-
-pub parts-odd : (n m w : ℕ) {all q r q′ r′ : ℕ} → n ≡ m * 2 + 1 → Parts (m * w) all q r → Parts ((q * all + r) * 2 + w) all q′ r′ → Parts (n * w) all q′ r′
-parts-odd n m w e p d = record { sum = omega (arith, d .sum, p .sum, ap (λ (x : ℕ). x * w) e); small = d .small }
 
 -- a share rounded down, and a remainder, of the weight at a place
 pub roundedDown-at : (n all : ℕ) (ws : List ℕ) (i : ℕ) → i < length ws → getD (roundedDown n all ws) i 0 ≡ n * getD ws i 0 / all
@@ -246,13 +206,3 @@ pub remainder-le : (n all : ℕ) (ws : List ℕ) (i : ℕ) → 0 < all → getD 
 remainder-le n all [] i h = omega arith
 remainder-le n all (w ∷ ws) zero h = omega (arith, mod-lt (n * w) h)
 remainder-le n all (w ∷ ws) (suc i) h = remainder-le n all ws i h
-
--- a product that fits: n times w is at most m where n is at most m over w
-pub product-fits : (n w m : ℕ) → n ≤ m / w → n * w ≤ m
-product-fits n w m h = omega (arith, mul-le-mul-right w h, div-add-mod' m w)
-
-pub parts-at-once : (x all : ℕ) → 0 < all → Parts x all (x / all) (x % all)
-parts-at-once x all h = record { sum = div-add-mod' x all; small = mod-lt x h }
-
-pub parts-weightless : (n w all : ℕ) → w ≡ 0 → 0 < all → Parts (n * w) all 0 0
-parts-weightless n w all e h = record { sum = omega (arith, ap (λ (v : ℕ). n * v) e); small = h }

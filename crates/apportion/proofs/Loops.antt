@@ -10,7 +10,8 @@ use borrow.Author.Count.{below-more}
 use lib.ListN.{length, getD, set, take, drop, drop-of-length-le}
 use lib.Seq.{drop-cons, take-all}
 use borrow.Author.Tests.{le-leb, lt-leb}
-use Rattle.apportion.specs.Apportion.{total, top, largest, give}
+use Rattle.apportion.specs.Apportion.{total}
+use Rattle.apportion.specs.Giving.{top, largestAt, giveOut}
 
 -- What is left of a sum: the element at i, and the rest.
 pub total-step : (xs : List ℕ) (i : ℕ) → i < length xs → total (drop i xs) ≡ getD xs i 0 + total (drop (i + 1) xs)
@@ -31,7 +32,7 @@ top-le (x ∷ xs) v h = omega (arith, h 0 (omega arith), top-le xs v (λ k l. h 
 
 -- A place whose number is above those before it and no less than any is the place of the largest.
 pub largest-is : (xs : List ℕ) (b : ℕ) → b < length xs → ((k : ℕ) → k < length xs → getD xs k 0 ≤ getD xs b 0)
-    → ((k : ℕ) → k < b → getD xs k 0 < getD xs b 0) → b ≡ largest xs
+    → ((k : ℕ) → k < b → getD xs k 0 < getD xs b 0) → b ≡ largestAt xs
 largest-is [] b h most first = absurd (not-suc-le-zero h)
 largest-is (x ∷ xs) zero h most first = rw (le-leb (top xs) x (top-le xs x (λ k l. most (suc k) (omega arith))))
 largest-is (x ∷ xs) (suc b) h most first =
@@ -59,7 +60,7 @@ pub ahead-new : (xs : List ℕ) (b i : ℕ) → Ahead xs b i → i < length xs �
 ahead-new xs b i a h lt =
     (omega arith, omega arith, below-more (λ k. getD xs k 0 ≤ getD xs i 0) i (λ k l. omega (arith, a .2 k l)) (omega arith), λ k l. omega (arith, a .2 k l))
 
-pub ahead-end : (xs : List ℕ) (b i : ℕ) → Ahead xs b i → length xs ≤ i → b ≡ largest xs
+pub ahead-end : (xs : List ℕ) (b i : ℕ) → Ahead xs b i → length xs ≤ i → b ≡ largestAt xs
 ahead-end xs b i a h = largest-is xs b (omega arith) (λ k l. a .2 k (omega arith)) (a .3)
 
 -- A loop that writes the list s over the list d from the front: what stands there after i stores.
@@ -90,7 +91,7 @@ module _ {A : Type 0} where
   over-end d s out i e h k = e ∙ (rw (take-all i s h, drop-of-length-le d k) (append-nil s))
 
 -- One turn of giving out.
-pub give-turn : (k : ℕ) (rs ss : List ℕ) → 0 < k → give k rs ss ≡ give (k - 1) (set rs (largest rs) 0) (set ss (largest rs) (getD ss (largest rs) 0 + 1))
+pub give-turn : (k : ℕ) (rs ss : List ℕ) → 0 < k → giveOut k rs ss ≡ giveOut (k - 1) (set rs (largestAt rs) 0) (set ss (largestAt rs) (getD ss (largestAt rs) 0 + 1))
 give-turn zero rs ss h = absurd (not-suc-le-zero h)
 give-turn (suc k) rs ss h =
     let e : suc k - 1 ≡ k = omega arith in

@@ -8,7 +8,7 @@ use native.Mathlib.Omega.{arith}
 use borrow.Author.Tests.{ltb-true, lt-ltb, le-ltb, eqb-true, eq-eqb}
 use lib.Dec.{ltb, eqb}
 use Rattle.apportion.proofs.Order.{Before}
-use Rattle.apportion.specs.Rank.{comesBefore, count, one}
+use Rattle.apportion.specs.Apportion.{comesBefore, count, one}
 
 -- r stands at the place i of rs, whose first place is j
 abbrev pub In : ℕ → ℕ → ℕ → List ℕ → Type 0
@@ -29,7 +29,8 @@ pub count-le : (P Q : ℕ → ℕ → Bool) (j : ℕ) (rs : List ℕ) → ((r i 
 count-le P Q j [] h = omega arith
 count-le P Q j (r ∷ rs) h = omega (arith, one-le (P r j) (Q r j) (h r j (inl (refl, refl))), count-le P Q (suc j) rs (λ s i m. h s i (inr m)))
 
-pub count-lt : (P Q : ℕ → ℕ → Bool) (j : ℕ) (rs : List ℕ) → ((r i : ℕ) → In r i j rs → P r i ≡ true → Q r i ≡ true) → (r i : ℕ) → In r i j rs → P r i ≡ false → Q r i ≡ true → count P j rs < count Q j rs
+pub count-lt : (P Q : ℕ → ℕ → Bool) (j : ℕ) (rs : List ℕ) → ((r i : ℕ) → In r i j rs → P r i ≡ true → Q r i ≡ true)
+    → (r i : ℕ) → In r i j rs → P r i ≡ false → Q r i ≡ true → count P j rs < count Q j rs
 count-lt P Q j [] h r i m p q = absurd m
 count-lt P Q j (x ∷ rs) h r i (inl e) p q =
     let p′ : P x j ≡ false = rw (e .0, e .1) at p in

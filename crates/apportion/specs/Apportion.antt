@@ -1,25 +1,17 @@
--- The largest remainder rule, over any amount and any weights. Assumes nothing.
-use mathlib.Core.Path.{_≡_}
-use mathlib.Core.Bool.{cond}
+-- The largest remainder rule, over any amount and any weights: each share is rounded down; the units left go one each to the
+-- largest remainders, ties to the lower number. Assumes nothing.
+use mathlib.Core.Bool.{Bool, cond, _&&_, _||_}
 use mathlib.Core.List.{List, [], _∷_, map}
-use Prim.Native.Nat.{ℕ, zero, suc, _+_, _*_, _-_, _/_, _%_, _<_, max}
-use lib.Dec.{leb}
-use lib.ListN.{getD, set}
+use Prim.Native.Nat.{ℕ, suc, _+_, _*_, _-_, _/_, _%_}
+use lib.Dec.{ltb, eqb}
+use lib.ListN.{getD}
 
 -- the sum of a list
 abbrev pub total : List ℕ → ℕ
 total [] = 0
 total (x ∷ xs) = x + total xs
 
--- the largest number of a list, 0 where there is none
-abbrev pub top : List ℕ → ℕ
-top [] = 0
-top (x ∷ xs) = max x (top xs)
-
--- the place of the largest number; of equal ones the lower place
-abbrev pub largest : List ℕ → ℕ
-largest [] = 0
-largest (x ∷ xs) = cond (leb (top xs) x) 0 (suc (largest xs))
+-- Each share is rounded down
 
 -- each weight's share of the amount, rounded down; `all` is the sum of the weights
 abbrev pub roundedDown : ℕ → ℕ → List ℕ → List ℕ
@@ -29,24 +21,40 @@ roundedDown amount all weights = map (λ w. amount * w / all) weights
 abbrev pub remainders : ℕ → ℕ → List ℕ → List ℕ
 remainders amount all weights = map (λ w. amount * w % all) weights
 
--- The units left go one each to the largest remainders, ties to the lower number: the first of the largest gets one, counts as 0
--- from then on, and the next is looked for, until none are left.
-abbrev pub give : ℕ → List ℕ → List ℕ → List ℕ
-give zero rests shares = shares
-give (suc left) rests shares =
-    give left (set rests (largest rests) 0) (set shares (largest rests) (getD shares (largest rests) 0 + 1))
-
 -- the units left: what the shares, each rounded down, do not come to
 abbrev pub left : ℕ → List ℕ → ℕ
 left amount weights = amount - total (roundedDown amount (total weights) weights)
 
--- The amount shared by the weights: each share is rounded down, and the units left go one each to the largest remainders, ties to
--- the lower number.
-unfoldable pub apportion : ℕ → List ℕ → List ℕ
-apportion amount weights =
-    give (left amount weights) (remainders amount (total weights) weights) (roundedDown amount (total weights) weights)
+-- The units left go one each to the largest remainders, ties to the lower number
 
--- a product is divided: q is the quotient by `all`, r the remainder
-pub record Parts (product all q r : ℕ) : Type 0 where
-  pub sum : q * all + r ≡ product
-  pub small : r < all
+-- the remainder s at the place k comes before r at the place i: it is larger, or as large and its number is lower
+abbrev pub comesBefore : ℕ → ℕ → ℕ → ℕ → Bool
+comesBefore s k r i = ltb r s || (eqb r s && ltb k i)
+
+-- 1 where a test holds, else 0
+abbrev pub one : Bool → ℕ
+one b = cond b 1 0
+
+-- how many of a list, whose first place is j, pass a test of number and place
+abbrev pub count : (ℕ → ℕ → Bool) → ℕ → List ℕ → ℕ
+count test j [] = 0
+count test j (x ∷ xs) = one (test x j) + count test (suc j) xs
+
+-- how many remainders come before the one at the place i
+abbrev pub rank : List ℕ → ℕ → ℕ
+rank rests i = count (λ s k. comesBefore s k (getD rests i 0) i) 0 rests
+
+-- the share at the place i: rounded down, and one more where fewer remainders come before its own than units are left
+abbrev pub shareAt : ℕ → List ℕ → ℕ → ℕ
+shareAt amount weights i =
+    getD (roundedDown amount (total weights) weights) i 0
+    + one (ltb (rank (remainders amount (total weights) weights) i) (left amount weights))
+
+-- the places of a list whose first place is j
+abbrev pub places : ℕ → List ℕ → List ℕ
+places j [] = []
+places j (x ∷ xs) = j ∷ places (suc j) xs
+
+-- the amount shared by the weights: a share at each weight's place
+unfoldable pub apportion : ℕ → List ℕ → List ℕ
+apportion amount weights = map (λ i. shareAt amount weights i) (places 0 weights)

@@ -1,4 +1,4 @@
 pub mod Apportion
-pub mod Rank
+pub mod Giving
 pub mod Bar
-pub mod Turn
+pub mod Ties

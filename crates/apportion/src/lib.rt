@@ -1,21 +1,21 @@
 // The largest remainder rule: an amount shared by weights, exact to the unit. It knows nothing of what is shared.
 mod bar;
-mod muldiv;
 mod ties;
 
 use crate::bar::bar_for;
 use crate::bar::count_above;
 use crate::bar::give_above;
-use crate::muldiv::product_over;
 use crate::ties::give_equal;
+use product::product_over;
 ghost use mathlib.Core.Path.{_≡_};
-ghost use Prim.Native.Nat.{ℕ, _+_, _^_, _<_, _≤_};
-ghost use lib.ListN.{length, getD};
-ghost use Rattle.apportion.specs.Apportion.{total, largest, roundedDown, remainders, give, apportion};
-ghost use Rattle.apportion.specs.Turn.{Given};
+ghost use Prim.Native.Nat.{_^_, _<_};
+ghost use lib.ListN.{length};
+ghost use Rattle.apportion.specs.Apportion.{total, roundedDown, remainders, apportion};
+ghost use Rattle.apportion.specs.Giving.{largestAt, giveOut, CanShare, RoomForEach, CanGive, NoneAbove};
+ghost use Rattle.apportion.specs.Ties.{UnitsGiven};
 
 // The sum of the numbers.
-pub fn sum_of(xs: &[u64]) -> u64
+pub fn total(xs: &[u64]) -> u64
     requires { ⌜ total (now xs) < 2 ^ 64 ⌝ }
     ensures { λ r. ⌜ r ≡ total (now (xs .entry)) ⌝ }
 {
@@ -31,7 +31,7 @@ pub fn sum_of(xs: &[u64]) -> u64
 // The place of the largest number, the lowest where several are as large.
 fn largest_at(xs: &[u64]) -> usize
     requires { ⌜ 0 < length (now xs) ⌝ }
-    ensures { λ r. ⌜ r ≡ largest (now (xs .entry)) ⌝ }
+    ensures { λ r. ⌜ r ≡ largestAt (now (xs .entry)) ⌝ }
     ensures { λ r. ⌜ r < length (now (xs .entry)) ⌝ }
 {
     let mut best: usize = 0;
@@ -47,8 +47,9 @@ fn largest_at(xs: &[u64]) -> usize
 
 // Each weight's share rounded down, and its remainder.
 fn split(amount: u64, all: u64, weights: &[u64], shares: &mut [u64], rests: &mut [u64])
-    requires { ⌜ (amount < 2 ^ 63) × (0 < all) × (all < 2 ^ 62) × (length (now shares) ≡ length (now weights)) × (length (now rests) ≡ length (now weights)) ⌝ }
-    requires { ⌜ ((k : ℕ) → getD (now weights) k 0 ≤ all) ⌝ }
+    requires { ⌜ CanShare amount all ⌝ }
+    requires { ⌜ RoomForEach (now weights) (now shares) (now rests) ⌝ }
+    requires { ⌜ NoneAbove all (now weights) ⌝ }
     ensures { λ _. ⌜ now (shares .exit) ≡ roundedDown amount all (now (weights .entry)) ⌝ }
     ensures { λ _. ⌜ now (rests .exit) ≡ remainders amount all (now (weights .entry)) ⌝ }
 {
@@ -63,8 +64,10 @@ fn split(amount: u64, all: u64, weights: &[u64], shares: &mut [u64], rests: &mut
 
 // One unit to the first of the largest remainders, which counts as 0 from then on, and to those as large behind it; how many are left.
 fn give_most(left: u64, rests: &mut [u64], shares: &mut [u64]) -> u64
-    requires { ⌜ (0 < left) × (0 < length (now rests)) × (length (now shares) ≡ length (now rests)) × (total (now shares) + left < 2 ^ 64) ⌝ }
-    ensures { λ r. ⌜ (r < left) × Given left (now (rests .entry)) (now (shares .entry)) r (now (rests .exit)) (now (shares .exit)) ⌝ }
+    requires { ⌜ 0 < left ⌝ }
+    requires { ⌜ CanGive left (now rests) (now shares) ⌝ }
+    ensures { λ r. ⌜ r < left ⌝ }
+    ensures { λ r. ⌜ UnitsGiven left (now (rests .entry)) (now (shares .entry)) r (now (rests .exit)) (now (shares .exit)) ⌝ }
 {
     let b = largest_at(rests);
     let most = rests[b];
@@ -75,8 +78,8 @@ fn give_most(left: u64, rests: &mut [u64], shares: &mut [u64]) -> u64
 
 // One unit each to the largest remainders, `left` of them; a remainder that has been served counts as 0.
 fn give_out(left: u64, rests: &mut [u64], shares: &mut [u64])
-    requires { ⌜ (0 < length (now rests)) × (length (now shares) ≡ length (now rests)) × (total (now shares) + left < 2 ^ 64) ⌝ }
-    ensures { λ _. ⌜ now (shares .exit) ≡ give left (now (rests .entry)) (now (shares .entry)) ⌝ }
+    requires { ⌜ CanGive left (now rests) (now shares) ⌝ }
+    ensures { λ _. ⌜ now (shares .exit) ≡ giveOut left (now (rests .entry)) (now (shares .entry)) ⌝ }
 {
     let mut k = left;
     while 0 < k {
@@ -86,9 +89,10 @@ fn give_out(left: u64, rests: &mut [u64], shares: &mut [u64])
 
 // The same, in few passes: at once to the remainders above a bar, in turn what is left then.
 fn give_left(left: u64, all: u64, rests: &mut [u64], shares: &mut [u64])
-    requires { ⌜ (0 < length (now rests)) × (length (now shares) ≡ length (now rests)) × (total (now shares) + left < 2 ^ 64) ⌝ }
-    requires { ⌜ (all < 2 ^ 63) × ((k : ℕ) → getD (now rests) k 0 ≤ all) ⌝ }
-    ensures { λ _. ⌜ now (shares .exit) ≡ give left (now (rests .entry)) (now (shares .entry)) ⌝ }
+    requires { ⌜ CanGive left (now rests) (now shares) ⌝ }
+    requires { ⌜ all < 2 ^ 63 ⌝ }
+    requires { ⌜ NoneAbove all (now rests) ⌝ }
+    ensures { λ _. ⌜ now (shares .exit) ≡ giveOut left (now (rests .entry)) (now (shares .entry)) ⌝ }
 {
     let bar = bar_for(left, all, rests);
     let served = count_above(bar, rests);
@@ -98,11 +102,12 @@ fn give_left(left: u64, all: u64, rests: &mut [u64], shares: &mut [u64])
 
 // The amount shared by the weights, into `shares`; `rests` is room to work in.
 pub fn apportion_into(amount: u64, weights: &[u64], shares: &mut [u64], rests: &mut [u64])
-    requires { ⌜ (amount < 2 ^ 63) × (0 < total (now weights)) × (total (now weights) < 2 ^ 62) × (length (now shares) ≡ length (now weights)) × (length (now rests) ≡ length (now weights)) ⌝ }
+    requires { ⌜ CanShare amount (total (now weights)) ⌝ }
+    requires { ⌜ RoomForEach (now weights) (now shares) (now rests) ⌝ }
     ensures { λ _. ⌜ now (shares .exit) ≡ apportion amount (now (weights .entry)) ⌝ }
 {
-    let all = sum_of(weights);
+    let all = total(weights);
     split(amount, all, weights, shares, rests);
-    let left = amount - sum_of(shares);
+    let left = amount - total(shares);
     give_left(left, all, rests, shares);
 }

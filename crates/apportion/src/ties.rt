@@ -1,15 +1,16 @@
 // Remainders that are equally large get their units in one pass, the lower number first.
 ghost use mathlib.Core.Path.{_≡_};
 ghost use mathlib.Core.Bool.{cond};
-ghost use Prim.Native.Nat.{ℕ, _+_, _^_, _<_, _≤_};
+ghost use Prim.Native.Nat.{_+_, _^_, _<_};
 ghost use lib.Dec.{eqb};
-ghost use lib.ListN.{length, getD};
+ghost use lib.ListN.{length};
 ghost use Rattle.apportion.specs.Apportion.{total};
-ghost use Rattle.apportion.specs.Turn.{Given, Turn};
+ghost use Rattle.apportion.specs.Giving.{NoneAbove};
+ghost use Rattle.apportion.specs.Ties.{UnitsGiven, UnitInTurn};
 
 // 1 where the remainder gets a unit, else 0.
 fn one_in_turn(left: u64, most: u64, r: u64) -> u64
-    ensures { λ x. ⌜ Turn left most r x ⌝ }
+    ensures { λ x. ⌜ UnitInTurn left most r x ⌝ }
 {
     if left == 0 {
         return 0;
@@ -28,9 +29,10 @@ fn unless_one(x: u64, r: u64) -> u64
 
 // A unit each to the remainders that are as large as `most`, which none exceeds, while units are left; how many are left then.
 pub fn give_equal(left: u64, most: u64, rests: &mut [u64], shares: &mut [u64]) -> u64
-    requires { ⌜ (length (now shares) ≡ length (now rests)) × (total (now shares) + left < 2 ^ 64) ⌝ }
-    requires { ⌜ ((k : ℕ) → getD (now rests) k 0 ≤ most) ⌝ }
-    ensures { λ r. ⌜ Given left (now (rests .entry)) (now (shares .entry)) r (now (rests .exit)) (now (shares .exit)) ⌝ }
+    requires { ⌜ length (now shares) ≡ length (now rests) ⌝ }
+    requires { ⌜ total (now shares) + left < 2 ^ 64 ⌝ }
+    requires { ⌜ NoneAbove most (now rests) ⌝ }
+    ensures { λ r. ⌜ UnitsGiven left (now (rests .entry)) (now (shares .entry)) r (now (rests .exit)) (now (shares .exit)) ⌝ }
 {
     let mut k = left;
     let mut i: usize = 0;

@@ -6,29 +6,29 @@ use Rattle.call.specs.declared.Call.{Call}
 use Rattle.book.specs.declared.Header.{Header}
 use Rattle.book.specs.declared.Verdict.{Verdict}
 use Rattle.book.specs.declared.write.Written.{Written}
-use Rattle.book.specs.Book.{headerIn, callIn}
-use Rattle.book.specs.Check.{checkOf}
-use Rattle.book.specs.Write.{Outcome, outcome, writing}
+use Rattle.book.specs.Book.{headerOf, callOf}
+use Rattle.book.specs.Check.{check}
+use Rattle.book.specs.Write.{BookOutcome, bookOutcome, writing}
 
-pub check-determined : (b : List ℕ) (r s : Verdict) → r ≡ checkOf b → s ≡ checkOf b → r ≡ s
+pub check-determined : (b : List ℕ) (r s : Verdict) → r ≡ check b → s ≡ check b → r ≡ s
 check-determined b r s e f = e ∙ sym f
 
-pub header-determined : (b : List ℕ) (r s : Header) → r ≡ headerIn b → s ≡ headerIn b → r ≡ s
+pub header-determined : (b : List ℕ) (r s : Header) → r ≡ headerOf b → s ≡ headerOf b → r ≡ s
 header-determined b r s e f = e ∙ sym f
 
-pub call-determined : (b : List ℕ) (i : ℕ) (r s : Call) → r ≡ callIn b i → s ≡ callIn b i → r ≡ s
+pub call-determined : (b : List ℕ) (i : ℕ) (r s : Call) → r ≡ callOf b i → s ≡ callOf b i → r ≡ s
 call-determined b i r s e f = e ∙ sym f
 
 -- an outcome fixes the answer and every byte of the output
-pub outcome-determined : (r s : Written) (o p : List ℕ) (w : Outcome) → outcome r o ≡ w → outcome s p ≡ w → (r ≡ s) × (o ≡ p)
+pub outcome-determined : (r s : Written) (o p : List ℕ) (w : BookOutcome) → bookOutcome r o ≡ w → bookOutcome s p ≡ w → (r ≡ s) × (o ≡ p)
 outcome-determined r s o p w e f =
     let g = e ∙ sym f in (
-      λ i. record { number = ap (λ (x : Outcome). x .number) g i; place = ap (λ (x : Outcome). x .place) g i; length = ap (λ (x : Outcome). x .size) g i },
-      ap (λ (x : Outcome). x .out) g,
+      λ i. record { number = ap (λ (x : BookOutcome). x .number) g i; place = ap (λ (x : BookOutcome). x .place) g i; length = ap (λ (x : BookOutcome). x .size) g i },
+      ap (λ (x : BookOutcome). x .out) g,
     )
 
-pub none-determined : (h : Header) (out : List ℕ) (r s : Written) (o p : List ℕ) → outcome r o ≡ writing h [] out → outcome s p ≡ writing h [] out → (r ≡ s) × (o ≡ p)
+pub none-determined : (h : Header) (out : List ℕ) (r s : Written) (o p : List ℕ) → bookOutcome r o ≡ writing h [] out → bookOutcome s p ≡ writing h [] out → (r ≡ s) × (o ≡ p)
 none-determined h out r s o p e f = outcome-determined r s o p (writing h [] out) e f
 
-pub one-determined : (h : Header) (c : Call) (out : List ℕ) (r s : Written) (o p : List ℕ) → outcome r o ≡ writing h (c ∷ []) out → outcome s p ≡ writing h (c ∷ []) out → (r ≡ s) × (o ≡ p)
+pub one-determined : (h : Header) (c : Call) (out : List ℕ) (r s : Written) (o p : List ℕ) → bookOutcome r o ≡ writing h (c ∷ []) out → bookOutcome s p ≡ writing h (c ∷ []) out → (r ≡ s) × (o ≡ p)
 one-determined h c out r s o p e f = outcome-determined r s o p (writing h (c ∷ []) out) e f

@@ -5,12 +5,12 @@ use Prim.Native.Nat.{ℕ}
 use lib.IntN.{pos}
 use Rattle.le.specs.Le.{leAt, IsBytes}
 use Rattle.le.proofs.Laws.{bytes-tested}
-use Rattle.units.specs.Month.{leap, daysOf, minutesOf}
+use Rattle.units.specs.Month.{isLeap, daysOf, minutesOf}
 use Rattle.call.specs.declared.Call.{Call}
-use Rattle.call.specs.Limits.{table, limitsOf, allows, soundCall}
+use Rattle.call.specs.Limits.{table, limitsOf, limitsAllow, callIsSound}
 use Rattle.call.specs.Layout.{callAt}
-use Rattle.book.specs.Book.{headerOf, countOf, callOf, callsFrom, callsOf}
-use Rattle.book.specs.Check.{accepted, marked, versioned, soundHeader, headed, monthOf, soundRecord, judge, checkFrom, checkOf}
+use Rattle.book.specs.Book.{headerAt, countAt, recordAt, callsFrom, callsOf}
+use Rattle.book.specs.Check.{accepted, isMarked, isVersioned, headerIsSound, isHeaded, headerMinutes, isRecord, judge, checkRecords, check}
 use Rattle.book.specs.Sound.{Sound}
 use Rattle.book.proofs.Exact.{accepted-sound}
 
@@ -20,19 +20,22 @@ stop = record { participant = 7; service = 3; state = 0; number = 1001; revision
 
 unfoldable pub bytes : List ℕ
 bytes =
-    78 ∷ 87 ∷ 66 ∷ 5 ∷ 1 ∷ 0 ∷ 234 ∷ 7 ∷ 2 ∷ 0 ∷ 1 ∷ 0 ∷ 0 ∷ 0 ∷ 0 ∷ 0 ∷ 7 ∷ 0 ∷ 3 ∷ 0 ∷ 233 ∷ 3 ∷ 0 ∷ 0 ∷ 1 ∷ 0 ∷ 0 ∷ 0 ∷ 88 ∷ 2 ∷ 224 ∷ 16 ∷ 0 ∷ 0 ∷ 0 ∷ 0 ∷ 0 ∷ 0 ∷ 0 ∷ 0 ∷ 0 ∷ 0 ∷ 0 ∷ 0 ∷ 0 ∷ 0 ∷ 0 ∷ 0 ∷ []
+    78 ∷ 87 ∷ 66 ∷ 5 ∷ 1 ∷ 0 ∷ 234 ∷ 7 ∷ 2 ∷ 0 ∷ 1 ∷ 0 ∷ 0 ∷ 0 ∷ 0 ∷ 0 ∷
+    7 ∷ 0 ∷ 3 ∷ 0 ∷ 233 ∷ 3 ∷ 0 ∷ 0 ∷ 1 ∷ 0 ∷ 0 ∷ 0 ∷ 88 ∷ 2 ∷ 224 ∷ 16 ∷ 0 ∷ 0 ∷ 0 ∷ 0 ∷ 0 ∷ 0 ∷ 0 ∷ 0 ∷ 0 ∷ 0 ∷ 0 ∷ 0 ∷ 0 ∷ 0 ∷ 0 ∷ 0 ∷ []
 
 is-bytes : IsBytes bytes
 unfolding bytes
 is-bytes = bytes-tested bytes refl
 
-is-accepted : checkOf bytes ≡ accepted
-unfolding bytes checkOf checkFrom judge soundRecord soundHeader headed versioned marked monthOf minutesOf daysOf leap headerOf countOf callOf callAt leAt soundCall allows limitsOf table
+is-accepted : check bytes ≡ accepted
+unfolding
+    bytes check checkRecords judge isRecord headerIsSound isHeaded isVersioned isMarked headerMinutes minutesOf daysOf isLeap
+    headerAt countAt recordAt callAt leAt callIsSound limitsAllow limitsOf table
 is-accepted = refl
 
 pub is-sound : Sound bytes
 is-sound = accepted-sound bytes is-bytes is-accepted .0
 
 pub its-calls : callsOf bytes ≡ stop ∷ []
-unfolding bytes stop callsOf callsFrom countOf callOf callAt leAt
+unfolding bytes stop callsOf callsFrom countAt recordAt callAt leAt
 its-calls = refl

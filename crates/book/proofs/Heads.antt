@@ -10,26 +10,27 @@ use borrow.Author.Tests.{leb-true, le-leb, eqb-true, eq-eqb}
 use Rattle.le.specs.Le.{leAt, leBytes, IsBytes}
 use Rattle.le.proofs.Laws.{back, again, bytesAt, cat}
 use Rattle.le.proofs.Tests.{each, all}
+use Rattle.units.specs.Month.{monthsPerYear, mostMinutes}
 use Rattle.units.proofs.Laws.{minutes-most}
 use Rattle.book.specs.declared.Header.{Header}
-use Rattle.book.specs.Book.{version, mostRecords, headerOf, countOf, markBytes, dateBytes, countBytes, headBytes}
-use Rattle.book.specs.Check.{marked, versioned, soundHeader, headed, monthOf}
+use Rattle.book.specs.Book.{version, mostRecords, headerSize, mostArea, firstYear, lastYear, versionAt, headerAt, countAt, markBytes, dateBytes, countBytes, headBytes}
+use Rattle.book.specs.Check.{isMarked, isVersioned, headerIsSound, isHeaded, headerMinutes}
 use Rattle.book.specs.Sound.{Heading}
 use Rattle.book.specs.Refusals.{Marked, Versioned, Headed}
 
--- no month has more than 44,640 minutes
-pub month-most : (h : Header) → monthOf h ≤ 44640
-unfolding monthOf
+-- no month has more minutes than the longest
+pub month-most : (h : Header) → headerMinutes h ≤ mostMinutes
+unfolding headerMinutes
 month-most h = minutes-most (h .year) (h .month)
 
 -- The tests, exactly
 
 module _ (h : Header) where
   abbrev bounds : List Bool
-  bounds = leb (h .area) 99 ∷ leb 2024 (h .year) ∷ leb (h .year) 2099 ∷ leb 1 (h .month) ∷ leb (h .month) 12 ∷ []
+  bounds = leb (h .area) mostArea ∷ leb firstYear (h .year) ∷ leb (h .year) lastYear ∷ leb 1 (h .month) ∷ leb (h .month) monthsPerYear ∷ []
 
-  pub sound-heading : soundHeader h ≡ true → Heading h
-  unfolding soundHeader
+  pub sound-heading : headerIsSound h ≡ true → Heading h
+  unfolding headerIsSound
   sound-heading e =
       let p = each (leb 1 (h .area)) bounds e in
       let q = p .1 in
@@ -39,58 +40,58 @@ module _ (h : Header) where
         month = (leb-true _ _ (q .1 .1 .1 .0), leb-true _ _ (q .1 .1 .1 .1 .0));
       }
 
-  pub heading-sound : Heading h → soundHeader h ≡ true
-  unfolding soundHeader
+  pub heading-sound : Heading h → headerIsSound h ≡ true
+  unfolding headerIsSound
   heading-sound w =
       all (leb 1 (h .area)) bounds
       (le-leb _ _ (w .area .0), (le-leb _ _ (w .area .1), (le-leb _ _ (w .year .0), (le-leb _ _ (w .year .1), (le-leb _ _ (w .month .0), (le-leb _ _ (w .month .1), tt))))))
 
 module _ (b : List ℕ) where
-  pub marked-is : marked b ≡ true → Marked b
-  unfolding marked
+  pub marked-is : isMarked b ≡ true → Marked b
+  unfolding isMarked
   marked-is e =
       let p = each (eqb (getD b 0 0) 78) (eqb (getD b 1 0) 87 ∷ eqb (getD b 2 0) 66 ∷ []) e in
       record { letter-n = eqb-true _ _ (p .0); letter-w = eqb-true _ _ (p .1 .0); letter-b = eqb-true _ _ (p .1 .1 .0) }
 
-  pub is-marked : Marked b → marked b ≡ true
-  unfolding marked
+  pub is-marked : Marked b → isMarked b ≡ true
+  unfolding isMarked
   is-marked w =
       all (eqb (getD b 0 0) 78) (eqb (getD b 1 0) 87 ∷ eqb (getD b 2 0) 66 ∷ [])
       (eq-eqb _ _ (w .letter-n), (eq-eqb _ _ (w .letter-w), (eq-eqb _ _ (w .letter-b), tt)))
 
-  pub versioned-is : versioned b ≡ true → Versioned b
-  unfolding versioned
+  pub versioned-is : isVersioned b ≡ true → Versioned b
+  unfolding isVersioned
   versioned-is e = eqb-true _ _ e
 
-  pub is-versioned : Versioned b → versioned b ≡ true
-  unfolding versioned
+  pub is-versioned : Versioned b → isVersioned b ≡ true
+  unfolding isVersioned
   is-versioned e = eq-eqb _ _ e
 
   abbrev others : List Bool
-  others = eqb (leAt b 9 1) 0 ∷ leb (countOf b) mostRecords ∷ eqb (leAt b 12 4) 0 ∷ []
+  others = eqb (leAt b 9 1) 0 ∷ leb (countAt b) (mostRecords (versionAt b)) ∷ eqb (leAt b 12 4) 0 ∷ []
 
-  pub headed-is : headed b ≡ true → Headed b
-  unfolding headed
+  pub headed-is : isHeaded b ≡ true → Headed b
+  unfolding isHeaded
   headed-is e =
-      let p = each (soundHeader (headerOf b)) others e in
+      let p = each (headerIsSound (headerAt b)) others e in
       record {
-        heading = sound-heading (headerOf b) (p .0);
+        heading = sound-heading (headerAt b) (p .0);
         zero = eqb-true _ _ (p .1 .0);
         few = leb-true _ _ (p .1 .1 .0);
         zeros = eqb-true _ _ (p .1 .1 .1 .0);
       }
 
-  pub is-headed : Headed b → headed b ≡ true
-  unfolding headed
+  pub is-headed : Headed b → isHeaded b ≡ true
+  unfolding isHeaded
   is-headed w =
-      all (soundHeader (headerOf b)) others
-      (heading-sound (headerOf b) (w .heading), (eq-eqb _ _ (w .zero), (le-leb _ _ (w .few), (eq-eqb _ _ (w .zeros), tt))))
+      all (headerIsSound (headerAt b)) others
+      (heading-sound (headerAt b) (w .heading), (eq-eqb _ _ (w .zero), (le-leb _ _ (w .few), (eq-eqb _ _ (w .zeros), tt))))
 
 -- What was written is read back
 
 module _ (h : Header) (n : ℕ) (t : List ℕ) where
-  pub header-back : Heading h → headerOf (headBytes h n ++ t) ≡ h
-  unfolding headerOf headBytes markBytes dateBytes countBytes leAt leBytes
+  pub header-back : Heading h → headerAt (headBytes version h n ++ t) ≡ h
+  unfolding headerAt headBytes markBytes dateBytes countBytes leAt leBytes
   header-back w =
       λ i. record {
         area = back 1 (h .area) [] (omega (arith, w .area .1)) i;
@@ -98,34 +99,34 @@ module _ (h : Header) (n : ℕ) (t : List ℕ) where
         month = back 1 (h .month) [] (omega (arith, w .month .1)) i;
       }
 
-  pub count-back : n ≤ mostRecords → countOf (headBytes h n ++ t) ≡ n
-  unfolding countOf headBytes markBytes dateBytes countBytes leAt leBytes
+  pub count-back : n ≤ (mostRecords version) → countAt (headBytes version h n ++ t) ≡ n
+  unfolding countAt headBytes markBytes dateBytes countBytes leAt leBytes
   count-back l = back 2 n [] (omega arith)
 
-  pub mark-back : Marked (headBytes h n ++ t)
+  pub mark-back : Marked (headBytes version h n ++ t)
   unfolding headBytes markBytes dateBytes countBytes leBytes
   mark-back = record { letter-n = refl; letter-w = refl; letter-b = refl }
 
-  pub version-back : Versioned (headBytes h n ++ t)
+  pub version-back : Versioned (headBytes version h n ++ t)
   unfolding headBytes markBytes dateBytes countBytes leAt leBytes
   version-back = refl
 
-  zero-back : leAt (headBytes h n ++ t) 9 1 ≡ 0
+  zero-back : leAt (headBytes version h n ++ t) 9 1 ≡ 0
   unfolding headBytes markBytes dateBytes countBytes leAt leBytes
   zero-back = refl
 
-  zeros-back : leAt (headBytes h n ++ t) 12 4 ≡ 0
+  zeros-back : leAt (headBytes version h n ++ t) 12 4 ≡ 0
   unfolding headBytes markBytes dateBytes countBytes leAt leBytes
   zeros-back = refl
 
-  pub headed-back : Heading h → n ≤ mostRecords → Headed (headBytes h n ++ t)
+  pub headed-back : Heading h → n ≤ (mostRecords version) → Headed (headBytes version h n ++ t)
   headed-back w l =
       record { heading = rw (header-back w) w; zero = zero-back; few = rw (count-back l) l; zeros = zeros-back }
 
 -- What was read is written again
 
-pub head-again : (b : List ℕ) → IsBytes b → Marked b → Versioned b → Headed b → headBytes (headerOf b) (countOf b) ≡ bytesAt b 0 16
-unfolding headBytes markBytes dateBytes countBytes headerOf countOf bytesAt
+pub head-again : (b : List ℕ) → IsBytes b → Marked b → Versioned b → Headed b → headBytes version (headerAt b) (countAt b) ≡ bytesAt b 0 headerSize
+unfolding headBytes markBytes dateBytes countBytes headerAt countAt bytesAt
 head-again b h m v w =
     let field : (k o : ℕ) → leBytes k (leAt b o k) ≡ bytesAt b o k = λ k o. again k b o h in
     let letters : _≡_ {A = List ℕ} (78 ∷ 87 ∷ 66 ∷ []) (getD b 0 0 ∷ getD b 1 0 ∷ getD b 2 0 ∷ []) =

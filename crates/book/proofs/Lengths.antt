@@ -6,20 +6,20 @@ use native.Mathlib.Omega.{arith}
 use lib.ListN.{length, length-append}
 use Rattle.le.specs.Le.{leBytes}
 use Rattle.call.specs.declared.Call.{Call}
-use Rattle.call.specs.Layout.{callBytes}
+use Rattle.call.specs.Layout.{recordSize, callBytes}
 use Rattle.call.proofs.Bytes.{length-call}
 use Rattle.book.specs.declared.Header.{Header}
-use Rattle.book.specs.Book.{sizeOf, markBytes, dateBytes, countBytes, headBytes, recordBytes, bookBytes}
+use Rattle.book.specs.Book.{version, headerSize, sizeOf, markBytes, dateBytes, countBytes, headBytes, recordBytes, bookBytes}
 
-pub length-head : (h : Header) (n : ℕ) → length (headBytes h n) ≡ 16
+pub length-head : (h : Header) (n : ℕ) → length (headBytes version h n) ≡ headerSize
 unfolding headBytes markBytes dateBytes countBytes leBytes
 length-head h n = refl
 
-pub length-records : (cs : List Call) → length (recordBytes cs) ≡ 32 * length cs
+pub length-records : (cs : List Call) → length (recordBytes cs) ≡ recordSize * length cs
 unfolding recordBytes
 length-records [] = refl
 length-records (c ∷ cs) = length-append (callBytes c) (recordBytes cs) ∙ omega (arith, length-records cs, length-call c)
 
-pub length-book : (h : Header) (cs : List Call) → length (bookBytes h cs) ≡ sizeOf (length cs)
+pub length-book : (h : Header) (cs : List Call) → length (bookBytes version h cs) ≡ sizeOf (length cs)
 unfolding bookBytes
-length-book h cs = length-append (headBytes h (length cs)) (recordBytes cs) ∙ omega (arith, length-head h (length cs), length-records cs)
+length-book h cs = length-append (headBytes version h (length cs)) (recordBytes cs) ∙ omega (arith, length-head h (length cs), length-records cs)

@@ -12,12 +12,12 @@ use borrow.Author.Tests.{ltb-false, eq-eqb, ne-eqb}
 use Rattle.le.specs.Le.{Stores}
 use Rattle.le.proofs.Laws.{then}
 use Rattle.call.specs.declared.Call.{Call}
-use Rattle.call.specs.Limits.{soundCall}
+use Rattle.call.specs.Limits.{callIsSound}
 use Rattle.call.specs.Layout.{callBytes}
 use Rattle.book.specs.declared.Header.{Header}
-use Rattle.book.specs.Book.{sizeOf, headBytes, recordBytes, bookBytes}
-use Rattle.book.specs.Check.{soundHeader, monthOf}
-use Rattle.book.specs.Write.{refusedOut, soundCalls, writeFault, writing}
+use Rattle.book.specs.Book.{version, headerSize, sizeOf, headBytes, recordBytes, bookBytes}
+use Rattle.book.specs.Check.{headerIsSound, headerMinutes}
+use Rattle.book.specs.Write.{refusedOut, soundCalls, fault, writeFault, writing}
 use Rattle.book.proofs.Lengths.{length-head, length-book}
 
 module _ (h : Header) (cs : List Call) (out : List ℕ) where
@@ -27,19 +27,19 @@ module _ (h : Header) (cs : List Call) (out : List ℕ) where
   refuses n e z = rw (← e, ne-eqb n 0 z) refl
 
   -- no number: the book is stored at the start of the output
-  pub writes : (n len : ℕ) (after : List ℕ) → n ≡ writeFault h cs (length out) → n ≡ 0 → len ≡ sizeOf (length cs) → sizeOf (length cs) ≤ length out → Stores out 0 (bookBytes h cs) after
-      → record { number = 0; place = 0; size = len; out = after } ≡ writing h cs out
+  pub writes : (n len : ℕ) (after : List ℕ) → n ≡ writeFault h cs (length out) → n ≡ 0 → len ≡ sizeOf (length cs) → sizeOf (length cs) ≤ length out
+      → Stores out 0 (bookBytes version h cs) after → record { number = 0; place = 0; size = len; out = after } ≡ writing h cs out
   unfolding writing
   writes n len after e z k room s =
+      let book = bookBytes version h cs in
       let size = length-book h cs in
-      let bytes : after ≡ bookBytes h cs ++ drop (length (bookBytes h cs)) out =
-      s .is ∙ sets-eq (bookBytes h cs) out 0 (omega (arith, size)) ∙ ap (λ (j : ℕ). bookBytes h cs ++ drop j out) (zero-add (length (bookBytes h cs))) in
+      let bytes = s .is ∙ sets-eq book out 0 (omega (arith, size)) ∙ ap (λ (j : ℕ). book ++ drop j out) (zero-add (length book)) in
       rw (← e, eq-eqb n 0 z) (λ i. record { number = 0; place = 0; size = (k ∙ sym size) i; out = bytes i })
 
 -- where nothing is refused there is room
 pub room-of : (h : Header) (cs : List Call) (room : ℕ) → writeFault h cs room ≡ 0 → sizeOf (length cs) ≤ room
 unfolding writeFault
-room-of h cs room e = ltb-false _ _ (tests (soundHeader h) (soundCalls (monthOf h) cs) (ltb room (sizeOf (length cs))) e)
+room-of h cs room e = ltb-false _ _ (tests (headerIsSound h) (soundCalls (headerMinutes h) cs) (ltb room (sizeOf (length cs))) e)
   where
     tests : (t u v : Bool) → _≡_ {A = ℕ} (cond (not t) 4 (cond (not u) 5 (cond v 9 0))) 0 → v ≡ false
     tests true true false e = refl
@@ -48,18 +48,19 @@ room-of h cs room e = ltb-false _ _ (tests (soundHeader h) (soundCalls (monthOf 
     tests false u v e = absurd (omega arith)
 
 -- a book of none, a book of one
-pub fault-none : (h : Header) (room : ℕ) → cond (not (soundHeader h)) 4 (cond (ltb room 16) 9 0) ≡ writeFault h [] room
+pub fault-none : (h : Header) (room : ℕ) → fault h true headerSize room ≡ writeFault h [] room
 unfolding writeFault soundCalls
 fault-none h room = refl
 
-pub fault-one : (h : Header) (c : Call) (room : ℕ) → cond (not (soundHeader h)) 4 (cond (not (soundCall (monthOf h) c)) 5 (cond (ltb room 48) 9 0)) ≡ writeFault h (c ∷ []) room
+pub fault-one : (h : Header) (c : Call) (room : ℕ) → fault h (callIsSound (headerMinutes h) c) (sizeOf 1) room ≡ writeFault h (c ∷ []) room
 unfolding writeFault soundCalls
-fault-one h c room = rw (and-true (soundCall (monthOf h) c)) refl
+fault-one h c room = rw (and-true (callIsSound (headerMinutes h) c)) refl
 
-pub stores-none : (h : Header) {out after : List ℕ} → Stores out 0 (headBytes h 0) after → Stores out 0 (bookBytes h []) after
+pub stores-none : (h : Header) {out after : List ℕ} → Stores out 0 (headBytes version h 0) after → Stores out 0 (bookBytes version h []) after
 unfolding bookBytes recordBytes
 stores-none h s = rw append-nil s
 
-pub stores-one : (h : Header) (c : Call) {out mid after : List ℕ} → Stores out 0 (headBytes h 1) mid → Stores mid 16 (callBytes c) after → Stores out 0 (bookBytes h (c ∷ [])) after
+pub stores-one : (h : Header) (c : Call) {out mid after : List ℕ} → Stores out 0 (headBytes version h 1) mid → Stores mid headerSize (callBytes c) after
+    → Stores out 0 (bookBytes version h (c ∷ [])) after
 unfolding bookBytes recordBytes
-stores-one h c s t = rw append-nil (then 16 (omega (arith, length-head h 1)) s t)
+stores-one h c s t = rw append-nil (then headerSize (omega (arith, length-head h 1)) s t)

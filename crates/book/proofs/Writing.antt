@@ -10,15 +10,16 @@ use lib.ListN.{length, take, drop}
 use lib.Seq.{take-append-seam, drop-append-seam}
 use borrow.Author.Tests.{ltb-true, ltb-false, lt-ltb, le-ltb, eq-eqb, ne-eqb}
 use Rattle.le.proofs.Tests.{each, all, fails, refuted}
+use Rattle.units.specs.Month.{mostMinutes}
 use Rattle.call.specs.declared.Call.{Call}
-use Rattle.call.specs.Limits.{soundCall}
+use Rattle.call.specs.Limits.{callIsSound}
 use Rattle.call.proofs.Exact.{sound-within, within-sound}
 use Rattle.book.specs.declared.Header.{Header}
-use Rattle.book.specs.Book.{mostRecords, sizeOf, headerOf, callsOf, bookBytes}
-use Rattle.book.specs.Check.{soundHeader, monthOf}
-use Rattle.book.specs.Sound.{Heading, AllWithin, Rises, Sound}
+use Rattle.book.specs.Book.{version, mostRecords, sizeOf, headerAt, callsOf, bookBytes}
+use Rattle.book.specs.Check.{headerIsSound, headerMinutes}
+use Rattle.book.specs.Sound.{Heading, CallsWithin, Rises, Sound}
 use Rattle.book.specs.Refusals.{WriteRefusal, none, no-header, no-field, no-room}
-use Rattle.book.specs.Write.{refusedOut, wroteOut, soundCalls, writeFault, writing}
+use Rattle.book.specs.Write.{refusedOut, wroteOut, soundCalls, fault, writeFault, writing}
 use Rattle.book.proofs.Heads.{month-most, sound-heading, heading-sound}
 use Rattle.book.proofs.Exact.{reads-back}
 
@@ -27,43 +28,43 @@ abbrev pub Numbered : List Call → Type 0
 Numbered [] = Unit {0}
 Numbered (c ∷ cs) = ((c .number < 4294967296) × (c .revision < 4294967296)) × Numbered cs
 
-module _ (m : ℕ) (few : m ≤ 44640) where
-  calls-within : (cs : List Call) → Numbered cs → soundCalls m cs ≡ true → AllWithin m cs
+module _ (m : ℕ) (few : m ≤ mostMinutes) where
+  calls-within : (cs : List Call) → Numbered cs → soundCalls m cs ≡ true → CallsWithin m cs
   unfolding soundCalls
   calls-within [] n e = tt
   calls-within (c ∷ cs) n e =
-      let p = each (soundCall m c) (soundCalls m cs ∷ []) e in
+      let p = each (callIsSound m c) (soundCalls m cs ∷ []) e in
       (sound-within m c (n .0 .0) (n .0 .1) (p .0), calls-within cs (n .1) (p .1 .0))
 
-  within-calls : (cs : List Call) → AllWithin m cs → soundCalls m cs ≡ true
+  within-calls : (cs : List Call) → CallsWithin m cs → soundCalls m cs ≡ true
   unfolding soundCalls
   within-calls [] w = refl
-  within-calls (c ∷ cs) w = all (soundCall m c) (soundCalls m cs ∷ []) (within-sound m c few (w .0), (within-calls cs (w .1), tt))
+  within-calls (c ∷ cs) w = all (callIsSound m c) (soundCalls m cs ∷ []) (within-sound m c few (w .0), (within-calls cs (w .1), tt))
 
 module _ (h : Header) (cs : List Call) (numbered : Numbered cs) (room : ℕ) where
   some : (n : ℕ) × (writeFault h cs room ≡ n) × WriteRefusal h cs room n
   unfolding writeFault
-  some = from (soundHeader h) refl (soundCalls (monthOf h) cs) refl (ltb room (sizeOf (length cs))) refl
+  some = from (headerIsSound h) refl (soundCalls (headerMinutes h) cs) refl (ltb room (sizeOf (length cs))) refl
     where
-      heading : soundHeader h ≡ true → Heading h
+      heading : headerIsSound h ≡ true → Heading h
       heading e = sound-heading h e
 
-      within : soundCalls (monthOf h) cs ≡ true → AllWithin (monthOf h) cs
-      within e = calls-within (monthOf h) (month-most h) cs numbered e
+      within : soundCalls (headerMinutes h) cs ≡ true → CallsWithin (headerMinutes h) cs
+      within e = calls-within (headerMinutes h) (month-most h) cs numbered e
 
-      from : (t : Bool) → soundHeader h ≡ t → (u : Bool) → soundCalls (monthOf h) cs ≡ u → (v : Bool) → ltb room (sizeOf (length cs)) ≡ v
-          → (n : ℕ) × (cond (not (soundHeader h)) 4 (cond (not (soundCalls (monthOf h) cs)) 5 (cond (ltb room (sizeOf (length cs))) 9 0)) ≡ n) × WriteRefusal h cs room n
-      from false t u′ u v′ v = (4, simp t, no-header refl (refuted (soundHeader h) (heading-sound h) t))
-      from true t false u v′ v = (5, simp (t, u), no-field refl (heading t) (refuted (soundCalls (monthOf h) cs) (within-calls (monthOf h) (month-most h) cs) u))
+      from : (t : Bool) → headerIsSound h ≡ t → (u : Bool) → soundCalls (headerMinutes h) cs ≡ u → (v : Bool) → ltb room (sizeOf (length cs)) ≡ v
+          → (n : ℕ) × (fault h (soundCalls (headerMinutes h) cs) (sizeOf (length cs)) room ≡ n) × WriteRefusal h cs room n
+      from false t u′ u v′ v = (4, simp t, no-header refl (refuted (headerIsSound h) (heading-sound h) t))
+      from true t false u v′ v = (5, simp (t, u), no-field refl (heading t) (refuted (soundCalls (headerMinutes h) cs) (within-calls (headerMinutes h) (month-most h) cs) u))
       from true t true u true v = (9, simp (t, u, v), no-room refl (heading t) (within u) (ltb-true _ _ v))
       from true t true u false v = (0, simp (t, u, v), none refl (heading t) (within u) (ltb-false _ _ v))
 
   from-row : (n : ℕ) → WriteRefusal h cs room n → writeFault h cs room ≡ n
   unfolding writeFault
-  from-row n (none e g w r) = simp (heading-sound h g, within-calls (monthOf h) (month-most h) cs w, le-ltb _ _ r) (sym e)
-  from-row n (no-header e g) = simp (fails (soundHeader h) (sound-heading h) g) (sym e)
-  from-row n (no-field e g w) = simp (heading-sound h g, fails (soundCalls (monthOf h) cs) (calls-within (monthOf h) (month-most h) cs numbered) w) (sym e)
-  from-row n (no-room e g w r) = simp (heading-sound h g, within-calls (monthOf h) (month-most h) cs w, lt-ltb _ _ r) (sym e)
+  from-row n (none e g w r) = simp (heading-sound h g, within-calls (headerMinutes h) (month-most h) cs w, le-ltb _ _ r) (sym e)
+  from-row n (no-header e g) = simp (fails (headerIsSound h) (sound-heading h) g) (sym e)
+  from-row n (no-field e g w) = simp (heading-sound h g, fails (soundCalls (headerMinutes h) cs) (calls-within (headerMinutes h) (month-most h) cs numbered) w) (sym e)
+  from-row n (no-room e g w r) = simp (heading-sound h g, within-calls (headerMinutes h) (month-most h) cs w, lt-ltb _ _ r) (sym e)
 
   -- DEMAND 1: 4, 5, 9 and acceptance come out exactly under their conditions, in that order.
   pub write-refused-exactly : (n : ℕ) → (writeFault h cs room ≡ n) ↔ WriteRefusal h cs room n
@@ -71,23 +72,23 @@ module _ (h : Header) (cs : List Call) (numbered : Numbered cs) (room : ℕ) whe
 
 -- What an accepted writing leaves
 module _ (h : Header) (cs : List Call) (out : List ℕ) (ok : writeFault h cs (length out) ≡ 0) where
-  wrote : writing h cs out ≡ wroteOut (bookBytes h cs) out
+  wrote : writing h cs out ≡ wroteOut (bookBytes version h cs) out
   unfolding writing
   wrote = simp (eq-eqb _ _ ok)
 
   -- the book stands at the start of the output
-  pub book-written : take (writing h cs out .size) (writing h cs out .out) ≡ bookBytes h cs
-  book-written = rw wrote (take-append-seam (bookBytes h cs) (drop (length (bookBytes h cs)) out))
+  pub book-written : take (writing h cs out .size) (writing h cs out .out) ≡ bookBytes version h cs
+  book-written = rw wrote (take-append-seam (bookBytes version h cs) (drop (length (bookBytes version h cs)) out))
 
   -- and the bytes behind it stay
   pub rest-kept : drop (writing h cs out .size) (writing h cs out .out) ≡ drop (writing h cs out .size) out
-  rest-kept = rw wrote (drop-append-seam (bookBytes h cs) (drop (length (bookBytes h cs)) out))
+  rest-kept = rw wrote (drop-append-seam (bookBytes version h cs) (drop (length (bookBytes version h cs)) out))
 
   -- DEMAND 2: what was written is a sound book, and reads back as the same header and calls.
-  pub written-sound : Numbered cs → length cs ≤ mostRecords → Rises 0 cs → Sound (bookBytes h cs) × (headerOf (bookBytes h cs) ≡ h) × (callsOf (bookBytes h cs) ≡ cs)
+  pub written-sound : Numbered cs → length cs ≤ (mostRecords version) → Rises 0 cs → Sound (bookBytes version h cs) × (headerAt (bookBytes version h cs) ≡ h) × (callsOf (bookBytes version h cs) ≡ cs)
   written-sound n few r = go (write-refused-exactly h cs n (length out) 0 .0 ok)
     where
-      go : WriteRefusal h cs (length out) 0 → Sound (bookBytes h cs) × (headerOf (bookBytes h cs) ≡ h) × (callsOf (bookBytes h cs) ≡ cs)
+      go : WriteRefusal h cs (length out) 0 → Sound (bookBytes version h cs) × (headerAt (bookBytes version h cs) ≡ h) × (callsOf (bookBytes version h cs) ≡ cs)
       go (none e g w k) =
           let b = reads-back h cs g few w in
           (record { header = h; calls = cs; heading = g; few = few; within = w; rising = r; bytes = refl }, b .0, b .1)
@@ -101,8 +102,8 @@ unfolding writing
 refused-kept h cs out n = simp (ne-eqb _ _ n)
 
 -- A book of none and a book of one, once accepted, are such books.
-pub none-sound : (h : Header) (out : List ℕ) → writeFault h [] (length out) ≡ 0 → Sound (bookBytes h [])
+pub none-sound : (h : Header) (out : List ℕ) → writeFault h [] (length out) ≡ 0 → Sound (bookBytes version h [])
 none-sound h out ok = written-sound h [] out ok tt (omega arith) tt .0
 
-pub one-sound : (h : Header) (c : Call) (out : List ℕ) → c .number < 4294967296 → c .revision < 4294967296 → writeFault h (c ∷ []) (length out) ≡ 0 → Sound (bookBytes h (c ∷ []))
+pub one-sound : (h : Header) (c : Call) (out : List ℕ) → c .number < 4294967296 → c .revision < 4294967296 → writeFault h (c ∷ []) (length out) ≡ 0 → Sound (bookBytes version h (c ∷ []))
 one-sound h c out n r ok = written-sound h (c ∷ []) out ok ((n, r), tt) (omega arith) (omega arith, tt) .0

@@ -3,3 +3,4 @@ pub mod Check
 pub mod Sound
 pub mod Refusals
 pub mod Write
+pub mod Inner

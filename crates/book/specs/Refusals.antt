@@ -5,14 +5,14 @@ use Prim.Native.Nat.{ℕ, zero, suc, _<_, _≤_}
 use lib.ListN.{getD, length}
 use Rattle.le.specs.Le.{leAt}
 use Rattle.call.specs.declared.Call.{Call}
-use Rattle.call.specs.Key.{keyOf}
-use Rattle.call.specs.Layout.{reserved}
-use Rattle.call.specs.Service.{Within}
+use Rattle.call.specs.Key.{callKey}
+use Rattle.call.specs.Layout.{reservedAt}
+use Rattle.call.specs.Service.{CallWithin}
 use Rattle.book.specs.declared.Header.{Header}
 use Rattle.book.specs.declared.Verdict.{Verdict}
-use Rattle.book.specs.Book.{version, mostRecords, sizeOf, headerOf, countOf, callOf}
-use Rattle.book.specs.Check.{refuse, accepted, monthOf}
-use Rattle.book.specs.Sound.{Heading, AllWithin}
+use Rattle.book.specs.Book.{version, mostRecords, headerSize, sizeOf, placeOf, HasHeader, versionAt, headerAt, countAt, recordAt}
+use Rattle.book.specs.Check.{refused, accepted, headerMinutes}
+use Rattle.book.specs.Sound.{Heading, CallsWithin}
 
 -- the mark "NWB"
 pub record Marked (b : List ℕ) : Type 0 where
@@ -22,55 +22,55 @@ pub record Marked (b : List ℕ) : Type 0 where
 
 -- the version is 1
 abbrev pub Versioned : List ℕ → Type 0
-Versioned b = leAt b 4 2 ≡ version
+Versioned b = versionAt b ≡ version
 
 -- the other header fields: area, year and month, a zero byte, the count, four zero bytes
 pub record Headed (b : List ℕ) : Type 0 where
-  pub heading : Heading (headerOf b)
+  pub heading : Heading (headerAt b)
   pub zero : leAt b 9 1 ≡ 0
-  pub few : countOf b ≤ mostRecords
+  pub few : countAt b ≤ mostRecords (versionAt b)
   pub zeros : leAt b 12 4 ≡ 0
 
 -- the length is as the count says
 abbrev pub Counted : List ℕ → Type 0
-Counted b = length b ≡ sizeOf (countOf b)
+Counted b = length b ≡ sizeOf (countAt b)
 
 -- record i is within the limits, and its four last bytes are zero
 pub record Fielded (b : List ℕ) (i : ℕ) : Type 0 where
-  pub fields : Within (monthOf (headerOf b)) (callOf b i)
-  pub zeros : reserved b (sizeOf i) ≡ 0
+  pub fields : CallWithin (headerMinutes (headerAt b)) (recordAt b i)
+  pub zeros : reservedAt b (placeOf i) ≡ 0
 
 -- the key of record i is above the one before
 abbrev pub Above : List ℕ → ℕ → Type 0
 Above b zero = Unit {0}
-Above b (suc i) = keyOf (callOf b i) < keyOf (callOf b (suc i))
+Above b (suc i) = callKey (recordAt b i) < callKey (recordAt b (suc i))
 
 -- the header is good, and the length as the count says
 pub record Front (b : List ℕ) : Type 0 where
-  pub long : 16 ≤ length b
+  pub long : HasHeader b
   pub mark : Marked b
   pub version : Versioned b
   pub header : Headed b
   pub count : Counted b
 
 -- the records before record i are good
-abbrev pub Before : List ℕ → ℕ → Type 0
-Before b i = (j : ℕ) → j < i → Fielded b j × Above b j
+abbrev pub SoundBefore : List ℕ → ℕ → Type 0
+SoundBefore b i = (j : ℕ) → j < i → Fielded b j × Above b j
 
 -- the check: in the paper's order 1 (under 16 bytes), 2, 3, 4, 1 (length), then record by record 5, 6
 pub data Refusal (b : List ℕ) (v : Verdict) : Type 0 where
-  none : v ≡ accepted → Front b → Before b (countOf b) → Refusal b v
-  under-16 : v ≡ refuse 1 0 → length b < 16 → Refusal b v
-  no-mark : v ≡ refuse 2 0 → 16 ≤ length b → ¬ Marked b → Refusal b v
-  no-version : v ≡ refuse 3 0 → 16 ≤ length b → Marked b → ¬ Versioned b → Refusal b v
-  no-header : v ≡ refuse 4 0 → 16 ≤ length b → Marked b → Versioned b → ¬ Headed b → Refusal b v
-  no-count : v ≡ refuse 1 0 → 16 ≤ length b → Marked b → Versioned b → Headed b → ¬ Counted b → Refusal b v
-  no-field : (i : ℕ) → v ≡ refuse 5 i → Front b → i < countOf b → Before b i → ¬ Fielded b i → Refusal b v
-  no-rise : (i : ℕ) → v ≡ refuse 6 i → Front b → i < countOf b → Before b i → Fielded b i → ¬ Above b i → Refusal b v
+  none : v ≡ accepted → Front b → SoundBefore b (countAt b) → Refusal b v
+  under-16 : v ≡ refused 1 0 → length b < headerSize → Refusal b v
+  no-mark : v ≡ refused 2 0 → HasHeader b → ¬ Marked b → Refusal b v
+  no-version : v ≡ refused 3 0 → HasHeader b → Marked b → ¬ Versioned b → Refusal b v
+  no-header : v ≡ refused 4 0 → HasHeader b → Marked b → Versioned b → ¬ Headed b → Refusal b v
+  no-count : v ≡ refused 1 0 → HasHeader b → Marked b → Versioned b → Headed b → ¬ Counted b → Refusal b v
+  no-field : (i : ℕ) → v ≡ refused 5 i → Front b → i < countAt b → SoundBefore b i → ¬ Fielded b i → Refusal b v
+  no-rise : (i : ℕ) → v ≡ refused 6 i → Front b → i < countAt b → SoundBefore b i → Fielded b i → ¬ Above b i → Refusal b v
 
 -- writing a header and calls into so many bytes: 4, 5, 9, in turn
 pub data WriteRefusal (h : Header) (cs : List Call) (room n : ℕ) : Type 0 where
-  none : n ≡ 0 → Heading h → AllWithin (monthOf h) cs → sizeOf (length cs) ≤ room → WriteRefusal h cs room n
+  none : n ≡ 0 → Heading h → CallsWithin (headerMinutes h) cs → sizeOf (length cs) ≤ room → WriteRefusal h cs room n
   no-header : n ≡ 4 → ¬ Heading h → WriteRefusal h cs room n
-  no-field : n ≡ 5 → Heading h → ¬ AllWithin (monthOf h) cs → WriteRefusal h cs room n
-  no-room : n ≡ 9 → Heading h → AllWithin (monthOf h) cs → room < sizeOf (length cs) → WriteRefusal h cs room n
+  no-field : n ≡ 5 → Heading h → ¬ CallsWithin (headerMinutes h) cs → WriteRefusal h cs room n
+  no-room : n ≡ 9 → Heading h → CallsWithin (headerMinutes h) cs → room < sizeOf (length cs) → WriteRefusal h cs room n

@@ -4,33 +4,34 @@ use mathlib.Core.List.{List, [], _∷_}
 use Prim.Native.Nat.{ℕ, suc, _≤_}
 use lib.ListN.{length}
 use Rattle.call.specs.declared.Call.{Call}
-use Rattle.call.specs.Key.{keyOf}
-use Rattle.call.specs.Service.{Within}
+use Rattle.call.specs.Key.{callKey}
+use Rattle.call.specs.Service.{CallWithin}
 use Rattle.book.specs.declared.Header.{Header}
-use Rattle.book.specs.Book.{mostRecords, bookBytes}
-use Rattle.book.specs.Check.{monthOf}
+use Rattle.units.specs.Month.{monthsPerYear}
+use Rattle.book.specs.Book.{version, mostRecords, mostArea, firstYear, lastYear, bookBytes}
+use Rattle.book.specs.Check.{headerMinutes}
 
 -- area 1 to 99, year 2024 to 2099, month 1 to 12
 pub record Heading (h : Header) : Type 0 where
-  pub area : (1 ≤ h .area) × (h .area ≤ 99)
-  pub year : (2024 ≤ h .year) × (h .year ≤ 2099)
-  pub month : (1 ≤ h .month) × (h .month ≤ 12)
+  pub area : (1 ≤ h .area) × (h .area ≤ mostArea)
+  pub year : (firstYear ≤ h .year) × (h .year ≤ lastYear)
+  pub month : (1 ≤ h .month) × (h .month ≤ monthsPerYear)
 
 -- each call is within the limits, in a month of so many minutes
-abbrev pub AllWithin : ℕ → List Call → Type 0
-AllWithin minutes [] = Unit {0}
-AllWithin minutes (c ∷ cs) = Within minutes c × AllWithin minutes cs
+abbrev pub CallsWithin : ℕ → List Call → Type 0
+CallsWithin minutes [] = Unit {0}
+CallsWithin minutes (c ∷ cs) = CallWithin minutes c × CallsWithin minutes cs
 
 -- keys rise strictly, the first being `low` or above
 abbrev pub Rises : ℕ → List Call → Type 0
 Rises low [] = Unit {0}
-Rises low (c ∷ cs) = (low ≤ keyOf c) × Rises (suc (keyOf c)) cs
+Rises low (c ∷ cs) = (low ≤ callKey c) × Rises (suc (callKey c)) cs
 
 pub record Sound (b : List ℕ) : Type 0 where
   pub header : Header
   pub calls : List Call
   pub heading : Heading header
-  pub few : length calls ≤ mostRecords
-  pub within : AllWithin (monthOf header) calls
+  pub few : length calls ≤ mostRecords version
+  pub within : CallsWithin (headerMinutes header) calls
   pub rising : Rises 0 calls
-  pub bytes : b ≡ bookBytes header calls
+  pub bytes : b ≡ bookBytes version header calls

@@ -1,19 +1,36 @@
 // The call book: sixteen header bytes, then 32 for each record. Any bytes whatever are a sound book or are refused by number and place.
 use call::Call;
+use call::RECORD_SIZE;
 use call::layout::call_at;
+use call::layout::reserved_at;
 use le::u8_at;
 use le::u16_at;
 use le::u32_at;
-use units::month::minutes;
+use units::month::MONTHS_PER_YEAR;
+use units::month::minutes_of;
 ghost use mathlib.Core.Path.{_≡_};
-ghost use Prim.Native.Nat.{suc, _+_, _*_, _<_, _≤_};
+ghost use Prim.Native.Nat.{_<_, _≤_};
 ghost use lib.ListN.{length};
-ghost use Rattle.call.specs.Key.{keyOf};
-ghost use Rattle.call.specs.Layout.{reserved};
-ghost use Rattle.book.specs.Book.{sizeOf, headerOf, countOf, callOf, headerIn, callIn, noCall};
-ghost use Rattle.book.specs.Check.{refuse, marked, versioned, soundHeader, headed, soundRecord, judge, checkFrom, checkOf};
+ghost use Rattle.book.specs.Book.{mostRecords, sizeOf, placeOf, HasHeader, HasRecord};
+ghost use Rattle.book.specs.Book.{versionAt, headerAt, countAt, recordAt, headerOf, callOf, noCall};
+ghost use Rattle.book.specs.Check.{refused, isMarked, isVersioned, headerIsSound, isHeaded, isRecord, nextAt, turnAt, checkRecords, check};
+ghost use Rattle.book.specs.Inner.{wordLimit};
 
 pub mod write;
+
+// The bytes of a header, the one version there is, and the most records that a book of it may have.
+pub const HEADER_SIZE: usize = 16;
+
+pub const VERSION: u16 = 1;
+
+pub const MOST_RECORDS: usize = 512;
+
+// The ranges of area and year.
+pub const MOST_AREA: u8 = 99;
+
+pub const FIRST_YEAR: u16 = 2024;
+
+pub const LAST_YEAR: u16 = 2099;
 
 // Whose month a book is of.
 pub struct Header {
@@ -29,15 +46,45 @@ pub struct Verdict {
 }
 
 pub fn refused(number: u32, place: usize) -> Verdict
-    ensures { λ r. ⌜ r ≡ refuse number place ⌝ }
+    ensures { λ r. ⌜ r ≡ refused number place ⌝ }
 {
     Verdict { number, place }
 }
 
+// The most records that a book of a version may have.
+pub fn most_records(version: u16) -> usize
+    ensures { λ r. ⌜ r ≡ mostRecords version ⌝ }
+{
+    MOST_RECORDS
+}
+
+// How long a book of so many records is.
+pub fn size_of(n: usize) -> usize
+    requires { ⌜ sizeOf n < wordLimit ⌝ }
+    ensures { λ r. ⌜ r ≡ sizeOf n ⌝ }
+{
+    HEADER_SIZE + RECORD_SIZE * n
+}
+
+// Where record i lies.
+pub fn place_of(i: usize) -> usize
+    requires { ⌜ placeOf i < wordLimit ⌝ }
+    ensures { λ r. ⌜ r ≡ placeOf i ⌝ }
+{
+    HEADER_SIZE + RECORD_SIZE * i
+}
+
+fn version_at(b: &[u8]) -> u16
+    requires { ⌜ HasHeader (now b) ⌝ }
+    ensures { λ r. ⌜ r ≡ versionAt (now (b .entry)) ⌝ }
+{
+    u16_at(b, 4)
+}
+
 // What the header says, of at least sixteen bytes.
 pub fn header_at(b: &[u8]) -> Header
-    requires { ⌜ 16 ≤ length (now b) ⌝ }
-    ensures { λ r. ⌜ r ≡ headerOf (now (b .entry)) ⌝ }
+    requires { ⌜ HasHeader (now b) ⌝ }
+    ensures { λ r. ⌜ r ≡ headerAt (now (b .entry)) ⌝ }
 {
     let area = u8_at(b, 3);
     let year = u16_at(b, 6);
@@ -46,71 +93,64 @@ pub fn header_at(b: &[u8]) -> Header
 }
 
 pub fn count_at(b: &[u8]) -> usize
-    requires { ⌜ 16 ≤ length (now b) ⌝ }
-    ensures { λ r. ⌜ (r ≡ countOf (now (b .entry))) × (r < 65536) ⌝ }
+    requires { ⌜ HasHeader (now b) ⌝ }
+    ensures { λ r. ⌜ (r ≡ countAt (now (b .entry))) × (r < 65536) ⌝ }
 {
     u16_at(b, 10) as usize
 }
 
 // Record i, where the bytes have it.
 pub fn record_at(b: &[u8], i: usize) -> Call
-    requires { ⌜ 16 + 32 * i + 32 ≤ length (now b) ⌝ }
-    ensures { λ r. ⌜ r ≡ callOf (now (b .entry)) i ⌝ }
+    requires { ⌜ HasRecord (now b) i ⌝ }
+    ensures { λ r. ⌜ r ≡ recordAt (now (b .entry)) i ⌝ }
 {
-    call_at(b, 16 + 32 * i)
+    call_at(b, place_of(i))
 }
 
 fn is_marked(b: &[u8]) -> bool
-    requires { ⌜ 16 ≤ length (now b) ⌝ }
-    ensures { λ r. ⌜ r ≡ marked (now (b .entry)) ⌝ }
+    requires { ⌜ HasHeader (now b) ⌝ }
+    ensures { λ r. ⌜ r ≡ isMarked (now (b .entry)) ⌝ }
 {
     (b[0] == b'N') & (b[1] == b'W') & (b[2] == b'B')
 }
 
 fn is_versioned(b: &[u8]) -> bool
-    requires { ⌜ 16 ≤ length (now b) ⌝ }
-    ensures { λ r. ⌜ r ≡ versioned (now (b .entry)) ⌝ }
+    requires { ⌜ HasHeader (now b) ⌝ }
+    ensures { λ r. ⌜ r ≡ isVersioned (now (b .entry)) ⌝ }
 {
-    u16_at(b, 4) == 1
+    version_at(b) == VERSION
 }
 
 impl Header {
     pub fn is_sound(self) -> bool
-        ensures { λ r. ⌜ r ≡ soundHeader self ⌝ }
+        ensures { λ r. ⌜ r ≡ headerIsSound self ⌝ }
     {
         (1 <= self.area)
-            & (self.area <= 99)
-            & (2024 <= self.year)
-            & (self.year <= 2099)
+            & (self.area <= MOST_AREA)
+            & (FIRST_YEAR <= self.year)
+            & (self.year <= LAST_YEAR)
             & (1 <= self.month)
-            & (self.month <= 12)
+            & (self.month <= MONTHS_PER_YEAR)
     }
 }
 
 fn is_headed(b: &[u8]) -> bool
-    requires { ⌜ 16 ≤ length (now b) ⌝ }
-    ensures { λ r. ⌜ r ≡ headed (now (b .entry)) ⌝ }
+    requires { ⌜ HasHeader (now b) ⌝ }
+    ensures { λ r. ⌜ r ≡ isHeaded (now (b .entry)) ⌝ }
 {
     let fields = header_at(b).is_sound();
     let zero = u8_at(b, 9);
     let n = count_at(b);
+    let most = most_records(version_at(b));
     let zeros = u32_at(b, 12);
-    fields & (zero == 0) & (n <= 512) & (zeros == 0)
-}
-
-// The last four bytes of record i.
-fn reserved_at(b: &[u8], i: usize) -> u32
-    requires { ⌜ 16 + 32 * i + 32 ≤ length (now b) ⌝ }
-    ensures { λ r. ⌜ r ≡ reserved (now (b .entry)) (sizeOf i) ⌝ }
-{
-    u32_at(b, 16 + 32 * i + 28)
+    fields & (zero == 0) & (n <= most) & (zeros == 0)
 }
 
 fn is_record(b: &[u8], i: usize, minutes: u32) -> bool
-    requires { ⌜ 16 + 32 * i + 32 ≤ length (now b) ⌝ }
-    ensures { λ r. ⌜ r ≡ soundRecord minutes (now (b .entry)) i ⌝ }
+    requires { ⌜ HasRecord (now b) i ⌝ }
+    ensures { λ r. ⌜ r ≡ isRecord minutes (now (b .entry)) i ⌝ }
 {
-    if reserved_at(b, i) != 0 {
+    if reserved_at(b, place_of(i)) != 0 {
         return false;
     }
     let x = record_at(b, i);
@@ -119,47 +159,47 @@ fn is_record(b: &[u8], i: usize, minutes: u32) -> bool
 
 // The lowest key that the record after record i may have.
 fn next_at(b: &[u8], i: usize) -> u64
-    requires { ⌜ 16 + 32 * i + 32 ≤ length (now b) ⌝ }
-    ensures { λ r. ⌜ r ≡ suc (keyOf (callOf (now (b .entry)) i)) ⌝ }
+    requires { ⌜ HasRecord (now b) i ⌝ }
+    ensures { λ r. ⌜ r ≡ nextAt (now (b .entry)) i ⌝ }
 {
     let x = record_at(b, i);
     x.key() + 1
 }
 
 // What a record's turn gives: 5, 6 or 0, and the lowest key that the next record may have.
-pub struct Turn {
+pub struct RecordTurn {
     pub number: u32,
     pub low: u64,
 }
 
 // The key is read once the record is known to be sound, so that the tests before it do not have to keep it.
-fn turn_at(b: &[u8], i: usize, minutes: u32, low: u64) -> Turn
-    requires { ⌜ 16 + 32 * i + 32 ≤ length (now b) ⌝ }
-    ensures { λ r. ⌜ (r .number ≡ judge minutes (now (b .entry)) low i) × (r .low ≡ suc (keyOf (callOf (now (b .entry)) i))) ⌝ }
+fn turn_at(b: &[u8], i: usize, minutes: u32, low: u64) -> RecordTurn
+    requires { ⌜ HasRecord (now b) i ⌝ }
+    ensures { λ r. ⌜ r ≡ turnAt minutes (now (b .entry)) low i ⌝ }
 {
     if !is_record(b, i, minutes) {
         let after = next_at(b, i);
-        return Turn {
+        return RecordTurn {
             number: 5,
             low: after,
         };
     }
     let next = next_at(b, i);
     if next <= low {
-        return Turn {
+        return RecordTurn {
             number: 6,
             low: next,
         };
     }
-    Turn {
+    RecordTurn {
         number: 0,
         low: next,
     }
 }
 
 fn check_records(b: &[u8], n: usize, minutes: u32) -> Verdict
-    requires { ⌜ 16 + 32 * n ≤ length (now b) ⌝ }
-    ensures { λ r. ⌜ r ≡ checkFrom minutes (now (b .entry)) 0 0 n ⌝ }
+    requires { ⌜ sizeOf n ≤ length (now b) ⌝ }
+    ensures { λ r. ⌜ r ≡ checkRecords minutes (now (b .entry)) 0 0 n ⌝ }
 {
     let mut i = 0;
     let mut low: u64 = 0;
@@ -177,9 +217,9 @@ fn check_records(b: &[u8], n: usize, minutes: u32) -> Verdict
 
 // The whole check, in the paper's order.
 pub fn check(b: &[u8]) -> Verdict
-    ensures { λ r. ⌜ r ≡ checkOf (now (b .entry)) ⌝ }
+    ensures { λ r. ⌜ r ≡ check (now (b .entry)) ⌝ }
 {
-    if b.len() < 16 {
+    if b.len() < HEADER_SIZE {
         return refused(1, 0);
     }
     if !is_marked(b) {
@@ -192,18 +232,18 @@ pub fn check(b: &[u8]) -> Verdict
         return refused(4, 0);
     }
     let n = count_at(b);
-    if b.len() != 16 + 32 * n {
+    if b.len() != size_of(n) {
         return refused(1, 0);
     }
     let h = header_at(b);
-    check_records(b, n, minutes(h.year, h.month))
+    check_records(b, n, minutes_of(h.year, h.month))
 }
 
 // The header of a book, of any bytes: zeros where they are too few.
 pub fn header_of(b: &[u8]) -> Header
-    ensures { λ r. ⌜ r ≡ headerIn (now (b .entry)) ⌝ }
+    ensures { λ r. ⌜ r ≡ headerOf (now (b .entry)) ⌝ }
 {
-    if b.len() < 16 {
+    if b.len() < HEADER_SIZE {
         return Header {
             area: 0,
             year: 0,
@@ -215,12 +255,12 @@ pub fn header_of(b: &[u8]) -> Header
 
 // The call at an index of a book, of any bytes: zeros where they do not reach so far.
 pub fn call_of(b: &[u8], i: usize) -> Call
-    ensures { λ r. ⌜ r ≡ callIn (now (b .entry)) i ⌝ }
+    ensures { λ r. ⌜ r ≡ callOf (now (b .entry)) i ⌝ }
 {
-    if b.len() < 16 {
+    if b.len() < HEADER_SIZE {
         return no_call();
     }
-    if (b.len() - 16) / 32 <= i {
+    if (b.len() - HEADER_SIZE) / RECORD_SIZE <= i {
         return no_call();
     }
     record_at(b, i)

@@ -1,22 +1,20 @@
 // Writing a book of none or of one: 4, 5, 9, else the book at the start of the output; bytes behind it stay.
+use crate::HEADER_SIZE;
 use crate::Header;
+use crate::VERSION;
+use crate::size_of;
 use call::Call;
 use call::layout::put_call;
 use le::put_u8;
 use le::put_u16;
 use le::put_u32;
-use units::month::minutes;
+use units::month::minutes_of;
 ghost use mathlib.Core.Path.{_≡_};
-ghost use mathlib.Core.Bool.{cond, not};
 ghost use mathlib.Core.List.{[], _∷_};
-ghost use Prim.Native.Nat.{_≤_};
-ghost use lib.Dec.{ltb};
-ghost use lib.ListN.{length};
 ghost use Rattle.le.specs.Le.{Stores};
 ghost use Rattle.call.specs.Layout.{callBytes};
-ghost use Rattle.book.specs.Book.{markBytes, dateBytes, countBytes, headBytes};
-ghost use Rattle.book.specs.Check.{soundHeader};
-ghost use Rattle.book.specs.Write.{outcome, writing};
+ghost use Rattle.book.specs.Book.{version, headerSize, HasHeader, HasRecord, markBytes, dateBytes, countBytes, headBytes};
+ghost use Rattle.book.specs.Write.{fault, bookOutcome, writing};
 
 // What a writer answers: a refusal's number and place, and zero; or zeros, and the length of the book.
 pub struct Written {
@@ -26,7 +24,7 @@ pub struct Written {
 }
 
 fn put_mark(out: &mut [u8], h: Header)
-    requires { ⌜ 16 ≤ length (now out) ⌝ }
+    requires { ⌜ HasHeader (now out) ⌝ }
     ensures { λ _. ⌜ Stores (now (out .entry)) 0 (markBytes h) (now (out .exit)) ⌝ }
 {
     put_u8(out, 0, b'N');
@@ -36,17 +34,17 @@ fn put_mark(out: &mut [u8], h: Header)
 }
 
 fn put_date(out: &mut [u8], h: Header)
-    requires { ⌜ 16 ≤ length (now out) ⌝ }
-    ensures { λ _. ⌜ Stores (now (out .entry)) 4 (dateBytes h) (now (out .exit)) ⌝ }
+    requires { ⌜ HasHeader (now out) ⌝ }
+    ensures { λ _. ⌜ Stores (now (out .entry)) 4 (dateBytes version h) (now (out .exit)) ⌝ }
 {
-    put_u16(out, 4, 1);
+    put_u16(out, 4, VERSION);
     put_u16(out, 6, h.year);
     put_u8(out, 8, h.month);
     put_u8(out, 9, 0);
 }
 
 fn put_count(out: &mut [u8], n: u16)
-    requires { ⌜ 16 ≤ length (now out) ⌝ }
+    requires { ⌜ HasHeader (now out) ⌝ }
     ensures { λ _. ⌜ Stores (now (out .entry)) 10 (countBytes n) (now (out .exit)) ⌝ }
 {
     put_u16(out, 10, n);
@@ -55,8 +53,8 @@ fn put_count(out: &mut [u8], n: u16)
 
 // The sixteen header bytes.
 pub fn put_header(out: &mut [u8], h: Header, n: u16)
-    requires { ⌜ 16 ≤ length (now out) ⌝ }
-    ensures { λ _. ⌜ Stores (now (out .entry)) 0 (headBytes h n) (now (out .exit)) ⌝ }
+    requires { ⌜ HasHeader (now out) ⌝ }
+    ensures { λ _. ⌜ Stores (now (out .entry)) 0 (headBytes version h n) (now (out .exit)) ⌝ }
 {
     put_mark(out, h);
     put_date(out, h);
@@ -65,14 +63,14 @@ pub fn put_header(out: &mut [u8], h: Header, n: u16)
 
 // The record behind the header: the part of the output from byte 16 on is lent to the record writer.
 fn put_first(out: &mut [u8], x: Call)
-    requires { ⌜ 48 ≤ length (now out) ⌝ }
-    ensures { λ _. ⌜ Stores (now (out .entry)) 16 (callBytes x) (now (out .exit)) ⌝ }
+    requires { ⌜ HasRecord (now out) 0 ⌝ }
+    ensures { λ _. ⌜ Stores (now (out .entry)) headerSize (callBytes x) (now (out .exit)) ⌝ }
 {
-    put_call(&mut out[16..], 0, x);
+    put_call(&mut out[HEADER_SIZE..], 0, x);
 }
 
 fn fault(h: Header, sound: bool, size: usize, room: usize) -> u32
-    ensures { λ r. ⌜ r ≡ cond (not (soundHeader h)) 4 (cond (not sound) 5 (cond (ltb room size) 9 0)) ⌝ }
+    ensures { λ r. ⌜ r ≡ fault h sound size room ⌝ }
 {
     if !h.is_sound() {
         return 4;
@@ -88,9 +86,9 @@ fn fault(h: Header, sound: bool, size: usize, room: usize) -> u32
 
 // A book of none.
 pub fn write_none(h: Header, out: &mut [u8]) -> Written
-    ensures { λ r. ⌜ outcome r (now (out .exit)) ≡ writing h [] (now (out .entry)) ⌝ }
+    ensures { λ r. ⌜ bookOutcome r (now (out .exit)) ≡ writing h [] (now (out .entry)) ⌝ }
 {
-    let number = fault(h, true, 16, out.len());
+    let number = fault(h, true, HEADER_SIZE, out.len());
     if number != 0 {
         return Written {
             number,
@@ -102,16 +100,17 @@ pub fn write_none(h: Header, out: &mut [u8]) -> Written
     Written {
         number: 0,
         place: 0,
-        length: 16,
+        length: HEADER_SIZE,
     }
 }
 
 // A book of one.
 pub fn write_one(h: Header, x: Call, out: &mut [u8]) -> Written
-    ensures { λ r. ⌜ outcome r (now (out .exit)) ≡ writing h (x ∷ []) (now (out .entry)) ⌝ }
+    ensures { λ r. ⌜ bookOutcome r (now (out .exit)) ≡ writing h (x ∷ []) (now (out .entry)) ⌝ }
 {
-    let sound = x.is_sound(minutes(h.year, h.month));
-    let refusal = fault(h, sound, 48, out.len());
+    let sound = x.is_sound(minutes_of(h.year, h.month));
+    let size = size_of(1);
+    let refusal = fault(h, sound, size, out.len());
     if refusal != 0 {
         return Written {
             number: refusal,
@@ -124,6 +123,6 @@ pub fn write_one(h: Header, x: Call, out: &mut [u8]) -> Written
     Written {
         number: 0,
         place: 0,
-        length: 48,
+        length: size,
     }
 }

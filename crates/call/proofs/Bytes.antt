@@ -11,7 +11,7 @@ use mir.Val.{toZ, ofZ, SFits}
 use mir.ValLaws.{toZ-ofZ, ofZ-toZ, ofZ-fits}
 use Rattle.le.specs.Le.{leAt, leBytes, IsBytes}
 use Rattle.le.proofs.Laws.{back, again, bytesAt, cat, split, leAt-append, leAt-drop, leAt-fits, bytes-drop}
-use Rattle.call.specs.Layout.{callAt, reserved, keyBytes, timeBytes, termBytes, callBytes}
+use Rattle.call.specs.Layout.{callAt, reservedAt, keyBytes, timeBytes, termBytes, callBytes}
 use Rattle.call.specs.declared.Call.{Call}
 
 -- each field fits its bytes
@@ -48,7 +48,7 @@ call-back c t s =
       c = back 4 (c .c) [] (s .most-c) i;
     }
 
-pub reserved-back : (c : Call) (t : List ℕ) → reserved (callBytes c ++ t) 0 ≡ 0
+pub reserved-back : (c : Call) (t : List ℕ) → reservedAt (callBytes c ++ t) 0 ≡ 0
 unfolding callBytes keyBytes timeBytes termBytes leAt leBytes
 reserved-back c t = refl
 
@@ -88,7 +88,7 @@ call-drop s at =
     }
 
 -- what was read is written again, where the last four bytes are zero
-pub bytes-again : (s : List ℕ) → IsBytes s → reserved s 0 ≡ 0 → callBytes (callAt s 0) ≡ bytesAt s 0 32
+pub bytes-again : (s : List ℕ) → IsBytes s → reservedAt s 0 ≡ 0 → callBytes (callAt s 0) ≡ bytesAt s 0 32
 unfolding callAt callBytes keyBytes timeBytes termBytes bytesAt
 bytes-again s h z =
     let field : (w o : ℕ) → leBytes w (leAt s o w) ≡ bytesAt s o w = λ w o. again w s o h in
@@ -99,10 +99,10 @@ bytes-again s h z =
     (cat (cat (cat a (field 4 20)) (field 4 24)) zeros)
 
 -- the bytes of a record that was read are those it was read from
-pub record-again : (b : List ℕ) → IsBytes b → (o : ℕ) → o + 32 ≤ length b → reserved b o ≡ 0 → drop o b ≡ callBytes (callAt b o) ++ drop (o + 32) b
+pub record-again : (b : List ℕ) → IsBytes b → (o : ℕ) → o + 32 ≤ length b → reservedAt b o ≡ 0 → drop o b ≡ callBytes (callAt b o) ++ drop (o + 32) b
 record-again b h o l z =
     let s = drop o b in
-    let r : reserved s 0 ≡ 0 = leAt-drop 4 b o 28 ∙ z in
+    let r : reservedAt s 0 ≡ 0 = leAt-drop 4 b o 28 ∙ z in
     split 32 s 0 (omega (arith, length-drop o b)) ∙ cat (sym (bytes-again s (bytes-drop b h o) r) ∙ ap callBytes (call-drop b o)) (drop-drop 32 o b)
 
 -- the numbers of a record that was read fit 32 bits

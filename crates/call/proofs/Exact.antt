@@ -3,7 +3,7 @@ use mathlib.Core.Path.{_≡_, refl, sym, _∙_, ap, subst}
 use mathlib.Core.Bool.{Bool, true, false, not, _&&_, _||_, true≢false}
 use mathlib.Core.List.{List, [], _∷_}
 use mathlib.Core.Logic.{_⊎_, inl, inr, ⊎-elim, _↔_}
-use Prim.Native.Nat.{ℕ, zero, suc, _+_, _%_, _≤_, _<_}
+use Prim.Native.Nat.{ℕ, zero, suc, _+_, _-_, _%_, _≤_, _<_, zero-le}
 use native.Mathlib.Omega.{arith}
 use native.Mathlib.Decide.{ℕ-discrete}
 use lib.Dec.{eqb, leb, lit≤}
@@ -11,15 +11,20 @@ use lib.IntN.{ℤ, pos, negsuc, natAbs}
 use lib.Signed.{leZ, mag}
 use borrow.Author.Tests.{leb-true, le-leb, eqb-true, eq-eqb}
 use Rattle.le.proofs.Tests.{each, all}
-use Rattle.call.specs.Limits.{table, limitsOf, allows, soundCall}
-use Rattle.call.specs.Service.{Window, NoTime, Row, deep-peak, reserve, start-stop, standby, black-start, agc-availability, agc-contribution, frequency-event, avc, stability-trip, Blank, Stated, is-live, is-contested, is-withdrawn, Within}
+use Rattle.call.specs.Limits.{table, limitsOf, limitsAllow, callIsSound}
+use Rattle.units.specs.Month.{minutesPerQuarter, mostMinutes}
+use Rattle.call.specs.Revising.{live, contested, withdrawn}
+use Rattle.call.specs.Services.{mostParticipant, mostCalled, mostMoved, leastMoved, any, stabilityTrip}
+use Rattle.call.specs.Service.{Window, NoTime, Blank, Stated, is-live, is-contested, is-withdrawn, CallWithin}
+use Rattle.call.specs.Service.{ServiceRow, is-deep-peak, is-reserve, is-start-stop, is-standby, is-black-start}
+use Rattle.call.specs.Service.{is-agc-availability, is-agc-contribution, is-frequency-event, is-avc, is-stability-trip}
 use Rattle.call.specs.declared.Call.{Call}
 use Rattle.call.specs.declared.service.Limits.{Limits}
 use Rattle.call.proofs.Bytes.{Sized}
 
 -- The tests of a row, as facts
 record Allowed (l : Limits) (c : Call) : Type 0 where
-  quarters : l .quarters ≡ true → (c .start % 15 ≡ 0) × (c .length % 15 ≡ 0)
+  quarters : l .quarters ≡ true → (c .start % minutesPerQuarter ≡ 0) × (c .length % minutesPerQuarter ≡ 0)
   latest : c .start ≤ l .latest
   shortest : l .shortest ≤ c .length
   longest : c .length ≤ l .longest
@@ -40,20 +45,20 @@ quarters-on false t u h = refl
 
 module _ (l : Limits) (c : Call) where
   abbrev quarter : Bool
-  quarter = not (l .quarters) || eqb (c .start % 15) 0 && eqb (c .length % 15) 0
+  quarter = not (l .quarters) || eqb (c .start % minutesPerQuarter) 0 && eqb (c .length % minutesPerQuarter) 0
 
   abbrev bounds : List Bool
   bounds =
       leb (c .start) (l .latest) ∷ leb (l .shortest) (c .length) ∷ leb (c .length) (l .longest) ∷ leZ (l .low) (c .a) ∷ leZ (c .a) (l .high)
       ∷ leb (c .b) (l .b) ∷ leb (c .c) (l .c) ∷ []
 
-  allowed : allows l c ≡ true → Allowed l c
-  unfolding allows
+  allowed : limitsAllow l c ≡ true → Allowed l c
+  unfolding limitsAllow
   allowed h =
       let p = each quarter bounds h in
       let q = p .1 in
       record {
-        quarters = λ e. let g = on-quarters (l .quarters) (eqb (c .start % 15) 0) (eqb (c .length % 15) 0) (p .0) e in (eqb-true _ _ (g .0), eqb-true _ _ (g .1));
+        quarters = λ e. let g = on-quarters (l .quarters) (eqb (c .start % minutesPerQuarter) 0) (eqb (c .length % minutesPerQuarter) 0) (p .0) e in (eqb-true _ _ (g .0), eqb-true _ _ (g .1));
         latest = leb-true _ _ (q .0);
         shortest = leb-true _ _ (q .1 .0);
         longest = leb-true _ _ (q .1 .1 .0);
@@ -63,11 +68,11 @@ module _ (l : Limits) (c : Call) where
         most-c = leb-true _ _ (q .1 .1 .1 .1 .1 .1 .0);
       }
 
-  allowing : Allowed l c → allows l c ≡ true
-  unfolding allows
+  allowing : Allowed l c → limitsAllow l c ≡ true
+  unfolding limitsAllow
   allowing t =
       all quarter bounds (
-        quarters-on (l .quarters) (eqb (c .start % 15) 0) (eqb (c .length % 15) 0) (λ e. let g = t .quarters e in (eq-eqb _ _ (g .0), eq-eqb _ _ (g .1))),
+        quarters-on (l .quarters) (eqb (c .start % minutesPerQuarter) 0) (eqb (c .length % minutesPerQuarter) 0) (λ e. let g = t .quarters e in (eq-eqb _ _ (g .0), eq-eqb _ _ (g .1))),
         (le-leb _ _ (t .latest), (le-leb _ _ (t .shortest), (le-leb _ _ (t .longest), (t .low, (t .high, (le-leb _ _ (t .most-b), (le-leb _ _ (t .most-c), tt))))))),
       )
 
@@ -79,9 +84,9 @@ some-a (negsuc n) k l h = absurd (true≢false (sym l))
 no-a : (a : ℤ) → leZ (pos 0) a ≡ true → leZ a (pos 0) ≡ true → a ≡ pos 0
 no-a a l h = let p = some-a a 0 l h in let z : p .0 ≡ 0 = omega (arith, p .2) in p .1 ∙ ap pos z
 
-swing : (a : ℤ) → leZ (negsuc 999999999) a ≡ true → leZ a (pos 1000000000) ≡ true → natAbs a ≤ 1000000000
-swing (pos n) l h = leb-true n 1000000000 h
-swing (negsuc n) l h = let e = leb-true n 999999999 l in omega arith
+swing : (a : ℤ) → leZ leastMoved a ≡ true → leZ a (pos mostMoved) ≡ true → natAbs a ≤ mostMoved
+swing (pos n) l h = leb-true n mostMoved h
+swing (negsuc n) l h = let e = leb-true n (mostMoved - 1) l in omega arith
 
 none : (n : ℕ) → n ≤ 0 → n ≡ 0
 none n h = omega arith
@@ -91,28 +96,28 @@ module _ (c : Call) where
   abbrev At : ℕ → Type 0
   At s = Allowed (limitsOf s) c
 
-  window : c .start % 15 ≡ 0 → c .length % 15 ≡ 0 → 15 ≤ c .length → Window c
+  window : c .start % minutesPerQuarter ≡ 0 → c .length % minutesPerQuarter ≡ 0 → minutesPerQuarter ≤ c .length → Window c
   window p q r = record { starts = p; lasts = q; shortest = r }
 
   no-time : c .start ≤ 0 → c .length ≤ 0 → NoTime c
   no-time p q = record { no-start = none _ p; no-length = none _ q }
 
-  row-of : (s : ℕ) → c .service ≡ s → 1 ≤ s → At s → Row c
+  row-of : (s : ℕ) → c .service ≡ s → 1 ≤ s → At s → ServiceRow c
   unfolding limitsOf table
   row-of zero e h t = absurd (omega arith)
-  row-of (suc zero) e h t = let q = t .quarters refl in deep-peak e (window (q .0) (q .1) (t .shortest)) (no-a _ (t .low) (t .high)) (none _ (t .most-b)) (none _ (t .most-c))
+  row-of (suc zero) e h t = let q = t .quarters refl in is-deep-peak e (window (q .0) (q .1) (t .shortest)) (no-a _ (t .low) (t .high)) (none _ (t .most-b)) (none _ (t .most-c))
   row-of (suc (suc zero)) e h t =
       let q = t .quarters refl in
-      let a = some-a _ 4000000 (t .low) (t .high) in
-      reserve e (window (q .0) (q .1) (t .shortest)) (a .0) (a .1) (a .2) (none _ (t .most-b)) (none _ (t .most-c))
-  row-of (suc (suc (suc zero))) e h t = start-stop e (t .shortest) (no-a _ (t .low) (t .high)) (none _ (t .most-b)) (none _ (t .most-c))
-  row-of (suc (suc (suc (suc zero)))) e h t = standby e (t .shortest) (no-a _ (t .low) (t .high)) (none _ (t .most-b)) (none _ (t .most-c))
-  row-of (suc (suc (suc (suc (suc zero))))) e h t = black-start e (no-time (t .latest) (t .longest)) (no-a _ (t .low) (t .high)) (none _ (t .most-b)) (none _ (t .most-c))
-  row-of (suc (suc (suc (suc (suc (suc zero)))))) e h t = agc-availability e (no-time (t .latest) (t .longest)) (no-a _ (t .low) (t .high)) (t .most-b) (none _ (t .most-c))
-  row-of (suc (suc (suc (suc (suc (suc (suc zero))))))) e h t = agc-contribution e (no-time (t .latest) (t .longest)) (no-a _ (t .low) (t .high)) (t .most-b) (none _ (t .most-c))
-  row-of (suc (suc (suc (suc (suc (suc (suc (suc zero)))))))) e h t = frequency-event e (swing (c .a) (t .low) (t .high)) (t .most-b) (t .most-c)
-  row-of (suc (suc (suc (suc (suc (suc (suc (suc (suc zero))))))))) e h t = avc e (none _ (t .latest)) (no-a _ (t .low) (t .high)) (t .most-b) (t .most-c)
-  row-of (suc (suc (suc (suc (suc (suc (suc (suc (suc (suc zero)))))))))) e h t = stability-trip e (none _ (t .longest)) (no-a _ (t .low) (t .high)) (none _ (t .most-b)) (none _ (t .most-c))
+      let a = some-a _ mostCalled (t .low) (t .high) in
+      is-reserve e (window (q .0) (q .1) (t .shortest)) (a .0) (a .1) (a .2) (none _ (t .most-b)) (none _ (t .most-c))
+  row-of (suc (suc (suc zero))) e h t = is-start-stop e (t .shortest) (no-a _ (t .low) (t .high)) (none _ (t .most-b)) (none _ (t .most-c))
+  row-of (suc (suc (suc (suc zero)))) e h t = is-standby e (t .shortest) (no-a _ (t .low) (t .high)) (none _ (t .most-b)) (none _ (t .most-c))
+  row-of (suc (suc (suc (suc (suc zero))))) e h t = is-black-start e (no-time (t .latest) (t .longest)) (no-a _ (t .low) (t .high)) (none _ (t .most-b)) (none _ (t .most-c))
+  row-of (suc (suc (suc (suc (suc (suc zero)))))) e h t = is-agc-availability e (no-time (t .latest) (t .longest)) (no-a _ (t .low) (t .high)) (t .most-b) (none _ (t .most-c))
+  row-of (suc (suc (suc (suc (suc (suc (suc zero))))))) e h t = is-agc-contribution e (no-time (t .latest) (t .longest)) (no-a _ (t .low) (t .high)) (t .most-b) (none _ (t .most-c))
+  row-of (suc (suc (suc (suc (suc (suc (suc (suc zero)))))))) e h t = is-frequency-event e (swing (c .a) (t .low) (t .high)) (t .most-b) (t .most-c)
+  row-of (suc (suc (suc (suc (suc (suc (suc (suc (suc zero))))))))) e h t = is-avc e (none _ (t .latest)) (no-a _ (t .low) (t .high)) (t .most-b) (t .most-c)
+  row-of (suc (suc (suc (suc (suc (suc (suc (suc (suc (suc zero)))))))))) e h t = is-stability-trip e (none _ (t .longest)) (no-a _ (t .low) (t .high)) (none _ (t .most-b)) (none _ (t .most-c))
   row-of (suc (suc (suc (suc (suc (suc (suc (suc (suc (suc (suc s))))))))))) e h t = absurd (let p = t .shortest in let q = t .longest in omega arith)
 
   blank-of : c .service ≡ 0 → At 0 → Blank c
@@ -120,48 +125,55 @@ module _ (c : Call) where
   blank-of e t = record { service = e; time = no-time (t .latest) (t .longest); no-a = no-a _ (t .low) (t .high); no-b = none _ (t .most-b); no-c = none _ (t .most-c) }
 
 -- and back
-fits-any : (c : Call) (m : ℕ) → m ≤ 44640 → c .start + c .length ≤ m → (c .start ≤ 65535) × (c .length ≤ 65535)
+fits-any : (c : Call) (m : ℕ) → m ≤ mostMinutes → c .start + c .length ≤ m → (c .start ≤ any) × (c .length ≤ any)
 fits-any c m k h = (omega arith, omega arith)
 
-from-a : (a : ℤ) (n k : ℕ) → a ≡ pos n → n ≤ k → (leZ (pos 0) a ≡ true) × (leZ a (pos k) ≡ true)
-from-a a n k e h = (ap (λ (z : ℤ). leZ (pos 0) z) e ∙ le-leb 0 n (omega arith), ap (λ (z : ℤ). leZ z (pos k)) e ∙ le-leb n k h)
+from-a : {a : ℤ} (n k : ℕ) → a ≡ pos n → n ≤ k → (leZ (pos 0) a ≡ true) × (leZ a (pos k) ≡ true)
+from-a n k e h = (ap (λ (z : ℤ). leZ (pos 0) z) e ∙ le-leb 0 n zero-le, ap (λ (z : ℤ). leZ z (pos k)) e ∙ le-leb n k h)
 
-from-swing : (a : ℤ) → natAbs a ≤ 1000000000 → (leZ (negsuc 999999999) a ≡ true) × (leZ a (pos 1000000000) ≡ true)
-from-swing (pos n) h = (refl, le-leb n 1000000000 h)
-from-swing (negsuc n) h = let k : suc n ≤ 1000000000 = h in (le-leb n 999999999 (omega arith), refl)
+zero-a : {a : ℤ} → a ≡ pos 0 → (leZ (pos 0) a ≡ true) × (leZ a (pos 0) ≡ true)
+zero-a e = from-a 0 0 e (lit≤ tt)
 
-never : false ≡ true → {A : Type 0} → A
+from-swing : (a : ℤ) → natAbs a ≤ mostMoved → (leZ leastMoved a ≡ true) × (leZ a (pos mostMoved) ≡ true)
+from-swing (pos n) h = (refl, le-leb n mostMoved h)
+from-swing (negsuc n) h = let k : suc n ≤ mostMoved = h in (le-leb n (mostMoved - 1) (omega arith), refl)
+
+never : {A : Type 0} → false ≡ true → A
 never e = absurd (true≢false (sym e))
 
-at-most : (n k : ℕ) → n ≡ 0 → n ≤ k
-at-most n k e = omega arith
+at-most : {n k : ℕ} → n ≡ 0 → n ≤ k
+at-most e = omega arith
 
-module _ (c : Call) (start : c .start ≤ 65535) (long : c .length ≤ 65535) where
+-- a row's tests, in its order: quarters, start, length from and to, a, b, c
+tests : (c : Call) (l : Limits) → (l .quarters ≡ true → (c .start % minutesPerQuarter ≡ 0) × (c .length % minutesPerQuarter ≡ 0)) → c .start ≤ l .latest → l .shortest ≤ c .length
+    → c .length ≤ l .longest → (leZ (l .low) (c .a) ≡ true) × (leZ (c .a) (l .high) ≡ true) → c .b ≤ l .b → c .c ≤ l .c → Allowed l c
+tests c l q s f t a b d = record { quarters = q; latest = s; shortest = f; longest = t; low = a .0; high = a .1; most-b = b; most-c = d }
+
+module _ (c : Call) (start : c .start ≤ any) (long : c .length ≤ any) where
   abbrev Meets : Type 0
-  Meets = (1 ≤ c .service) × (allows (limitsOf (c .service)) c ≡ true)
+  Meets = (1 ≤ c .service) × (limitsAllow (limitsOf (c .service)) c ≡ true)
 
   meets : (k : ℕ) → c .service ≡ k → 1 ≤ k → Allowed (limitsOf k) c → Meets
-  meets k e h t = (rw e h, subst (λ (s : ℕ). allows (limitsOf s) c ≡ true) (sym e) (allowing (limitsOf k) c t))
+  meets k e h t = (rw e h, subst (λ (s : ℕ). limitsAllow (limitsOf s) c ≡ true) (sym e) (allowing (limitsOf k) c t))
 
-  row-meets : Row c → Meets
+  row-meets : ServiceRow c → Meets
   unfolding limitsOf table
-  row-meets (deep-peak e w a b d) = let z = from-a _ 0 0 a (lit≤ tt) in meets 1 e (lit≤ tt) (record { quarters = λ x. (w .starts, w .lasts); latest = start; shortest = w .shortest; longest = long; low = z .0; high = z .1; most-b = at-most _ _ b; most-c = at-most _ _ d })
-  row-meets (reserve e w n a k b d) = let z = from-a _ n 4000000 a k in meets 2 e (lit≤ tt) (record { quarters = λ x. (w .starts, w .lasts); latest = start; shortest = w .shortest; longest = long; low = z .0; high = z .1; most-b = at-most _ _ b; most-c = at-most _ _ d })
-  row-meets (start-stop e l a b d) = let z = from-a _ 0 0 a (lit≤ tt) in meets 3 e (lit≤ tt) (record { quarters = λ x. never x; latest = start; shortest = l; longest = long; low = z .0; high = z .1; most-b = at-most _ _ b; most-c = at-most _ _ d })
-  row-meets (standby e l a b d) = let z = from-a _ 0 0 a (lit≤ tt) in meets 4 e (lit≤ tt) (record { quarters = λ x. never x; latest = start; shortest = l; longest = long; low = z .0; high = z .1; most-b = at-most _ _ b; most-c = at-most _ _ d })
-  row-meets (black-start e w a b d) = let z = from-a _ 0 0 a (lit≤ tt) in meets 5 e (lit≤ tt) (record { quarters = λ x. never x; latest = at-most _ _ (w .no-start); shortest = omega arith; longest = at-most _ _ (w .no-length); low = z .0; high = z .1; most-b = at-most _ _ b; most-c = at-most _ _ d })
-  row-meets (agc-availability e w a b d) = let z = from-a _ 0 0 a (lit≤ tt) in meets 6 e (lit≤ tt) (record { quarters = λ x. never x; latest = at-most _ _ (w .no-start); shortest = omega arith; longest = at-most _ _ (w .no-length); low = z .0; high = z .1; most-b = b; most-c = at-most _ _ d })
-  row-meets (agc-contribution e w a b d) = let z = from-a _ 0 0 a (lit≤ tt) in meets 7 e (lit≤ tt) (record { quarters = λ x. never x; latest = at-most _ _ (w .no-start); shortest = omega arith; longest = at-most _ _ (w .no-length); low = z .0; high = z .1; most-b = b; most-c = at-most _ _ d })
-  row-meets (frequency-event e a b d) = let z = from-swing (c .a) a in meets 8 e (lit≤ tt) (record { quarters = λ x. never x; latest = start; shortest = omega arith; longest = long; low = z .0; high = z .1; most-b = b; most-c = d })
-  row-meets (avc e s a b d) = let z = from-a _ 0 0 a (lit≤ tt) in meets 9 e (lit≤ tt) (record { quarters = λ x. never x; latest = at-most _ _ s; shortest = omega arith; longest = long; low = z .0; high = z .1; most-b = b; most-c = d })
-  row-meets (stability-trip e l a b d) = let z = from-a _ 0 0 a (lit≤ tt) in meets 10 e (lit≤ tt) (record { quarters = λ x. never x; latest = start; shortest = omega arith; longest = at-most _ _ l; low = z .0; high = z .1; most-b = at-most _ _ b; most-c = at-most _ _ d })
+  row-meets (is-deep-peak e w a b d) = meets 1 e (lit≤ tt) (tests c _ (λ x. (w .starts, w .lasts)) start (w .shortest) long (zero-a a) (at-most b) (at-most d))
+  row-meets (is-reserve e w n a k b d) = meets 2 e (lit≤ tt) (tests c _ (λ x. (w .starts, w .lasts)) start (w .shortest) long (from-a n mostCalled a k) (at-most b) (at-most d))
+  row-meets (is-start-stop e l a b d) = meets 3 e (lit≤ tt) (tests c _ never start l long (zero-a a) (at-most b) (at-most d))
+  row-meets (is-standby e l a b d) = meets 4 e (lit≤ tt) (tests c _ never start l long (zero-a a) (at-most b) (at-most d))
+  row-meets (is-black-start e w a b d) = meets 5 e (lit≤ tt) (tests c _ never (at-most (w .no-start)) zero-le (at-most (w .no-length)) (zero-a a) (at-most b) (at-most d))
+  row-meets (is-agc-availability e w a b d) = meets 6 e (lit≤ tt) (tests c _ never (at-most (w .no-start)) zero-le (at-most (w .no-length)) (zero-a a) b (at-most d))
+  row-meets (is-agc-contribution e w a b d) = meets 7 e (lit≤ tt) (tests c _ never (at-most (w .no-start)) zero-le (at-most (w .no-length)) (zero-a a) b (at-most d))
+  row-meets (is-frequency-event e a b d) = meets 8 e (lit≤ tt) (tests c _ never start zero-le long (from-swing (c .a) a) b d)
+  row-meets (is-avc e s a b d) = meets 9 e (lit≤ tt) (tests c _ never (at-most s) zero-le long (zero-a a) b d)
+  row-meets (is-stability-trip e l a b d) = meets 10 e (lit≤ tt) (tests c _ never start zero-le (at-most l) (zero-a a) (at-most b) (at-most d))
 
-blank-allowed : (c : Call) → Blank c → allows (limitsOf (c .service)) c ≡ true
+blank-allowed : (c : Call) → Blank c → limitsAllow (limitsOf (c .service)) c ≡ true
 unfolding limitsOf table
 blank-allowed c w =
-    let z = from-a _ 0 0 (w .no-a) (lit≤ tt) in
-    subst (λ (s : ℕ). allows (limitsOf s) c ≡ true) (sym (w .service))
-    (allowing (limitsOf 0) c (record { quarters = λ x. never x; latest = at-most _ _ (w .time .no-start); shortest = omega arith; longest = at-most _ _ (w .time .no-length); low = z .0; high = z .1; most-b = at-most _ _ (w .no-b); most-c = at-most _ _ (w .no-c) }))
+    subst (λ (s : ℕ). limitsAllow (limitsOf s) c ≡ true) (sym (w .service))
+    (allowing (limitsOf 0) c (tests c _ never (at-most (w .time .no-start)) zero-le (at-most (w .time .no-length)) (zero-a (w .no-a)) (at-most (w .no-b)) (at-most (w .no-c))))
 
 -- The whole test
 
@@ -180,10 +192,10 @@ module _ (m : ℕ) (c : Call) where
 
   abbrev rest : List Bool
   rest =
-      leb (c .participant) 64 ∷ leb (c .state) 2 ∷ leb 1 (c .revision) ∷ stateTest ∷ leb (c .start + c .length) m
-      ∷ allows (limitsOf (c .service)) c ∷ []
+      leb (c .participant) mostParticipant ∷ leb (c .state) withdrawn ∷ leb 1 (c .revision) ∷ stateTest ∷ leb (c .start + c .length) m
+      ∷ limitsAllow (limitsOf (c .service)) c ∷ []
 
-  stated : c .state ≤ 2 → stateTest ≡ true → c .start + c .length ≤ m → Allowed (limitsOf (c .service)) c → Stated m c
+  stated : c .state ≤ withdrawn → stateTest ≡ true → c .start + c .length ≤ m → Allowed (limitsOf (c .service)) c → Stated m c
   stated s h l t =
       ⊎-elim (λ p. is-live (eqb-true _ _ (p .0)) l (row-of c (c .service) refl (leb-true _ _ (p .1)) t))
       (λ p. struck (leb-true _ _ (p .0)) (eqb-true _ _ (p .1)) (ℕ-discrete (c .state) 1))
@@ -193,8 +205,8 @@ module _ (m : ℕ) (c : Call) where
       struck p e (yes d) = is-contested d (blank-of c e (subst (At c) e t))
       struck p e (no d) = is-withdrawn (omega arith) (blank-of c e (subst (At c) e t))
 
-  pub sound-within : c .number < 4294967296 → c .revision < 4294967296 → soundCall m c ≡ true → Within m c
-  unfolding soundCall
+  pub sound-within : c .number < 4294967296 → c .revision < 4294967296 → callIsSound m c ≡ true → CallWithin m c
+  unfolding callIsSound
   sound-within n r h =
       let p = each (leb 1 (c .participant)) rest h in
       let q = p .1 in
@@ -207,9 +219,9 @@ module _ (m : ℕ) (c : Call) where
 
   -- what the state's clause gives of the tests
   abbrev Passes : Type 0
-  Passes = (c .state ≤ 2) × (stateTest ≡ true) × (c .start + c .length ≤ m) × (allows (limitsOf (c .service)) c ≡ true)
+  Passes = (c .state ≤ withdrawn) × (stateTest ≡ true) × (c .start + c .length ≤ m) × (limitsAllow (limitsOf (c .service)) c ≡ true)
 
-  blank-passes : 1 ≤ c .state → c .state ≤ 2 → Blank c → Passes
+  blank-passes : 1 ≤ c .state → c .state ≤ withdrawn → Blank c → Passes
   blank-passes p q w =
       let s : stateTest ≡ true = struck-test (eqb (c .state) 0) (leb 1 (c .service)) (leb 1 (c .state)) (eqb (c .service) 0) (le-leb _ _ p) (eq-eqb _ _ (w .service)) in
       (q, s, omega (arith, w .time .no-start, w .time .no-length), blank-allowed c w)
@@ -219,7 +231,7 @@ module _ (m : ℕ) (c : Call) where
       struck-test true false v w e f = rw (e, f) refl
       struck-test false u v w e f = rw (e, f) refl
 
-  passes : m ≤ 44640 → Stated m c → Passes
+  passes : m ≤ mostMinutes → Stated m c → Passes
   passes k (is-live e l r) =
       let f = fits-any c m k l in
       let t = row-meets c (f .0) (f .1) r in
@@ -230,48 +242,48 @@ module _ (m : ℕ) (c : Call) where
   passes k (is-contested e w) = blank-passes (omega arith) (omega arith) w
   passes k (is-withdrawn e w) = blank-passes (omega arith) (omega arith) w
 
-  pub within-sound : m ≤ 44640 → Within m c → soundCall m c ≡ true
-  unfolding soundCall
+  pub within-sound : m ≤ mostMinutes → CallWithin m c → callIsSound m c ≡ true
+  unfolding callIsSound
   within-sound k w =
       let p = passes k (w .content) in
       all (leb 1 (c .participant)) rest
       (le-leb _ _ (w .participant .0), (le-leb _ _ (w .participant .1), (le-leb _ _ (p .0), (le-leb _ _ (w .revision .0), (p .1, (le-leb _ _ (p .2), (p .3, tt)))))))
 
   -- Refusal 5, exactly: in a month, a record whose numbers are of 32 bits passes the test where it is within the limits, and nowhere else.
-  pub sound-exact : m ≤ 44640 → c .number < 4294967296 → c .revision < 4294967296 → (soundCall m c ≡ true) ↔ Within m c
+  pub sound-exact : m ≤ mostMinutes → c .number < 4294967296 → c .revision < 4294967296 → (callIsSound m c ≡ true) ↔ CallWithin m c
   sound-exact k n r = (sound-within n r, within-sound k)
 
 -- A call within the limits fits its bytes
 
-small-a : (a : ℤ) (n : ℕ) → a ≡ pos n → n ≤ 1000000000 → mag a ≤ 1000000000
+small-a : (a : ℤ) (n : ℕ) → a ≡ pos n → n ≤ mostMoved → mag a ≤ mostMoved
 small-a a n e h = rw e h
 
-small-swing : (a : ℤ) → natAbs a ≤ 1000000000 → mag a ≤ 1000000000
+small-swing : (a : ℤ) → natAbs a ≤ mostMoved → mag a ≤ mostMoved
 small-swing (pos n) h = h
-small-swing (negsuc n) h = let k : suc n ≤ 1000000000 = h in omega arith
+small-swing (negsuc n) h = let k : suc n ≤ mostMoved = h in omega arith
 
 abbrev Small : Call → Type 0
-Small c = (c .service ≤ 10) × (mag (c .a) ≤ 1000000000) × (c .b ≤ 1000000000) × (c .c ≤ 1000000000)
+Small c = (c .service ≤ stabilityTrip) × (mag (c .a) ≤ mostMoved) × (c .b ≤ mostMoved) × (c .c ≤ mostMoved)
 
-row-small : (c : Call) → Row c → Small c
-row-small c (deep-peak e w a b d) = (omega arith, small-a _ 0 a (lit≤ tt), omega arith, omega arith)
-row-small c (reserve e w n a k b d) = (omega arith, small-a _ n a (omega arith), omega arith, omega arith)
-row-small c (start-stop e l a b d) = (omega arith, small-a _ 0 a (lit≤ tt), omega arith, omega arith)
-row-small c (standby e l a b d) = (omega arith, small-a _ 0 a (lit≤ tt), omega arith, omega arith)
-row-small c (black-start e w a b d) = (omega arith, small-a _ 0 a (lit≤ tt), omega arith, omega arith)
-row-small c (agc-availability e w a b d) = (omega arith, small-a _ 0 a (lit≤ tt), omega arith, omega arith)
-row-small c (agc-contribution e w a b d) = (omega arith, small-a _ 0 a (lit≤ tt), omega arith, omega arith)
-row-small c (frequency-event e a b d) = (omega arith, small-swing (c .a) a, omega arith, omega arith)
-row-small c (avc e s a b d) = (omega arith, small-a _ 0 a (lit≤ tt), omega arith, omega arith)
-row-small c (stability-trip e l a b d) = (omega arith, small-a _ 0 a (lit≤ tt), omega arith, omega arith)
+row-small : (c : Call) → ServiceRow c → Small c
+row-small c (is-deep-peak e w a b d) = (omega arith, small-a _ 0 a (lit≤ tt), omega arith, omega arith)
+row-small c (is-reserve e w n a k b d) = (omega arith, small-a _ n a (omega arith), omega arith, omega arith)
+row-small c (is-start-stop e l a b d) = (omega arith, small-a _ 0 a (lit≤ tt), omega arith, omega arith)
+row-small c (is-standby e l a b d) = (omega arith, small-a _ 0 a (lit≤ tt), omega arith, omega arith)
+row-small c (is-black-start e w a b d) = (omega arith, small-a _ 0 a (lit≤ tt), omega arith, omega arith)
+row-small c (is-agc-availability e w a b d) = (omega arith, small-a _ 0 a (lit≤ tt), omega arith, omega arith)
+row-small c (is-agc-contribution e w a b d) = (omega arith, small-a _ 0 a (lit≤ tt), omega arith, omega arith)
+row-small c (is-frequency-event e a b d) = (omega arith, small-swing (c .a) a, omega arith, omega arith)
+row-small c (is-avc e s a b d) = (omega arith, small-a _ 0 a (lit≤ tt), omega arith, omega arith)
+row-small c (is-stability-trip e l a b d) = (omega arith, small-a _ 0 a (lit≤ tt), omega arith, omega arith)
 
 blank-small : (c : Call) → Blank c → Small c
 blank-small c w = (omega (arith, w .service), small-a _ 0 (w .no-a) (lit≤ tt), omega (arith, w .no-b), omega (arith, w .no-c))
 
-pub within-sized : (m : ℕ) (c : Call) → m ≤ 44640 → Within m c → Sized c
+pub within-sized : (m : ℕ) (c : Call) → m ≤ mostMinutes → CallWithin m c → Sized c
 within-sized m c k w = go (w .content)
   where
-    size : Small c → c .state ≤ 2 → c .start + c .length ≤ m → Sized c
+    size : Small c → c .state ≤ withdrawn → c .start + c .length ≤ m → Sized c
     size s t l =
         record {
           participant = omega (arith, w .participant .1);

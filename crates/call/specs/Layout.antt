@@ -6,6 +6,10 @@ use mir.Val.{toZ, ofZ}
 use Rattle.le.specs.Le.{leAt, leBytes}
 use Rattle.call.specs.declared.Call.{Call}
 
+-- a record is 32 bytes
+abbrev pub recordSize : ℕ
+recordSize = 32
+
 -- participant u16, service u8, state u8, call number u32, revision u32, start u16, length u16, a i32, b u32, c u32
 unfoldable pub callAt : List ℕ → ℕ → Call
 callAt bytes at =
@@ -23,8 +27,8 @@ callAt bytes at =
     }
 
 -- the last four bytes of a record are zero
-abbrev pub reserved : List ℕ → ℕ → ℕ
-reserved bytes at = leAt bytes (at + 28) 4
+abbrev pub reservedAt : List ℕ → ℕ → ℕ
+reservedAt bytes at = leAt bytes (at + 28) 4
 
 -- the same fields written: whose call it is
 unfoldable pub keyBytes : Call → List ℕ

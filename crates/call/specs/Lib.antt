@@ -1,5 +1,6 @@
 pub mod Key
 pub mod Revising
+pub mod Services
 pub mod Service
 pub mod Limits
 pub mod Layout

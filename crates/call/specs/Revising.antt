@@ -15,8 +15,8 @@ abbrev pub withdrawn : ℕ
 withdrawn = 2
 
 -- revised: the same key, a new revision and new content, live
-abbrev pub revisedOf : Call → ℕ → Content → Call
-revisedOf c revision content =
+abbrev pub callRevised : Call → ℕ → Content → Call
+callRevised c revision content =
     record {
       participant = c .participant;
       service = content .service;
@@ -31,8 +31,8 @@ revisedOf c revision content =
     }
 
 -- the same key and revision in another state, with service, start, length, a, b and c all zero
-abbrev pub struckOf : ℕ → Call → Call
-struckOf state c =
+abbrev pub callStruck : ℕ → Call → Call
+callStruck state c =
     record {
       participant = c .participant;
       service = 0;
@@ -46,8 +46,8 @@ struckOf state c =
       c = 0;
     }
 
-abbrev pub withdrawnOf : Call → Call
-withdrawnOf c = struckOf withdrawn c
+abbrev pub callWithdrawn : Call → Call
+callWithdrawn c = callStruck withdrawn c
 
-abbrev pub contestedOf : Call → Call
-contestedOf c = struckOf contested c
+abbrev pub callContested : Call → Call
+callContested c = callStruck contested c

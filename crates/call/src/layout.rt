@@ -3,7 +3,7 @@ ghost use mathlib.Core.Path.{_≡_};
 ghost use Prim.Native.Nat.{_+_, _≤_};
 ghost use lib.ListN.{length};
 ghost use Rattle.le.specs.Le.{Stores};
-ghost use Rattle.call.specs.Layout.{callAt, callBytes, keyBytes, timeBytes, termBytes};
+ghost use Rattle.call.specs.Layout.{recordSize, callAt, reservedAt, callBytes, keyBytes, timeBytes, termBytes};
 use crate::Call;
 use le::i32_at;
 use le::put_i32;
@@ -16,7 +16,7 @@ use le::u32_at;
 
 // The record in the 32 bytes from `at` on.
 pub fn call_at(s: &[u8], at: usize) -> Call
-    requires { ⌜ at + 32 ≤ length (now s) ⌝ }
+    requires { ⌜ at + recordSize ≤ length (now s) ⌝ }
     ensures { λ r. ⌜ r ≡ callAt (now (s .entry)) at ⌝ }
 {
     let participant = u16_at(s, at);
@@ -41,6 +41,35 @@ pub fn call_at(s: &[u8], at: usize) -> Call
         b,
         c,
     }
+}
+
+// A field alone, of the record in the 32 bytes from `at` on: for what compares records and needs no more of them.
+pub fn participant_at(s: &[u8], at: usize) -> u16
+    requires { ⌜ at + 32 ≤ length (now s) ⌝ }
+    ensures { λ r. ⌜ r ≡ callAt (now (s .entry)) at .participant ⌝ }
+{
+    u16_at(s, at)
+}
+
+pub fn state_at(s: &[u8], at: usize) -> u8
+    requires { ⌜ at + 32 ≤ length (now s) ⌝ }
+    ensures { λ r. ⌜ r ≡ callAt (now (s .entry)) at .state ⌝ }
+{
+    u8_at(s, at + 3)
+}
+
+pub fn call_number_at(s: &[u8], at: usize) -> u32
+    requires { ⌜ at + 32 ≤ length (now s) ⌝ }
+    ensures { λ r. ⌜ r ≡ callAt (now (s .entry)) at .number ⌝ }
+{
+    u32_at(s, at + 4)
+}
+
+pub fn revision_at(s: &[u8], at: usize) -> u32
+    requires { ⌜ at + 32 ≤ length (now s) ⌝ }
+    ensures { λ r. ⌜ r ≡ callAt (now (s .entry)) at .revision ⌝ }
+{
+    u32_at(s, at + 8)
 }
 
 fn put_key(s: &mut [u8], at: usize, x: Call)
@@ -74,10 +103,18 @@ fn put_terms(s: &mut [u8], at: usize, x: Call)
 
 // The record's 32 bytes, from `at` on.
 pub fn put_call(s: &mut [u8], at: usize, x: Call)
-    requires { ⌜ at + 32 ≤ length (now s) ⌝ }
+    requires { ⌜ at + recordSize ≤ length (now s) ⌝ }
     ensures { λ _. ⌜ Stores (now (s .entry)) at (callBytes x) (now (s .exit)) ⌝ }
 {
     put_key(s, at, x);
     put_time(s, at + 8, x);
     put_terms(s, at + 16, x);
+}
+
+// The last four bytes of the record from `at` on.
+pub fn reserved_at(s: &[u8], at: usize) -> u32
+    requires { ⌜ at + recordSize ≤ length (now s) ⌝ }
+    ensures { λ r. ⌜ r ≡ reservedAt (now (s .entry)) at ⌝ }
+{
+    u32_at(s, at + 28)
 }

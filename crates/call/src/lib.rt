@@ -1,12 +1,25 @@
 // A call of the book: its fields, its key, and what may become of it.
 ghost use mathlib.Core.Path.{_≡_};
-ghost use Rattle.call.specs.Key.{keyOf};
-ghost use Rattle.call.specs.Revising.{revisedOf, withdrawnOf, contestedOf, struckOf};
+ghost use Rattle.call.specs.Key.{callKey};
+ghost use Rattle.call.specs.Revising.{callRevised, callWithdrawn, callContested, callStruck};
 
 pub mod layout;
 pub mod service;
 
-// The fields in the order of the record's bytes. State 0 is live, 1 contested, 2 withdrawn.
+// The states of a record.
+pub const LIVE: u8 = 0;
+
+pub const CONTESTED: u8 = 1;
+
+pub const WITHDRAWN: u8 = 2;
+
+// Participants are numbered from 1 to 64.
+pub const MOST_PARTICIPANT: u16 = 64;
+
+// The bytes of a record.
+pub const RECORD_SIZE: usize = 32;
+
+// The fields in the order of the record's bytes.
 pub struct Call {
     pub participant: u16,
     pub service: u8,
@@ -33,19 +46,19 @@ pub struct Content {
 impl Call {
     // Participant and call number as one number: keys then compare as numbers do.
     pub fn key(self) -> u64
-        ensures { λ r. ⌜ r ≡ keyOf self ⌝ }
+        ensures { λ r. ⌜ r ≡ callKey self ⌝ }
     {
         (self.participant as u64) * 0x1_0000_0000 + (self.number as u64)
     }
 
     // The call with a new revision and new content, live.
     pub fn revised(self, revision: u32, content: Content) -> Call
-        ensures { λ r. ⌜ r ≡ revisedOf self revision content ⌝ }
+        ensures { λ r. ⌜ r ≡ callRevised self revision content ⌝ }
     {
         Call {
             participant: self.participant,
             service: content.service,
-            state: 0,
+            state: LIVE,
             number: self.number,
             revision,
             start: content.start,
@@ -58,20 +71,20 @@ impl Call {
 
     // Key and revision alone, withdrawn.
     pub fn withdrawn(self) -> Call
-        ensures { λ r. ⌜ r ≡ withdrawnOf self ⌝ }
+        ensures { λ r. ⌜ r ≡ callWithdrawn self ⌝ }
     {
-        self.struck(2)
+        self.struck(WITHDRAWN)
     }
 
     // Key and revision alone, contested.
     pub fn contested(self) -> Call
-        ensures { λ r. ⌜ r ≡ contestedOf self ⌝ }
+        ensures { λ r. ⌜ r ≡ callContested self ⌝ }
     {
-        self.struck(1)
+        self.struck(CONTESTED)
     }
 
     fn struck(self, state: u8) -> Call
-        ensures { λ r. ⌜ r ≡ struckOf state self ⌝ }
+        ensures { λ r. ⌜ r ≡ callStruck state self ⌝ }
     {
         Call {
             participant: self.participant,

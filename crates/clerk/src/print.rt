@@ -1,6 +1,9 @@
 // What the program prints. Its last line is `ok`, `refused N P FILE` or `failed ..`.
 use book::Header;
+use call::CONTESTED;
 use call::Call;
+use call::LIVE;
+use call::service;
 
 pub fn done() {
     say::text(b"ok\n");
@@ -28,31 +31,32 @@ pub fn failed(what: &[u8], why: &[u8]) {
     say::text(b"\n");
 }
 
-fn field(name: &[u8], n: u64) {
+// A name and its number.
+pub fn field(name: &[u8], n: u64) {
     say::text(name);
     say::number(n);
 }
 
 fn state(state: u8) {
     match state {
-        0 => say::text(b" live"),
-        1 => say::text(b" contested"),
+        LIVE => say::text(b" live"),
+        CONTESTED => say::text(b" contested"),
         _ => say::text(b" withdrawn"),
     }
 }
 
 fn service(service: u8) {
     match service {
-        1 => say::text(b" deep-peak"),
-        2 => say::text(b" reserve"),
-        3 => say::text(b" start-stop"),
-        4 => say::text(b" standby"),
-        5 => say::text(b" black-start"),
-        6 => say::text(b" agc-availability"),
-        7 => say::text(b" agc-contribution"),
-        8 => say::text(b" frequency-event"),
-        9 => say::text(b" avc"),
-        10 => say::text(b" stability-trip"),
+        service::DEEP_PEAK => say::text(b" deep-peak"),
+        service::RESERVE => say::text(b" reserve"),
+        service::START_STOP => say::text(b" start-stop"),
+        service::STANDBY => say::text(b" standby"),
+        service::BLACK_START => say::text(b" black-start"),
+        service::AGC_AVAILABILITY => say::text(b" agc-availability"),
+        service::AGC_CONTRIBUTION => say::text(b" agc-contribution"),
+        service::FREQUENCY_EVENT => say::text(b" frequency-event"),
+        service::AVC => say::text(b" avc"),
+        service::STABILITY_TRIP => say::text(b" stability-trip"),
         _ => say::text(b" none"),
     }
 }
@@ -77,7 +81,7 @@ pub fn call(x: Call) {
     field(b" call ", x.number as u64);
     field(b" revision ", x.revision as u64);
     state(x.state);
-    if x.state == 0 {
+    if x.state == LIVE {
         details(x);
     }
     say::text(b"\n");
@@ -90,21 +94,4 @@ pub fn header(h: Header, calls: usize) {
     field(b" month ", h.month as u64);
     field(b" calls ", calls as u64);
     say::text(b"\n");
-}
-
-pub fn usage() {
-    say::text(b"desk check BOOK\n");
-    say::text(b"desk show BOOK\n");
-    say::text(b"desk new OUT AREA YEAR MONTH\n");
-    say::text(b"desk enter OUT BOOK MEMBER CALL SERVICE START LENGTH A B C\n");
-    more_usage();
-}
-
-fn more_usage() {
-    say::text(b"desk revise OUT BOOK MEMBER CALL REVISION SERVICE START LENGTH A B C\n");
-    say::text(b"desk withdraw OUT BOOK MEMBER CALL REVISION\n");
-    say::text(b"desk join OUT BOOK..\n");
-    say::text(b"desk find FIRST SECOND MEMBER CALL\n");
-    say::text(b"desk score MEMBER KIND RATED BOOK SERIES\n");
-    say::text(b"desk month REGISTER SERIES-FOLDER BOOK..\n");
 }

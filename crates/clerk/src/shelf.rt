@@ -1,51 +1,32 @@
 // Books and other files by their names in the arguments: loaded, checked, stored.
 use crate::args::Held;
+use crate::args::first;
 use crate::args::path;
 use crate::print;
+use book::HEADER_SIZE;
 use book::check;
+use call::RECORD_SIZE;
 use files::Loaded;
 use files::Stored;
-ghost use Prim.Native.Nat.{_≤_};
-ghost use lib.ListN.{length};
-
-// Nothing held; one line has said why.
-pub fn none() -> Held
-    ensures { λ r. ⌜ r .n ≤ 0 ⌝ }
-{
-    Held { ok: false, n: 0 }
-}
 
 // The whole file in the buffer's first bytes.
-pub fn load(path: &[u8], buf: &mut [u8]) -> Held
-    ensures { λ r. ⌜ r .n ≤ length (now (buf .exit)) ⌝ }
-{
-    let loaded = files::load(path, buf);
-    match loaded {
-        Loaded::Whole(n) => Held { ok: true, n },
-        Loaded::Missing => {
-            print::failed(path, b"no such file");
-            none()
-        }
-        Loaded::TooLong => {
-            print::failed(path, b"longer than 65536 bytes");
-            none()
-        }
-        Loaded::Failed => {
-            print::failed(path, b"cannot be read");
-            none()
-        }
+pub fn load(path: &[u8], buf: &mut [u8]) -> Held {
+    match files::load(path, buf) {
+        Loaded::Whole(n) => return Held::Bytes(n),
+        Loaded::Missing => print::failed(path, b"no such file"),
+        Loaded::TooLong => print::failed(path, b"longer than 65536 bytes"),
+        Loaded::Failed => print::failed(path, b"cannot be read"),
     }
+    Held::Nothing
 }
 
 // The bytes as the whole file that argument i names.
 pub fn save(i: usize, bytes: &[u8]) -> bool {
     let mut buf = io::buffer();
-    let p = path(i, &mut buf);
-    let n = p.n;
-    if !p.ok {
+    let Held::Bytes(n) = path(i, &mut buf) else {
         return false;
-    }
-    store(&buf[0..n], bytes)
+    };
+    store(first(&buf, n), bytes)
 }
 
 fn store(path: &[u8], bytes: &[u8]) -> bool {
@@ -62,39 +43,32 @@ fn store(path: &[u8], bytes: &[u8]) -> bool {
 
 // How many records a sound book of so many bytes has.
 pub fn records(bytes: usize) -> usize {
-    if bytes < 16 {
+    if bytes < HEADER_SIZE {
         return 0;
     }
-    (bytes - 16) / 32
+    (bytes - HEADER_SIZE) / RECORD_SIZE
 }
 
 // The book that argument i names, in the buffer's first bytes, sound.
-pub fn open(i: usize, book: &mut [u8]) -> Held
-    ensures { λ r. ⌜ r .n ≤ length (now (book .exit)) ⌝ }
-{
+pub fn open(i: usize, book: &mut [u8]) -> Held {
     let mut buf = io::buffer();
-    let p = path(i, &mut buf);
-    let n = p.n;
-    if !p.ok {
-        return none();
-    }
-    let b = load(&buf[0..n], book);
-    if !b.ok {
-        return none();
-    }
-    let m = b.n;
-    let v = check(&book[0..m]);
+    let Held::Bytes(n) = path(i, &mut buf) else {
+        return Held::Nothing;
+    };
+    let Held::Bytes(size) = load(first(&buf, n), book) else {
+        return Held::Nothing;
+    };
+    let v = check(first(book, size));
     if v.number != 0 {
-        print::refused(v.number, v.place, &buf[0..n]);
-        return none();
+        print::refused(v.number, v.place, first(&buf, n));
+        return Held::Nothing;
     }
-    b
+    Held::Bytes(size)
 }
 
 // A refusal of what argument i names.
 pub fn refused_at(number: u32, place: usize, i: usize) {
     let mut buf = io::buffer();
-    let p = path(i, &mut buf);
-    let n = p.n;
+    let n = os::arg(i, &mut buf);
     print::refused(number, place, &buf[0..n]);
 }

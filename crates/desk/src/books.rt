@@ -2,20 +2,39 @@
 use book::call_of;
 use book::header_of;
 use clerk::args::Held;
-use clerk::args::number;
+use clerk::args::Long;
+use clerk::args::Short;
+use clerk::args::first;
+use clerk::args::long_at;
+use clerk::args::short_at;
 use clerk::print;
-use clerk::shelf::none;
 use clerk::shelf::open;
 use clerk::shelf::records;
 use clerk::shelf::refused_at;
 use clerk::shelf::save;
-ghost use Prim.Native.Nat.{_≤_};
-ghost use lib.ListN.{length};
+use lookup::Place;
+ghost use Prim.Native.Nat.{_<_};
+
+// Whose call, and which; or nothing, and one line has said why.
+pub enum Key {
+    Of(u16, u32),
+    Nothing,
+}
+
+// The key that arguments 4 and 5 say.
+pub fn whose() -> Key {
+    let Short::Number(member) = short_at(4) else {
+        return Key::Nothing;
+    };
+    let Long::Number(call) = long_at(5) else {
+        return Key::Nothing;
+    };
+    Key::Of(member, call)
+}
 
 pub fn check_book() {
     let mut book = io::large_buffer();
-    let b = open(2, &mut book);
-    if b.ok {
+    if let Held::Bytes(_) = open(2, &mut book) {
         print::done();
     }
 }
@@ -30,83 +49,55 @@ fn show_calls(book: &[u8], count: usize) {
 
 pub fn show_book() {
     let mut book = io::large_buffer();
-    let b = open(2, &mut book);
-    let n = b.n;
-    if !b.ok {
+    let Held::Bytes(n) = open(2, &mut book) else {
         return;
-    }
+    };
     let count = records(n);
-    print::header(header_of(&book[0..n]), count);
-    show_calls(&book[0..n], count);
+    print::header(header_of(first(&book, n)), count);
+    show_calls(first(&book, n), count);
     print::done();
 }
 
-// The book of argument i joined into the first n bytes of `all`.
-fn join_in(i: usize, all: &mut [u8], n: usize) -> Held
-    requires { ⌜ n ≤ length (now all) ⌝ }
-    ensures { λ r. ⌜ r .n ≤ length (now (all .exit)) ⌝ }
-{
-    let mut second = io::large_buffer();
-    let b = open(i, &mut second);
-    let m = b.n;
-    if !b.ok {
-        return none();
+// The bytes to the front of a buffer that has room for them.
+fn keep(bytes: &[u8], all: &mut [u8]) -> Held {
+    if all.len() < bytes.len() {
+        return Held::Nothing;
     }
-    join_bytes(i, all, n, &second[0..m])
+    Held::Bytes(bytes::copy(bytes, all))
 }
 
 // A second book joined into the first n bytes of `all`. Argument i is what a refusal is about: a book of another month, or one too many.
-pub fn join_bytes(i: usize, all: &mut [u8], n: usize, second: &[u8]) -> Held
-    requires { ⌜ n ≤ length (now all) ⌝ }
-    ensures { λ r. ⌜ r .n ≤ length (now (all .exit)) ⌝ }
-{
+pub fn join_bytes(i: usize, all: &mut [u8], n: usize, second: &[u8]) -> Held {
     let mut out = io::large_buffer();
-    let w = join::join(&all[0..n], second, &mut out);
+    let w = join::join(first(all, n), second, &mut out);
     if w.number != 0 {
         refused_at(w.number, w.place, i);
-        return none();
+        return Held::Nothing;
     }
-    let size = w.length;
-    take_over(&out, size, all)
+    keep(first(&out, w.length), all)
 }
 
-// The first `size` bytes, into a buffer that has room for them.
-fn take_over(from: &[u8], size: usize, all: &mut [u8]) -> Held
-    ensures { λ r. ⌜ r .n ≤ length (now (all .exit)) ⌝ }
-{
-    if from.len() < size {
-        return none();
-    }
-    if all.len() < size {
-        return none();
-    }
-    bytes::copy(&from[0..size], all);
-    Held { ok: true, n: size }
-}
-
-// Argument i joined to the books before it, of which the first is argument `from`.
-fn join_next(i: usize, from: usize, all: &mut [u8], before: Held) -> Held
-    requires { ⌜ before .n ≤ length (now all) ⌝ }
-    ensures { λ r. ⌜ r .n ≤ length (now (all .exit)) ⌝ }
-{
-    if i == from {
-        return open(i, all);
-    }
-    if !before.ok {
-        return none();
-    }
-    join_in(i, all, before.n)
+// The book of argument i joined to those before it.
+fn join_next(i: usize, all: &mut [u8], before: Held) -> Held {
+    let Held::Bytes(n) = before else {
+        return Held::Nothing;
+    };
+    let mut second = io::large_buffer();
+    let Held::Bytes(m) = open(i, &mut second) else {
+        return Held::Nothing;
+    };
+    join_bytes(i, all, n, first(&second, m))
 }
 
 // All books that are named from argument `from` on, joined.
 pub fn join_all(from: usize, all: &mut [u8]) -> Held
-    ensures { λ r. ⌜ r .n ≤ length (now (all .exit)) ⌝ }
+    requires { ⌜ from < 10 ⌝ }
 {
     let count = os::arg_count();
-    let mut held = none();
-    let mut i = from;
+    let mut held = open(from, all);
+    let mut i = from + 1;
     while i < count {
-        held = join_next(i, from, all, held);
+        held = join_next(i, all, held);
         i += 1;
     }
     held
@@ -114,56 +105,44 @@ pub fn join_all(from: usize, all: &mut [u8]) -> Held
 
 pub fn join_books() {
     let mut all = io::large_buffer();
-    let b = join_all(3, &mut all);
-    let n = b.n;
-    if !b.ok {
+    let Held::Bytes(n) = join_all(3, &mut all) else {
         return;
-    }
-    if save(2, &all[0..n]) {
-        print::header(header_of(&all[0..n]), records(n));
+    };
+    if save(2, first(&all, n)) {
+        print::header(header_of(first(&all, n)), records(n));
         print::done();
     }
 }
 
 // The record that stands for a key, as it lies in one of two books.
 fn tell_found(first: &[u8], second: &[u8], member: u16, call: u32) {
-    let place = lookup::which(first, second, member, call);
-    if place.book == 1 {
-        say::text(b"first ");
-        print::call(call_of(first, place.index));
-    }
-    if place.book == 2 {
-        say::text(b"second ");
-        print::call(call_of(second, place.index));
-    }
-    if place.book == 0 {
-        say::text(b"none\n");
+    match lookup::which(first, second, member, call) {
+        Place::Nowhere => say::text(b"none\n"),
+        Place::InFirst(i) => {
+            say::text(b"first ");
+            print::call(call_of(first, i));
+        }
+        Place::InSecond(j) => {
+            say::text(b"second ");
+            print::call(call_of(second, j));
+        }
     }
     print::done();
 }
 
-fn find_in(first: &[u8], member: u16, call: u32) {
+fn find_in(one: &[u8], member: u16, call: u32) {
     let mut book = io::large_buffer();
-    let b = open(3, &mut book);
-    let n = b.n;
-    if b.ok {
-        tell_found(first, &book[0..n], member, call);
+    if let Held::Bytes(n) = open(3, &mut book) {
+        tell_found(one, first(&book, n), member, call);
     }
 }
 
 pub fn find_call() {
-    let member = number(4, 65535);
-    if !member.ok {
+    let Key::Of(member, call) = whose() else {
         return;
-    }
-    let call = number(5, 0xffff_ffff);
-    if !call.ok {
-        return;
-    }
+    };
     let mut book = io::large_buffer();
-    let b = open(2, &mut book);
-    let n = b.n;
-    if b.ok {
-        find_in(&book[0..n], member.value as u16, call.value as u32);
+    if let Held::Bytes(n) = open(2, &mut book) {
+        find_in(first(&book, n), member, call);
     }
 }

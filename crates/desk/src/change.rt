@@ -1,5 +1,8 @@
 // New books, and changes to one: each a book of one record, joined in.
+use crate::books::Key;
 use crate::books::join_bytes;
+use crate::books::whose;
+use book::HEADER_SIZE;
 use book::Header;
 use book::call_of;
 use book::header_of;
@@ -7,115 +10,76 @@ use book::write::write_none;
 use book::write::write_one;
 use call::Call;
 use call::Content;
-use clerk::args::number;
-use clerk::args::signed;
+use call::LIVE;
+use call::RECORD_SIZE;
+use clerk::args::Byte;
+use clerk::args::Held;
+use clerk::args::Integer;
+use clerk::args::Long;
+use clerk::args::Short;
+use clerk::args::byte_at;
+use clerk::args::first;
+use clerk::args::integer_at;
+use clerk::args::long_at;
+use clerk::args::short_at;
 use clerk::print;
 use clerk::shelf::open;
 use clerk::shelf::save;
-ghost use Prim.Native.Nat.{_≤_};
-ghost use lib.ListN.{length};
+use lookup::Place;
+ghost use Prim.Native.Nat.{_<_};
 
-struct Asked {
-    ok: bool,
-    content: Content,
+// What a call is to be; or nothing, and one line has said why.
+enum Asked {
+    Content(Content),
+    Nothing,
 }
 
-struct Key {
-    ok: bool,
-    member: u16,
-    call: u32,
-}
-
-fn no_content() -> Content {
-    Content {
-        service: 0,
-        start: 0,
-        length: 0,
-        a: 0,
-        b: 0,
-        c: 0,
-    }
-}
-
-fn not_asked() -> Asked {
-    let content = no_content();
-    Asked { ok: false, content }
-}
-
-// What the arguments say of a and its fellows, behind service, start and length.
-fn amounts(i: usize, service: u8, start: u16, minutes: u16) -> Asked
-    requires { ⌜ i ≤ 100 ⌝ }
-{
-    let a = signed(i);
-    if !a.ok {
-        return not_asked();
-    }
-    let b = number(i + 1, 0xffff_ffff);
-    if !b.ok {
-        return not_asked();
-    }
-    let c = number(i + 2, 0xffff_ffff);
-    if !c.ok {
-        return not_asked();
-    }
-    let content = Content {
-        service,
-        start,
-        length: minutes,
-        a: a.value,
-        b: b.value as u32,
-        c: c.value as u32,
-    };
-    Asked { ok: true, content }
-}
+// A call enters at revision 1.
+const FIRST_REVISION: u32 = 1;
 
 // What the six arguments from i on ask for.
 fn content(i: usize) -> Asked
-    requires { ⌜ i ≤ 90 ⌝ }
+    requires { ⌜ i < 10 ⌝ }
 {
-    let service = number(i, 255);
-    if !service.ok {
-        return not_asked();
-    }
-    let start = number(i + 1, 65535);
-    if !start.ok {
-        return not_asked();
-    }
-    let minutes = number(i + 2, 65535);
-    if !minutes.ok {
-        return not_asked();
-    }
-    amounts(
-        i + 3,
-        service.value as u8,
-        start.value as u16,
-        minutes.value as u16,
-    )
+    let Byte::Number(service) = byte_at(i) else {
+        return Asked::Nothing;
+    };
+    let Short::Number(start) = short_at(i + 1) else {
+        return Asked::Nothing;
+    };
+    let Short::Number(minutes) = short_at(i + 2) else {
+        return Asked::Nothing;
+    };
+    amounts(i + 3, service, start, minutes)
 }
 
-// Arguments 4 and 5: whose call, and which.
-fn whose() -> Key {
-    let member = number(4, 65535);
-    if !member.ok {
-        return Key {
-            ok: false,
-            member: 0,
-            call: 0,
-        };
-    }
-    let call = number(5, 0xffff_ffff);
-    Key {
-        ok: call.ok,
-        member: member.value as u16,
-        call: call.value as u32,
-    }
+fn amounts(i: usize, service: u8, start: u16, minutes: u16) -> Asked
+    requires { ⌜ i < 13 ⌝ }
+{
+    let Integer::Number(a) = integer_at(i) else {
+        return Asked::Nothing;
+    };
+    let Long::Number(b) = long_at(i + 1) else {
+        return Asked::Nothing;
+    };
+    let Long::Number(c) = long_at(i + 2) else {
+        return Asked::Nothing;
+    };
+    Asked::Content(Content {
+        service,
+        start,
+        length: minutes,
+        a,
+        b,
+        c,
+    })
 }
 
 fn blank(member: u16, call: u32, revision: u32) -> Call {
     Call {
         participant: member,
         service: 0,
-        state: 0,
+        state: LIVE,
         number: call,
         revision,
         start: 0,
@@ -126,22 +90,19 @@ fn blank(member: u16, call: u32, revision: u32) -> Call {
     }
 }
 
-// The record that stands for the key of x, in a book that has it.
+// The record that stands for the key of x, in a book that has it: of a book and itself it is the first's.
 fn tell_standing(book: &[u8], x: Call) {
-    let place = lookup::which(book, book, x.participant, x.number);
-    print::call(call_of(book, place.index));
+    if let Place::InFirst(i) = lookup::which(book, book, x.participant, x.number) {
+        print::call(call_of(book, i));
+    }
 }
 
-fn store_joined(book: &mut [u8], n: usize, one: &[u8], x: Call)
-    requires { ⌜ n ≤ length (now book) ⌝ }
-{
-    let j = join_bytes(3, book, n, one);
-    let m = j.n;
-    if !j.ok {
+fn store_joined(book: &mut [u8], n: usize, one: &[u8], x: Call) {
+    let Held::Bytes(m) = join_bytes(3, book, n, one) else {
         return;
-    }
-    if save(2, &book[0..m]) {
-        tell_standing(&book[0..m], x);
+    };
+    if save(2, first(book, m)) {
+        tell_standing(first(book, m), x);
         print::done();
     }
 }
@@ -149,13 +110,11 @@ fn store_joined(book: &mut [u8], n: usize, one: &[u8], x: Call)
 // The call joined into the book that argument 3 names, and the result stored as argument 2.
 fn apply(x: Call) {
     let mut book = io::large_buffer();
-    let b = open(3, &mut book);
-    let n = b.n;
-    if !b.ok {
+    let Held::Bytes(n) = open(3, &mut book) else {
         return;
-    }
-    let mut one = [0u8; 48];
-    let w = write_one(header_of(&book[0..n]), x, &mut one);
+    };
+    let mut one = [0u8; HEADER_SIZE + RECORD_SIZE];
+    let w = write_one(header_of(first(&book, n)), x, &mut one);
     if w.number != 0 {
         print::refused(w.number, w.place, b"call");
         return;
@@ -164,24 +123,21 @@ fn apply(x: Call) {
 }
 
 pub fn new_book() {
-    let area = number(3, 255);
-    if !area.ok {
+    let Byte::Number(area) = byte_at(3) else {
         return;
-    }
-    let year = number(4, 65535);
-    if !year.ok {
+    };
+    let Short::Number(year) = short_at(4) else {
         return;
-    }
-    let month = number(5, 255);
-    if !month.ok {
+    };
+    let Byte::Number(month) = byte_at(5) else {
         return;
-    }
-    make(area.value as u8, year.value as u16, month.value as u8);
+    };
+    make(Header { area, year, month });
 }
 
-fn make(area: u8, year: u16, month: u8) {
-    let mut out = [0u8; 16];
-    let w = write_none(Header { area, year, month }, &mut out);
+fn make(header: Header) {
+    let mut out = [0u8; HEADER_SIZE];
+    let w = write_none(header, &mut out);
     if w.number != 0 {
         print::refused(w.number, w.place, b"header");
         return;
@@ -191,42 +147,32 @@ fn make(area: u8, year: u16, month: u8) {
     }
 }
 
-// A call enters at revision 1.
 pub fn enter() {
-    let k = whose();
-    if !k.ok {
+    let Key::Of(member, call) = whose() else {
         return;
-    }
-    let asked = content(6);
-    if asked.ok {
-        let content = asked.content;
-        apply(blank(k.member, k.call, 1).revised(1, content));
+    };
+    if let Asked::Content(asked) = content(6) {
+        apply(blank(member, call, FIRST_REVISION).revised(FIRST_REVISION, asked));
     }
 }
 
 pub fn revise() {
-    let k = whose();
-    if !k.ok {
+    let Key::Of(member, call) = whose() else {
         return;
-    }
-    let revision = number(6, 0xffff_ffff);
-    if !revision.ok {
+    };
+    let Long::Number(revision) = long_at(6) else {
         return;
-    }
-    let asked = content(7);
-    if asked.ok {
-        let content = asked.content;
-        apply(blank(k.member, k.call, 1).revised(revision.value as u32, content));
+    };
+    if let Asked::Content(asked) = content(7) {
+        apply(blank(member, call, FIRST_REVISION).revised(revision, asked));
     }
 }
 
 pub fn withdraw() {
-    let k = whose();
-    if !k.ok {
+    let Key::Of(member, call) = whose() else {
         return;
-    }
-    let revision = number(6, 0xffff_ffff);
-    if revision.ok {
-        apply(blank(k.member, k.call, revision.value as u32).withdrawn());
+    };
+    if let Long::Number(revision) = long_at(6) {
+        apply(blank(member, call, revision).withdrawn());
     }
 }

@@ -3,108 +3,129 @@ mod books;
 mod change;
 mod month;
 
+use clerk::args::Held;
 use clerk::args::argument;
-use clerk::args::is_word;
+use clerk::args::first;
 use clerk::print;
+
+enum Command {
+    Check,
+    Show,
+    New,
+    Enter,
+    Revise,
+    Withdraw,
+    Join,
+    Find,
+    Score,
+    Month,
+    Help,
+    Unknown,
+}
+
+// As many books as are named.
+const MANY: usize = 65536;
 
 fn main() {
     let mut word = io::buffer();
-    let w = argument(1, &mut word);
-    let n = w.n;
-    if w.ok {
-        run(&word[0..n]);
+    let Held::Bytes(n) = argument(1, &mut word) else {
+        help();
         return;
-    }
-    help();
+    };
+    run(first(&word, n));
 }
 
-fn help() {
-    print::usage();
-    print::done();
+// Every command, a row each: its usage, which begins with its word, and how many words there are with it at least and at most, `desk` among
+// them. Says which command a word is; or, where the usage is asked, prints the rows. `help` is not in the usage.
+fn rows(usage: bool, word: &[u8]) -> Command {
+    if row(usage, word, b"check BOOK", 3, 3) {
+        return Command::Check;
+    }
+    if row(usage, word, b"show BOOK", 3, 3) {
+        return Command::Show;
+    }
+    if row(usage, word, b"new OUT AREA YEAR MONTH", 6, 6) {
+        return Command::New;
+    }
+    let enter = b"enter OUT BOOK MEMBER CALL SERVICE START LENGTH A B C";
+    if row(usage, word, enter, 12, 12) {
+        return Command::Enter;
+    }
+    let revise = b"revise OUT BOOK MEMBER CALL REVISION SERVICE START LENGTH A B C";
+    if row(usage, word, revise, 13, 13) {
+        return Command::Revise;
+    }
+    if row(usage, word, b"withdraw OUT BOOK MEMBER CALL REVISION", 7, 7) {
+        return Command::Withdraw;
+    }
+    if row(usage, word, b"join OUT BOOK..", 4, MANY) {
+        return Command::Join;
+    }
+    if row(usage, word, b"find FIRST SECOND MEMBER CALL", 6, 6) {
+        return Command::Find;
+    }
+    if row(usage, word, b"score MEMBER KIND RATED BOOK SERIES", 7, 7) {
+        return Command::Score;
+    }
+    if row(usage, word, b"month REGISTER SERIES-FOLDER BOOK..", 5, MANY) {
+        return Command::Month;
+    }
+    if row(false, word, b"help", 2, 2) {
+        return Command::Help;
+    }
+    Command::Unknown
+}
+
+// One row: printed, where the usage is asked; else whether the word and the number of arguments are its.
+fn row(usage: bool, word: &[u8], line: &[u8], least: usize, most: usize) -> bool {
+    if usage {
+        say::text(b"desk ");
+        say::text(line);
+        say::text(b"\n");
+        return false;
+    }
+    let name = first(line, bytes::scan::find(line, 0, line.len(), b' '));
+    let count = os::arg_count();
+    is_word(word, name) & (least <= count) & (count <= most)
+}
+
+fn is_word(word: &[u8], name: &[u8]) -> bool {
+    if word.len() != name.len() {
+        return false;
+    }
+    let mut i: usize = 0;
+    while i < word.len() {
+        if word[i] != name[i] {
+            return false;
+        }
+        i += 1;
+    }
+    true
 }
 
 fn run(word: &[u8]) {
-    if on_a_book(word) {
-        return;
+    match rows(false, word) {
+        Command::Check => books::check_book(),
+        Command::Show => books::show_book(),
+        Command::New => change::new_book(),
+        Command::Enter => change::enter(),
+        Command::Revise => change::revise(),
+        Command::Withdraw => change::withdraw(),
+        Command::Join => books::join_books(),
+        Command::Find => books::find_call(),
+        Command::Score => month::score_member(),
+        Command::Month => month::settle_month(),
+        Command::Help => help(),
+        Command::Unknown => unknown(),
     }
-    if on_books(word) {
-        return;
-    }
-    if on_calls(word) {
-        return;
-    }
-    if on_money(word) {
-        return;
-    }
-    print::usage();
+}
+
+fn help() {
+    rows(true, b"");
+    print::done();
+}
+
+fn unknown() {
+    rows(true, b"");
     print::failed(b"", b"unknown command, or not as many words as it takes");
-}
-
-// Whether the word is `name`; and where it is, whether there are as many arguments as it takes.
-fn asks(word: &[u8], name: &[u8], least: usize, most: usize) -> bool {
-    if !is_word(word, name) {
-        return false;
-    }
-    let count = os::arg_count();
-    (least <= count) & (count <= most)
-}
-
-fn on_a_book(word: &[u8]) -> bool {
-    if asks(word, b"check", 3, 3) {
-        books::check_book();
-        return true;
-    }
-    if asks(word, b"show", 3, 3) {
-        books::show_book();
-        return true;
-    }
-    if asks(word, b"new", 6, 6) {
-        change::new_book();
-        return true;
-    }
-    false
-}
-
-fn on_books(word: &[u8]) -> bool {
-    if asks(word, b"join", 4, 65536) {
-        books::join_books();
-        return true;
-    }
-    if asks(word, b"find", 6, 6) {
-        books::find_call();
-        return true;
-    }
-    if asks(word, b"help", 2, 2) {
-        help();
-        return true;
-    }
-    false
-}
-
-fn on_calls(word: &[u8]) -> bool {
-    if asks(word, b"enter", 12, 12) {
-        change::enter();
-        return true;
-    }
-    if asks(word, b"revise", 13, 13) {
-        change::revise();
-        return true;
-    }
-    if asks(word, b"withdraw", 7, 7) {
-        change::withdraw();
-        return true;
-    }
-    false
-}
-
-fn on_money(word: &[u8]) -> bool {
-    if asks(word, b"score", 7, 7) {
-        month::score_member();
-        return true;
-    }
-    if asks(word, b"month", 5, 65536) {
-        month::settle_month();
-        return true;
-    }
-    false
 }

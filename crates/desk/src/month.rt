@@ -2,9 +2,15 @@
 use crate::books::join_all;
 use book::call_of;
 use book::header_of;
+use clerk::args::Byte;
 use clerk::args::Held;
-use clerk::args::number;
+use clerk::args::Long;
+use clerk::args::Short;
+use clerk::args::byte_at;
+use clerk::args::first;
+use clerk::args::long_at;
 use clerk::args::path;
+use clerk::args::short_at;
 use clerk::print;
 use clerk::shelf::load;
 use clerk::shelf::open;
@@ -20,57 +26,55 @@ use tables::series::read_series;
 use units::Fen;
 use units::Grains;
 use units::Kw;
-ghost use mathlib.Core.Path.{_≡_};
-ghost use Prim.Native.Nat.{_<_, _≤_};
+ghost use Prim.Native.Nat.{_+_, _<_, _≤_};
 ghost use lib.ListN.{length};
-ghost use Rattle.io.specs.Counts.{Counts};
 
-// What a member was scored; `ok` says that it was.
-struct Scored {
-    ok: bool,
-    grains: Grains,
-    fen: Fen,
+// The most members that a month has.
+const MEMBERS: usize = 64;
+
+// The quarter hours of 31 days, and one place more, so that a series that is too long shows.
+const SERIES_ROOM: usize = 31 * 24 * 4 + 1;
+
+// A series' name in its folder, and the longest name of a folder that leaves room for it.
+const NAME_SIZE: usize = 7;
+
+const MOST_FOLDER: usize = libc::PATH_MAX - NAME_SIZE;
+
+// What a member was scored; or nothing, and one line has said why.
+enum Scored {
+    Score(Grains, Fen),
+    Nothing,
+}
+
+// Whether the month goes on. Where it has stopped, one line has said why.
+enum Progress {
+    Going,
+    Stopped,
 }
 
 // The scores of the first members.
 struct Scores {
-    ok: bool,
-    grains: [Grains; 64],
-    fens: [Fen; 64],
+    progress: Progress,
+    grains: [Grains; MEMBERS],
+    fens: [Fen; MEMBERS],
 }
 
-fn not_scored() -> Scored {
-    Scored {
-        ok: false,
-        grains: Grains(0),
-        fen: Fen(0),
+fn first_values(values: &[u32], n: usize) -> &[u32] {
+    if n < values.len() {
+        return &values[0..n];
     }
-}
-
-// The series in the file, to the front of the list.
-fn load_series(path: &[u8], series: &mut [u32]) -> Held
-    ensures { λ r. ⌜ r .n ≤ length (now (series .exit)) ⌝ }
-{
-    let mut text = io::large_buffer();
-    let t = load(path, &mut text);
-    let n = t.n;
-    if !t.ok {
-        return Held { ok: false, n: 0 };
-    }
-    let count = read_series(&text[0..n], series);
-    Held { ok: true, n: count }
+    values
 }
 
 // The member's score over a book and the series in a file; `whose` names the book.
 fn score_with(member: Member, book: &[u8], whose: &[u8], path: &[u8]) -> Scored {
-    // One place more than a month of 31 days has quarter hours, so that a series that is too long shows.
-    let mut series = [0u32; 2977];
-    let s = load_series(path, &mut series);
-    let n = s.n;
-    if !s.ok {
-        return not_scored();
-    }
-    let r = score::score(member, book, &series[0..n]);
+    let mut text = io::large_buffer();
+    let Held::Bytes(n) = load(path, &mut text) else {
+        return Scored::Nothing;
+    };
+    let mut series = [0u32; SERIES_ROOM];
+    let count = read_series(first(&text, n), &mut series);
+    let r = score::score(member, book, first_values(&series, count));
     told(r, book, whose, path)
 }
 
@@ -79,139 +83,110 @@ fn told(r: Score, book: &[u8], whose: &[u8], path: &[u8]) -> Scored {
     if r.number == 0 {
         let grains = r.grains;
         let fen = r.fen;
-        return Scored {
-            ok: true,
-            grains,
-            fen,
-        };
+        return Scored::Score(grains, fen);
     }
     if r.number == 10 {
         print::refused(r.number, r.place, b"member");
-        return not_scored();
+        return Scored::Nothing;
     }
     if r.number == 11 {
         print::refused(r.number, r.place, path);
-        return not_scored();
+        return Scored::Nothing;
     }
     if 11 < r.number {
         print::call(call_of(book, r.place));
     }
     print::refused(r.number, r.place, whose);
-    not_scored()
+    Scored::Nothing
 }
 
-// The member whose number, kind and rating are arguments 2 to 4.
+// The member's score over the book and the series that arguments 5 and 6 name.
 fn score_of(member: Member) {
     let mut book = io::large_buffer();
-    let b = open(5, &mut book);
-    let n = b.n;
-    if !b.ok {
+    let Held::Bytes(n) = open(5, &mut book) else {
         return;
-    }
-    let mut buf = io::buffer();
-    let p = path(6, &mut buf);
-    let m = p.n;
-    if !p.ok {
+    };
+    let mut series = io::buffer();
+    let Held::Bytes(m) = path(6, &mut series) else {
         return;
-    }
-    score_by(member, &book[0..n], &buf[0..m]);
-}
-
-fn score_by(member: Member, book: &[u8], series: &[u8]) {
-    let mut buf = io::buffer();
-    let p = path(5, &mut buf);
-    let n = p.n;
-    tell_score(score_with(member, book, &buf[0..n], series));
-}
-
-fn tell_score(s: Scored) {
-    if s.ok {
-        say::text(b"grains ");
-        say::number(s.grains.0);
-        say::text(b"\nfen ");
-        say::number(s.fen.0);
+    };
+    let mut name = io::buffer();
+    let k = os::arg(5, &mut name);
+    let scored = score_with(member, first(&book, n), &name[0..k], first(&series, m));
+    if let Scored::Score(grains, fen) = scored {
+        print::field(b"grains ", grains.0);
+        print::field(b"\nfen ", fen.0);
         say::text(b"\n");
         print::done();
     }
 }
 
 pub fn score_member() {
-    let member = number(2, 65535);
-    if !member.ok {
+    let Short::Number(number) = short_at(2) else {
         return;
-    }
-    let kind = number(3, 255);
-    if !kind.ok {
-        return;
-    }
-    let rated = number(4, 0xffff_ffff);
-    if !rated.ok {
-        return;
-    }
-    let line = Member {
-        number: member.value as u16,
-        kind: kind.value as u8,
-        rated: Kw(rated.value as u32),
     };
-    score_of(line);
+    let Byte::Number(kind) = byte_at(3) else {
+        return;
+    };
+    let Long::Number(rated) = long_at(4) else {
+        return;
+    };
+    let rated = Kw(rated);
+    score_of(Member {
+        number,
+        kind,
+        rated,
+    });
 }
 
-// The series' file of a member: its number in two digits and .csv, in the folder that argument 3 names.
-fn series_path(member: u16, buf: &mut [u8]) -> Held
-    ensures { λ r. ⌜ r .n ≤ length (now (buf .exit)) ⌝ }
+// A series' file behind its folder's name, from byte n on: the member's number in two digits and .csv.
+fn put_name(member: u16, buf: &mut [u8], n: usize)
+    requires { ⌜ n + 7 ≤ length (now buf) ⌝ }
 {
-    let p = path(3, buf);
-    let n = p.n;
-    if !p.ok {
-        return Held { ok: false, n: 0 };
-    }
-    let room = buf.len();
-    if room < n + 7 {
-        print::failed(b"argument 3", b"too long for a folder's name");
-        return Held { ok: false, n: 0 };
-    }
-    put_name((member % 100) as u8, &mut buf[n..room]);
-    Held { ok: true, n: n + 7 }
-}
-
-fn put_name(member: u8, buf: &mut [u8])
-    requires { ⌜ (member < 100) × (7 ≤ length (now buf)) ⌝ }
-{
-    let tens = b'0' + member / 10;
-    let ones = b'0' + member % 10;
+    let tens = b'0' + (member / 10 % 10) as u8;
+    let ones = b'0' + (member % 10) as u8;
     let name = [b'/', tens, ones, b'.', b'c', b's', b'v'];
-    bytes::copy(&name, buf);
+    bytes::copy(&name, &mut buf[n..]);
 }
 
+// The member's score over the joined book and its series in the folder that argument 3 names.
 fn score_entry(member: Member, book: &[u8]) -> Scored {
     let mut buf = io::buffer();
-    let p = series_path(member.number, &mut buf);
-    let n = p.n;
-    if !p.ok {
-        return not_scored();
+    let Held::Bytes(n) = path(3, &mut buf) else {
+        return Scored::Nothing;
+    };
+    if MOST_FOLDER < n {
+        print::failed(b"argument 3", b"too long for a folder's name");
+        return Scored::Nothing;
     }
-    score_with(member, book, b"joined", &buf[0..n])
+    put_name(member.number, &mut buf, n);
+    score_with(member, book, b"joined", first(&buf, n + NAME_SIZE))
 }
 
 // The scores with that of the register's line i.
 fn score_next(register: Register, i: usize, book: &[u8], s: Scores) -> Scores
     requires { ⌜ i < 64 ⌝ }
 {
-    if !s.ok {
+    let progress = s.progress;
+    let Progress::Going = progress else {
         return s;
-    }
+    };
+    let mut grains = s.grains;
+    let mut fens = s.fens;
     let entries = register.entries;
     let e = entries[i];
     let member = e.member;
-    let r = score_entry(member, book);
-    let mut grains = s.grains;
-    let mut fens = s.fens;
-    let points = r.grains;
-    let money = r.fen;
+    let Scored::Score(points, money) = score_entry(member, book) else {
+        return Scores {
+            progress: Progress::Stopped,
+            grains,
+            fens,
+        };
+    };
     grains[i] = points;
     fens[i] = money;
     Scores {
-        ok: r.ok,
+        progress: Progress::Going,
         grains,
         fens,
     }
@@ -219,7 +194,7 @@ fn score_next(register: Register, i: usize, book: &[u8], s: Scores) -> Scores
 
 // Every member scored, in turn, up to the first that is refused.
 fn score_all(register: Register, book: &[u8]) -> Scores {
-    let count = at_most_64(register.count);
+    let count = at_most(register.count);
     let mut s = no_scores();
     let mut i: usize = 0;
     while i < count {
@@ -229,57 +204,31 @@ fn score_all(register: Register, book: &[u8]) -> Scores {
     s
 }
 
-fn at_most_64(count: usize) -> usize
+fn at_most(count: usize) -> usize
     ensures { λ r. ⌜ r ≤ 64 ⌝ }
 {
-    if count < 64 { count } else { 64 }
+    if count < MEMBERS { count } else { MEMBERS }
 }
 
 fn no_scores() -> Scores {
     let grains = Grains(0);
     let fen = Fen(0);
     Scores {
-        ok: true,
-        grains: [grains; 64],
-        fens: [fen; 64],
+        progress: Progress::Going,
+        grains: [grains; MEMBERS],
+        fens: [fen; MEMBERS],
     }
-}
-
-// A register, and whether it was read.
-struct Opened {
-    ok: bool,
-    register: Register,
-}
-
-// The register that argument 2 names.
-fn open_register() -> Opened {
-    let mut buf = io::buffer();
-    let p = path(2, &mut buf);
-    let n = p.n;
-    let mut text = io::large_buffer();
-    let t = load(&buf[0..n], &mut text);
-    let m = t.n;
-    let register = read_register(&text[0..m]);
-    if t.ok & (register.number != 0) {
-        print::refused(register.number, register.place, &buf[0..n]);
-    }
-    let ok = t.ok & (register.number == 0);
-    Opened { ok, register }
 }
 
 fn tell_scored(member: u16, grains: Grains, fen: Fen) {
-    say::text(b"member ");
-    say::number(member as u64);
-    say::text(b" grains ");
-    say::number(grains.0);
-    say::text(b" fen ");
-    say::number(fen.0);
+    print::field(b"member ", member as u64);
+    print::field(b" grains ", grains.0);
+    print::field(b" fen ", fen.0);
     say::text(b"\n");
 }
 
 fn tell_shared(l: Line) {
-    say::text(b"member ");
-    say::number(l.number as u64);
+    print::field(b"member ", l.number as u64);
     say::text(b" share ");
     say::money(l.share);
     say::text(b" amount ");
@@ -287,7 +236,7 @@ fn tell_shared(l: Line) {
     say::text(b"\n");
 }
 
-fn tell_scores(lines: [Line; 64], s: Scores, count: usize)
+fn tell_scores(lines: [Line; MEMBERS], s: Scores, count: usize)
     requires { ⌜ count ≤ 64 ⌝ }
 {
     let grains = s.grains;
@@ -302,7 +251,7 @@ fn tell_scores(lines: [Line; 64], s: Scores, count: usize)
     }
 }
 
-fn tell_shares(lines: [Line; 64], count: usize)
+fn tell_shares(lines: [Line; MEMBERS], count: usize)
     requires { ⌜ count ≤ 64 ⌝ }
 {
     let mut i: usize = 0;
@@ -315,7 +264,7 @@ fn tell_shares(lines: [Line; 64], count: usize)
 
 // The statement: what each member was scored, R, and each member's share and amount.
 fn tell_statement(shared: Shared, s: Scores, members: usize) {
-    let count = at_most_64(members);
+    let count = at_most(members);
     let lines = shared.lines;
     tell_scores(lines, s, count);
     say::text(b"total ");
@@ -327,9 +276,10 @@ fn tell_statement(shared: Shared, s: Scores, members: usize) {
 
 fn settle_with(register: Register, book: &[u8]) {
     let s = score_all(register, book);
-    if !s.ok {
+    let progress = s.progress;
+    let Progress::Going = progress else {
         return;
-    }
+    };
     let fens = s.fens;
     let shared = register.statement(fens);
     if shared.number != 0 {
@@ -340,16 +290,24 @@ fn settle_with(register: Register, book: &[u8]) {
     tell_statement(shared, s, register.count);
 }
 
+fn settle(register: Register) {
+    let mut all = io::large_buffer();
+    if let Held::Bytes(n) = join_all(4, &mut all) {
+        settle_with(register, first(&all, n));
+    }
+}
+
 pub fn settle_month() {
-    let r = open_register();
-    let register = r.register;
-    if !r.ok {
+    let mut name = io::buffer();
+    let n = path(2, &mut name).size();
+    let mut text = io::large_buffer();
+    let Held::Bytes(size) = load(first(&name, n), &mut text) else {
+        return;
+    };
+    let register = read_register(first(&text, size));
+    if register.number != 0 {
+        print::refused(register.number, register.place, first(&name, n));
         return;
     }
-    let mut all = io::large_buffer();
-    let b = join_all(4, &mut all);
-    let n = b.n;
-    if b.ok {
-        settle_with(register, &all[0..n]);
-    }
+    settle(register);
 }

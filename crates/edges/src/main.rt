@@ -1,52 +1,47 @@
-// Runs the book's rules on their edges. The cases come from standard input, a line each (its file `stdin` tells how to read them);
-// each case states what the paper says, and the program counts those that came out otherwise.
-mod kinds;
+// Runs the rules on their edges: three tables of cases, of the book's rules, of the scoring sums, and of the texts of sharing lines. They come
+// from standard input, a case a line (the file `stdin` tells how to read them); each case states what the paper says. A case that came out
+// otherwise is told by its line, and each table ends with how many cases it has and how many are wrong.
+mod books;
+mod numbers;
+mod scores;
+mod spelling;
+mod tally;
+mod texts;
 
-use cases::row::Row;
-use cases::row::before;
-use cases::tally::Tally;
 use libc::STDIN_FILENO;
+use numbers::Numbers;
+use numbers::before;
+use tally::Tally;
+ghost use mathlib.Core.Path.{_≡_};
+ghost use lib.ListN.{length};
 
-// How many numbers a case of each kind has.
-fn numbers(kind: u64) -> usize {
-    match kind {
-        1 => 5,
-        2 => 14,
-        3 => 9,
-        4 => 3,
-        5 => 7,
-        6 => 4,
-        7 => 4,
-        8 => 3,
-        _ => 0,
-    }
-}
-
-// A line with a number too few or too many counts as wrong, and so does a kind that no case has.
-fn right(row: Row) -> bool {
-    let kind = row.value(0);
-    if row.count != numbers(kind) {
+// A heading starts with `=`, and its first number says whose cases follow.
+fn is_heading(line: &[u8]) -> bool {
+    if line.len() == 0 {
         return false;
     }
-    match kind {
-        1 => kinds::header(row),
-        2 => kinds::record(row),
-        3 => kinds::byte(row),
-        4 => kinds::length(row),
-        5 => kinds::keys(row),
-        6 => kinds::month(row),
-        7 => kinds::room(row),
-        8 => kinds::many(row),
-        _ => false,
+    line[0] == b'='
+}
+
+// A line of numbers that stands in no table is wrong.
+fn stray(tally: Tally, line: &[u8]) -> Tally {
+    if Numbers::read(line).count == 0 {
+        return tally.past();
     }
+    tally.with(false)
 }
 
 fn with(tally: Tally, line: &[u8]) -> Tally {
-    let row = Row::read(line);
-    if row.count == 0 {
-        return tally.past();
+    if is_heading(line) {
+        return tally.headed(Numbers::read(line).value(0));
     }
-    tally.with(right(row))
+    let table = tally.table;
+    match table {
+        tally::BOOKS => books::with(tally, line),
+        tally::SCORES => scores::with(tally, line),
+        tally::TEXTS => texts::with(tally, line),
+        _ => stray(tally, line),
+    }
 }
 
 fn run(text: &[u8]) -> Tally {
@@ -60,8 +55,18 @@ fn run(text: &[u8]) -> Tally {
     tally
 }
 
+// Room for the tables, some four times what they have.
+fn room() -> [u8; 262144]
+    ensures { λ r. ⌜ 262144 ≡ length r ⌝ }
+{
+    [0; 262144]
+}
+
 fn main() {
-    let mut text = io::large_buffer();
+    let mut text = room();
     let n = io::read_full(STDIN_FILENO, &mut text);
     run(&text[..n]).tell();
+    if n == text.len() {
+        say::text(b"wrong: the tables are longer than there is room for\n");
+    }
 }

@@ -2,7 +2,12 @@
 ghost use mathlib.Core.Path.{_≡_};
 ghost use Prim.Native.Nat.{_+_, _≤_};
 ghost use lib.ListN.{length};
-ghost use Rattle.files.specs.Fits.{Fits};
+ghost use Rattle.files.specs.Fits.{Fits, Brings};
+
+// How many bytes stand behind the target's name in that of the new file, and the longest name that leaves room for them and a zero.
+const BEHIND: usize = 7;
+
+const MOST_NAME: usize = libc::PATH_MAX - BEHIND - 1;
 
 // What became of reading a file: how many bytes it has, or why it was not read.
 pub enum Loaded {
@@ -23,85 +28,55 @@ pub enum Stored {
     Unsure,
 }
 
-struct Once {
-    got: usize,
-    failed: bool,
-}
-
-// How many bytes were read, and why reading stopped: 0 the end, 1 a full buffer, 2 a failed read.
-struct Filled {
-    n: usize,
-    end: u8,
+// What one read brought.
+enum Once {
+    Bytes(usize),
+    End,
+    Failed,
 }
 
 // One read. A failed read is no end of the file.
 fn read_once(fd: i32, part: &mut [u8]) -> Once
-    ensures { λ r. ⌜ (r .got ≤ length (now (part .entry))) × (length (now (part .exit)) ≡ length (now (part .entry))) ⌝ }
+    ensures { λ r. ⌜ (Brings (length (now (part .entry))) r) × (length (now (part .exit)) ≡ length (now (part .entry))) ⌝ }
 {
     let got = libc::read(fd, part);
     if got < 0 {
-        return Once {
-            got: 0,
-            failed: true,
-        };
+        return Once::Failed;
     }
     let n = io::count(got, part);
-    Once {
-        got: n,
-        failed: false,
+    if n == 0 {
+        return Once::End;
+    }
+    Once::Bytes(n)
+}
+
+// A file of which n bytes, all that there was room for, are read: one read more tells it from a longer one.
+fn probe(fd: i32, n: usize) -> Loaded
+    ensures { λ r. ⌜ Fits n r ⌝ }
+{
+    let mut one = [0u8; 1];
+    match read_once(fd, &mut one) {
+        Once::Bytes(_) => Loaded::TooLong,
+        Once::End => Loaded::Whole(n),
+        Once::Failed => Loaded::Failed,
     }
 }
 
-fn fill(fd: i32, buf: &mut [u8]) -> Filled
-    ensures { λ r. ⌜ (r .n ≤ length (now (buf .entry))) × (length (now (buf .exit)) ≡ length (now (buf .entry))) ⌝ }
+fn fill(fd: i32, buf: &mut [u8]) -> Loaded
+    ensures { λ r. ⌜ Fits (length (now (buf .exit))) r ⌝ }
 {
     let mut n: usize = 0;
     while n < buf.len() {
         let once = read_once(fd, &mut buf[n..]);
-        if once.failed {
-            return Filled { n, end: 2 };
+        if let Once::Failed = once {
+            return Loaded::Failed;
         }
-        if once.got == 0 {
-            return Filled { n, end: 0 };
-        }
-        n += once.got;
+        let Once::Bytes(got) = once else {
+            return Loaded::Whole(n);
+        };
+        n += got;
     }
-    Filled { n, end: 1 }
-}
-
-// Whether a byte more would come: 0 no, 1 yes, 2 a failed read. A file as long as the buffer is told from a longer one by it.
-fn probe(fd: i32) -> u8 {
-    let mut one = [0u8; 1];
-    let once = read_once(fd, &mut one);
-    if once.failed {
-        return 2;
-    }
-    if once.got == 0 {
-        return 0;
-    }
-    1
-}
-
-fn told(n: usize, end: u8) -> Loaded
-    ensures { λ r. ⌜ Fits n r ⌝ }
-{
-    if end == 0 {
-        return Loaded::Whole(n);
-    }
-    if end == 1 {
-        return Loaded::TooLong;
-    }
-    Loaded::Failed
-}
-
-fn load_from(fd: i32, buf: &mut [u8]) -> Loaded
-    ensures { λ r. ⌜ Fits (length (now (buf .exit))) r ⌝ }
-{
-    let filled = fill(fd, buf);
-    if filled.end == 1 {
-        return told(filled.n, probe(fd));
-    }
-    told(filled.n, filled.end)
+    probe(fd, n)
 }
 
 // The whole file in the buffer's first bytes, or why not.
@@ -115,7 +90,7 @@ pub fn load(path: &[u8], buf: &mut [u8]) -> Loaded
         }
         return Loaded::Failed;
     }
-    let loaded = load_from(fd, buf);
+    let loaded = fill(fd, buf);
     libc::close(fd);
     loaded
 }
@@ -200,11 +175,11 @@ fn temp_name(path: &[u8], name: &mut [u8])
 // The bytes as the whole file, by a new file beside it.
 pub fn store(path: &[u8], bytes: &[u8]) -> Stored {
     let n = path.len();
-    if 4088 < n {
+    if MOST_NAME < n {
         return Stored::BadName;
     }
     let mut name = io::buffer();
     temp_name(path, &mut name);
-    let end = n + 7;
+    let end = n + BEHIND;
     store_by(path, &mut name[..end], bytes)
 }

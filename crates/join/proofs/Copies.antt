@@ -7,10 +7,10 @@ use lib.ListN.{length, take, drop}
 use lib.Seq.{take-at, take-add, drop-drop}
 use Rattle.le.specs.Le.{leAt, leBytes, IsBytes}
 use Rattle.le.proofs.Laws.{bytesAt, again, cat, split}
-use Rattle.call.specs.Layout.{reserved, callAt, callBytes}
+use Rattle.call.specs.Layout.{reservedAt, callAt, callBytes}
 use Rattle.call.proofs.Bytes.{length-call, record-again}
 use Rattle.join.specs.declared.Words.{Words}
-use Rattle.join.specs.Steps.{Whole, Spells, wordBytes}
+use Rattle.join.specs.Steps.{RecordLies, Spells, wordBytes}
 
 length-bytes : (w : ℕ) (s : List ℕ) (o : ℕ) → length (bytesAt s o w) ≡ w
 unfolding bytesAt
@@ -18,7 +18,7 @@ length-bytes zero s o = refl
 length-bytes (suc w) s o = ap suc (length-bytes w s (o + 1))
 
 -- a sound record's 32 bytes are its encoding
-pub record-part : (s : List ℕ) → IsBytes s → (o : ℕ) → o + 32 ≤ length s → reserved s o ≡ 0 → take 32 (drop o s) ≡ callBytes (callAt s o)
+pub record-part : (s : List ℕ) → IsBytes s → (o : ℕ) → o + 32 ≤ length s → reservedAt s o ≡ 0 → take 32 (drop o s) ≡ callBytes (callAt s o)
 record-part s small o h z = ap (take 32) (record-again s small o h z) ∙ take-at (callBytes (callAt s o)) (drop (o + 32) s) 32 (length-call (callAt s o))
 
 -- eight bytes read and written again are a part of eight bytes
@@ -27,7 +27,7 @@ eight-bytes s small o h =
     again 8 s o small ∙ sym (take-at (bytesAt s o 8) (drop (o + 8) s) 8 (length-bytes 8 s o)) ∙ ap (take 8) (sym (split 8 s o h))
 
 -- four times eight bytes of a sound record are its encoding
-pub words-record : (s : List ℕ) → IsBytes s → (o : ℕ) → Whole s o → (w : Words) → Spells s o w → wordBytes w ≡ callBytes (callAt s o)
+pub words-record : (s : List ℕ) → IsBytes s → (o : ℕ) → RecordLies s o → (w : Words) → Spells s o w → wordBytes w ≡ callBytes (callAt s o)
 words-record s small o whole w e =
     let h = whole .long in
     cat

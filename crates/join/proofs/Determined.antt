@@ -1,56 +1,53 @@
 -- Two outcomes that a contract allows are one; and the numbers that a join may give. Assumes nothing.
-use mathlib.Core.Path.{_≡_, refl, sym}
-use mathlib.Core.Bool.{Bool, true, false, cond}
+use mathlib.Core.Path.{_≡_, refl, sym, _∙_, ap}
+use mathlib.Core.Bool.{Bool, true, false}
 use mathlib.Core.Logic.{_⊎_, inl, inr}
 use mathlib.Core.List.{List}
 use Prim.Native.Nat.{ℕ, _≤_}
 use native.Mathlib.Omega.{arith}
-use native.Mathlib.Decide.{decLe, ℕ-discrete}
-use lib.ListN.{length}
 use Rattle.book.specs.declared.Verdict.{Verdict}
-use Rattle.book.specs.declared.write.Written.{Written}
-use Rattle.book.specs.Book.{mostRecords, sizeOf, headerOf}
-use Rattle.book.specs.Check.{checkOf}
-use Rattle.book.specs.Write.{Outcome, outcome}
-use Rattle.book.proofs.Determined.{outcome-determined}
-use Rattle.pair.specs.Screening.{sameMonth, screened}
-use Rattle.join.specs.Joining.{joinedOf, joining}
-use Rattle.pair.proofs.Screening.{Judged, check-judged, screen-first, screen-second, screen-month, screen-passes, zero-screened}
-use Rattle.join.proofs.WaysOut.{refuse-screened, refuse-many, refuse-short, joins-both}
+use Rattle.book.specs.Book.{headerAt}
+use Rattle.book.specs.Check.{check}
+use Rattle.pair.specs.Screening.{sameMonth, bothSound, screen}
+use Rattle.pair.proofs.Screening.{Both, first-bad, second-bad, neither-bad, both, screen-both, screen-month, screen-passes}
+use Rattle.join.specs.declared.Joined.{Joined}
+use Rattle.join.specs.Joining.{JoinOutcome, joinOutcome, joining}
+use Rattle.join.proofs.WaysOut.{Way, screened, many, short, joins, way}
 
 -- a join: number, place and length, and every byte of the output
-pub join-determined : (first second before : List ℕ) (r s : Written) (after again : List ℕ) → outcome r after ≡ joining first second before → outcome s again ≡ joining first second before
-    → (r ≡ s) × (after ≡ again)
-join-determined first second before r s after again e f = outcome-determined r s after again (joining first second before) e f
+pub join-determined : (first second before : List ℕ) (r s : Joined) (after again : List ℕ)
+    → joinOutcome r after ≡ joining first second before → joinOutcome s again ≡ joining first second before → (r ≡ s) × (after ≡ again)
+join-determined first second before r s after again e f =
+    let g = e ∙ sym f in (
+      λ i. record { number = ap (λ (x : JoinOutcome). x .number) g i; place = ap (λ (x : JoinOutcome). x .place) g i; length = ap (λ (x : JoinOutcome). x .size) g i },
+      ap (λ (x : JoinOutcome). x .out) g,
+    )
 
 -- The numbers of a join: 1 to 9, or 21 to 26, or 0. So 27 and 28 cannot occur.
 
 abbrev Number : ℕ → Type 0
 Number n = (n ≤ 9) ⊎ ((21 ≤ n) × (n ≤ 26))
 
-screen-number : (a b : List ℕ) → Number (screened a b .number)
-screen-number a b = go (check-judged a) (check-judged b) (sameMonth (headerOf a) (headerOf b)) refl
+screen-number : (a b : List ℕ) → Number (screen a b .number)
+screen-number a b = go (both a b) (sameMonth (headerAt a) (headerAt b)) refl
   where
-    of : {v : Verdict} → v ≡ screened a b → Number (v .number) → Number (screened a b .number)
+    of : {v : Verdict} → v ≡ screen a b → Number (v .number) → Number (screen a b .number)
     of e n = rw (sym e) n
 
-    go : Judged (checkOf a) → Judged (checkOf b) → (t : Bool) → sameMonth (headerOf a) (headerOf b) ≡ t → Number (screened a b .number)
-    go (inr p) q t e = of (screen-first a b (checkOf a) refl (λ z. let l = p .0 in omega arith)) (inl (let l = p .1 in omega arith))
-    go (inl p) (inr q) t e = of (screen-second a b p (checkOf b) refl (λ z. let l = q .0 in omega arith)) (inr (let l = q .0 in omega arith, let l = q .1 in omega arith))
-    go (inl p) (inl q) false e = of (screen-month a b p q e) (inl (omega arith))
-    go (inl p) (inl q) true e = of (screen-passes a b p q e) (inl (omega arith))
+    go : Both a b → (t : Bool) → sameMonth (headerAt a) (headerAt b) ≡ t → Number (screen a b .number)
+    go (first-bad l h e) t m = of (screen-both a b (check a) e (λ z. omega arith)) (inl (omega arith))
+    go (second-bad l h e) t m = of (screen-both a b _ e (λ z. omega arith)) (inr (omega arith, omega arith))
+    go (neither-bad p q e) false m = of (screen-month a b p q m) (inl (omega arith))
+    go (neither-bad p q e) true m = of (screen-passes a b p q m) (inl (omega arith))
 
 pub join-number : (a b out : List ℕ) → (joining a b out .number ≤ 9) ⊎ ((21 ≤ joining a b out .number) × (joining a b out .number ≤ 26))
-join-number a b out = go (ℕ-discrete (screened a b .number) 0) (decLe n mostRecords) (decLe (sizeOf n) (length out))
+join-number a b out = go (way a b out)
   where
-    n : ℕ
-    n = length (joinedOf a b)
-
-    of : {o : Outcome} → o ≡ joining a b out → Number (o .number) → Number (joining a b out .number)
+    of : {o : JoinOutcome} → o ≡ joining a b out → Number (o .number) → Number (joining a b out .number)
     of e m = rw (sym e) m
 
-    go : Dec (screened a b .number ≡ 0) → Dec (n ≤ mostRecords) → Dec (sizeOf n ≤ length out) → Number (joining a b out .number)
-    go (no s) f r = of (refuse-screened a b out (screened a b) refl s) (screen-number a b)
-    go (yes s) (no f) r = of (refuse-many a b out (zero-screened a b s) n refl (omega arith)) (inl (omega arith))
-    go (yes s) (yes f) (no r) = of (refuse-short a b out (zero-screened a b s) n refl f (omega arith)) (inl (omega arith))
-    go (yes s) (yes f) (yes r) = of (joins-both a b out (zero-screened a b s) n refl f r) (inl (omega arith))
+    go : Way a b out → Number (joining a b out .number)
+    go (screened s e) = of e (screen-number a b)
+    go (many s f e) = of e (inl (omega arith))
+    go (short s r e) = of e (inl (omega arith))
+    go (joins s f e) = of e (inl (omega arith))

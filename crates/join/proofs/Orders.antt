@@ -6,10 +6,10 @@ use Prim.Native.Nat.{ℕ, _≤_, _<_}
 use native.Mathlib.Omega.{arith}
 use lib.ListN.{length}
 use Rattle.call.specs.declared.Call.{Call}
-use Rattle.call.specs.Key.{keyOf}
+use Rattle.call.specs.Key.{callKey}
 use Rattle.book.specs.declared.Header.{Header}
-use Rattle.book.specs.Book.{mostRecords, countOf, callsOf, bookBytes}
-use Rattle.book.specs.Check.{monthOf}
+use Rattle.book.specs.Book.{version, mostRecords, countAt, callsOf, bookBytes}
+use Rattle.book.specs.Check.{headerMinutes}
 use Rattle.book.proofs.Records.{length-calls}
 use Rattle.book.proofs.Exact.{reads-back}
 use Rattle.rule.specs.Standing.{isWithdrawn}
@@ -20,7 +20,8 @@ use Rattle.rule.proofs.Orders.{Over}
 use Rattle.rule.proofs.Orders as lists
 use Rattle.rule.proofs.Whole.{number-of-keys}
 use Rattle.rule.proofs.Whole as whole-list
-use Rattle.join.specs.Trees.{Plan, books, written, result, AllAccepted, keyCount, Room, OneMonth, Covers, ruleBook}
+use Rattle.join.specs.Joining.{keyCount}
+use Rattle.join.specs.Trees.{Plan, books, written, result, AllAccepted, Room, OneMonth, Covers, ruleBook}
 use Rattle.join.proofs.Trees.{treeOf, covers-over, month-sounds, heading, tree-calls, Gives, gives}
 
 -- a tree's leaves are sound books of the month, as the books are that it covers
@@ -31,7 +32,7 @@ module _ (h : Header) (bs : List (List ℕ)) (month : OneMonth h bs) (p : Plan) 
   over : Over (treeOf p) (map callsOf bs)
   over = covers-over p bs covers
 
-  sounds : Sounds (monthOf h) (map callsOf bs)
+  sounds : Sounds (headerMinutes h) (map callsOf bs)
   sounds = month-sounds h bs month
 
   of-leaves : OneMonth h (books p)
@@ -39,23 +40,23 @@ module _ (h : Header) (bs : List (List ℕ)) (month : OneMonth h bs) (p : Plan) 
 
   count : length (joined (treeOf p)) ≡ keyCount bs
   unfolding keyCount
-  count = number-of-keys (monthOf h) (treeOf p) (map callsOf bs) over sounds
+  count = number-of-keys (headerMinutes h) (treeOf p) (map callsOf bs) over sounds
 
   tree-gives : Gives h p
   tree-gives = gives h p of-leaves room
 
   -- above 512 different keys every tree of joins stops in a refusal 8
-  pub too-many : mostRecords < keyCount bs → result p .number ≡ 8
+  pub too-many : mostRecords version < keyCount bs → result p .number ≡ 8
   too-many f = tree-gives .many (omega (arith, count))
 
-  module _ (few : keyCount bs ≤ mostRecords) where
-    given-book : AllAccepted p × (result p .number ≡ 0) × (written (result p) ≡ bookBytes h (joined (treeOf p)))
+  module _ (few : keyCount bs ≤ mostRecords version) where
+    given-book : AllAccepted p × (result p .number ≡ 0) × (written (result p) ≡ bookBytes version h (joined (treeOf p)))
     given-book = tree-gives .few (omega (arith, count))
 
     -- DEMAND 3: every tree of joins over the books is accepted at every node, and its bytes are those of the rule over the whole list
     pub any-order : AllAccepted p × (result p .number ≡ 0) × (written (result p) ≡ ruleBook h bs)
     unfolding ruleBook
-    any-order = (given-book .0, given-book .1, given-book .2 ∙ ap (bookBytes h) (whole-list.any-order (monthOf h) (treeOf p) (map callsOf bs) over sounds))
+    any-order = (given-book .0, given-book .1, given-book .2 ∙ ap (bookBytes version h) (whole-list.any-order (headerMinutes h) (treeOf p) (map callsOf bs) over sounds))
 
     -- the calls of the result
     calls : callsOf (written (result p)) ≡ joined (treeOf p)
@@ -64,20 +65,20 @@ module _ (h : Header) (bs : List (List ℕ)) (month : OneMonth h bs) (p : Plan) 
         ∙ reads-back h (joined (treeOf p)) (heading h p of-leaves) (omega (arith, count)) (tree-calls h p of-leaves .within) .1
 
     -- the header's count is the number of different keys
-    pub counts-keys : countOf (written (result p)) ≡ keyCount bs
+    pub counts-keys : countAt (written (result p)) ≡ keyCount bs
     unfolding callsOf
-    counts-keys = sym (length-calls (written (result p)) (countOf (written (result p))) 0) ∙ ap length calls ∙ count
+    counts-keys = sym (length-calls (written (result p)) (countAt (written (result p))) 0) ∙ ap length calls ∙ count
 
     -- a call that is withdrawn in any of the books is withdrawn in the result
     pub stays-withdrawn : (b : List ℕ) → In b bs → (w : Call) → In w (callsOf b) → isWithdrawn w ≡ true
-        → (r : Call) × In r (callsOf (written (result p))) × (keyOf r ≡ keyOf w) × (isWithdrawn r ≡ true)
+        → (r : Call) × In r (callsOf (written (result p))) × (callKey r ≡ callKey w) × (isWithdrawn r ≡ true)
     stays-withdrawn b i w j t =
         let listed : In (callsOf b) (map callsOf bs) = Memᴰ·map callsOf i in
-        let s = lists.stays-withdrawn (monthOf h) (treeOf p) (map callsOf bs) over sounds (callsOf b) listed (keyOf w) w (in-find 0 (callsOf b) w (sounds (callsOf b) listed .rises) j) t in
-        let f = find-in (keyOf w) (joined (treeOf p)) (s .0) (s .1) in
+        let s = lists.stays-withdrawn (headerMinutes h) (treeOf p) (map callsOf bs) over sounds (callsOf b) listed (callKey w) w (in-find 0 (callsOf b) w (sounds (callsOf b) listed .rises) j) t in
+        let f = find-in (callKey w) (joined (treeOf p)) (s .0) (s .1) in
         (s .0, subst (λ (l : List Call). In (s .0) l) (sym calls) (f .0), f .1, s .2)
 
 -- any two trees of joins over the same books give the same bytes
-pub same-bytes : (h : Header) (bs : List (List ℕ)) → OneMonth h bs → keyCount bs ≤ mostRecords
+pub same-bytes : (h : Header) (bs : List (List ℕ)) → OneMonth h bs → keyCount bs ≤ mostRecords version
     → (p q : Plan) → Covers p bs → Covers q bs → Room p → Room q → written (result p) ≡ written (result q)
 same-bytes h bs month few p q c d r s = any-order h bs month p c r few .2 ∙ sym (any-order h bs month q d s few .2)

@@ -14,53 +14,86 @@ use Rattle.le.specs.Le.{Stores}
 use Rattle.le.proofs.Laws.{then}
 use Rattle.le.proofs.Tests.{each}
 use Rattle.call.specs.declared.Call.{Call}
-use Rattle.call.specs.Layout.{callAt, callBytes}
-use Rattle.book.specs.Book.{sizeOf, countOf, callOf, callsFrom, callsOf, recordBytes}
+use Rattle.call.specs.Key.{callKey}
+use Rattle.call.specs.Layout.{recordSize, callAt, callBytes}
+use Rattle.book.specs.Book.{sizeOf, countAt, recordAt, callsFrom, callsOf, recordBytes}
 use Rattle.book.proofs.Lengths.{length-records}
 use Rattle.book.proofs.Records.{length-calls}
-use Rattle.rule.specs.Joined.{joinCalls}
-use Rattle.rule.proofs.Joins.{Joins, left as gives-second, right as gives-first, lower as gives-lower, upper as gives-upper, both as gives-both, joins, joins-long, join-nil, join-lt, join-gt, join-eq}
+use Rattle.rule.specs.Standing.{standing}
+use Rattle.rule.specs.Inner.{merge}
+use Rattle.rule.proofs.Joins.{join-length}
+use Rattle.rule.proofs.Merging.{
+  Merges,
+  left as gives-second,
+  right as gives-first,
+  lower as gives-lower,
+  upper as gives-upper,
+  both as gives-both,
+  merges,
+  merges-long,
+  merge-nil,
+  merge-lt,
+  merge-gt,
+  merge-eq,
+  merge-joins,
+}
 use Rattle.join.specs.declared.Next.{Next}
 use Rattle.join.specs.declared.Reached.{Reached}
-use Rattle.join.specs.Joining.{joinedOf}
-use Rattle.join.specs.Steps.{left, Settled, lower, upper, equal, Put, Merged}
+use Rattle.pair.specs.Screening.{Accepted}
+use Rattle.join.specs.Joining.{keyCount, keysOfBoth, joinedOf}
+use Rattle.join.specs.Steps.{leftOf, KeySettled, lower, upper, equal, KeyPut, Merged}
+use Rattle.join.proofs.Books.{keys-rise}
 
 -- What is left of a book
 
-left-cons : (b : List ℕ) (n i : ℕ) → i < n → left b n i ≡ callOf b i ∷ left b n (i + 1)
-unfolding left callsFrom
+left-cons : (b : List ℕ) (n i : ℕ) → i < n → leftOf b n i ≡ recordAt b i ∷ leftOf b n (i + 1)
+unfolding leftOf callsFrom
 left-cons b n i h =
     let e : n - i ≡ suc (n - (i + 1)) = omega arith in
-    ap (callsFrom b i) e ∙ ap (λ (k : ℕ). callOf b i ∷ callsFrom b k (n - (i + 1))) (omega arith)
+    ap (callsFrom b i) e ∙ ap (λ (k : ℕ). recordAt b i ∷ callsFrom b k (n - (i + 1))) (omega arith)
 
-left-end : (b : List ℕ) (n i : ℕ) → n ≤ i → left b n i ≡ []
-unfolding left callsFrom
+left-end : (b : List ℕ) (n i : ℕ) → n ≤ i → leftOf b n i ≡ []
+unfolding leftOf callsFrom
 left-end b n i h = let e : n - i ≡ 0 = omega arith in ap (callsFrom b i) e
 
-pub length-left : (b : List ℕ) (n i : ℕ) → length (left b n i) ≡ n - i
-unfolding left
+pub length-left : (b : List ℕ) (n i : ℕ) → length (leftOf b n i) ≡ n - i
+unfolding leftOf
 length-left b n i = length-calls b (n - i) i
 
-join-none : (xs : List Call) → joinCalls [] xs ≡ xs
-unfolding joinCalls
-join-none xs = refl
+merge-none : (xs : List Call) → merge [] xs ≡ xs
+unfolding merge
+merge-none xs = refl
 
--- a join has at most the records of both lists
-joins-short : {xs ys zs : List Call} → Joins xs ys zs → length zs ≤ length xs + length ys
-joins-short gives-second = omega arith
-joins-short gives-first = omega arith
-joins-short (gives-lower h j) = let i = joins-short j in omega arith
-joins-short (gives-upper h j) = let i = joins-short j in omega arith
-joins-short (gives-both h j) = let i = joins-short j in omega arith
+-- a merge has at most the records of both lists
+merges-short : {xs ys zs : List Call} → Merges xs ys zs → length zs ≤ length xs + length ys
+merges-short gives-second = omega arith
+merges-short gives-first = omega arith
+merges-short (gives-lower h j) = let i = merges-short j in omega arith
+merges-short (gives-upper h j) = let i = merges-short j in omega arith
+merges-short (gives-both h j) = let i = merges-short j in omega arith
+
+-- a join has as many records as there are different keys
+pub joined-length : (a b : List ℕ) → length (joinedOf a b) ≡ keysOfBoth a b
+unfolding joinedOf keyCount
+joined-length a b = join-length (callsOf a) (callsOf b)
 
 -- all records of both books
-pub all-left : (a b : List ℕ) → joinCalls (left a (countOf a) 0) (left b (countOf b) 0) ≡ joinedOf a b
-unfolding left joinedOf callsOf
-all-left a b = ap₂ joinCalls (ap (callsFrom a 0) (sub-zero (countOf a))) (ap (callsFrom b 0) (sub-zero (countOf b)))
+module _ (a b : List ℕ) (p : Accepted a) (q : Accepted b) where
+  pub all-left : merge (leftOf a (countAt a) 0) (leftOf b (countAt b) 0) ≡ joinedOf a b
+  unfolding leftOf joinedOf callsOf
+  all-left =
+      ap₂ merge (ap (callsFrom a 0) (sub-zero (countAt a))) (ap (callsFrom b 0) (sub-zero (countAt b)))
+      ∙ merge-joins 0 (callsFrom a 0 (countAt a)) (callsFrom b 0 (countAt b)) (keys-rise a p) (keys-rise b q)
 
-pub most-joined : (a b : List ℕ) (n m : ℕ) → n ≡ countOf a → m ≡ countOf b → length (joinedOf a b) ≤ n + m
-most-joined a b n m e f =
-    omega (arith, joins-short (joins (left a (countOf a) 0) (left b (countOf b) 0)), length-left a (countOf a) 0, length-left b (countOf b) 0, ap length (all-left a b))
+  -- as many as there are different keys
+  pub count-left : length (merge (leftOf a (countAt a) 0) (leftOf b (countAt b) 0)) ≡ keysOfBoth a b
+  count-left = ap length all-left ∙ joined-length a b
+
+  pub most-joined : (n m : ℕ) → n ≡ countAt a → m ≡ countAt b → keysOfBoth a b ≤ n + m
+  most-joined n m e f =
+      let l = leftOf a (countAt a) 0 in
+      let r = leftOf b (countAt b) 0 in
+      omega (arith, merges-short (merges l r), length-left a (countAt a) 0, length-left b (countAt b) 0, count-left)
 
 -- One step, from record i of n and record j of m
 
@@ -72,10 +105,10 @@ pub record Stepped (s : List ℕ) (n i : ℕ) (t : List ℕ) (m j p q : ℕ) (z 
   pub in-first : first ≤ n
   pub in-second : second ≤ m
   pub more : i + j < first + second
-  pub joins : joinCalls (left s n i) (left t m j) ≡ z ∷ joinCalls (left s n first) (left t m second)
+  pub joins : merge (leftOf s n i) (leftOf t m j) ≡ z ∷ merge (leftOf s n first) (leftOf t m second)
 
 module _ (s : List ℕ) (n i : ℕ) (t : List ℕ) (m j : ℕ) (hi : i < n) (hj : j < m) {p q : ℕ} {z : Call} where
-  step : Settled (callOf s i) (callOf t j) (sizeOf i) (sizeOf j) p q z → Stepped s n i t m j p q z
+  step : KeySettled (recordAt s i) (recordAt t j) (sizeOf i) (sizeOf j) p q z → Stepped s n i t m j p q z
   step (lower h e f g) =
       record {
         first = i + 1;
@@ -88,7 +121,7 @@ module _ (s : List ℕ) (n i : ℕ) (t : List ℕ) (m j : ℕ) (hi : i < n) (hj 
         joins =
             let l = left-cons s n i hi in
             let r = left-cons t m j hj in
-            cc (join-lt (callOf s i) (left s n (i + 1)) (callOf t j) (left t m (j + 1)) h);
+            cc (merge-lt (recordAt s i) (leftOf s n (i + 1)) (recordAt t j) (leftOf t m (j + 1)) h);
       }
   step (upper h e f g) =
       record {
@@ -102,7 +135,7 @@ module _ (s : List ℕ) (n i : ℕ) (t : List ℕ) (m j : ℕ) (hi : i < n) (hj 
         joins =
             let l = left-cons s n i hi in
             let r = left-cons t m j hj in
-            cc (join-gt (callOf s i) (left s n (i + 1)) (callOf t j) (left t m (j + 1)) h);
+            cc (merge-gt (recordAt s i) (leftOf s n (i + 1)) (recordAt t j) (leftOf t m (j + 1)) h);
       }
   step (equal h e f g) =
       record {
@@ -116,11 +149,23 @@ module _ (s : List ℕ) (n i : ℕ) (t : List ℕ) (m j : ℕ) (hi : i < n) (hj 
         joins =
             let l = left-cons s n i hi in
             let r = left-cons t m j hj in
-            cc (join-eq (callOf s i) (left s n (i + 1)) (callOf t j) (left t m (j + 1)) h);
+            cc (merge-eq (recordAt s i) (leftOf s n (i + 1)) (recordAt t j) (leftOf t m (j + 1)) h);
       }
 
+-- the three ways of a key, by the tests of its records
+module _ (x y : Call) (a b : ℕ) where
+  pub settles-lower : ltb (callKey x) (callKey y) ≡ true → KeySettled x y a b (a + recordSize) b x
+  settles-lower h = lower (ltb-true _ _ h) refl refl refl
+
+  pub settles-upper : ltb (callKey y) (callKey x) ≡ true → KeySettled x y a b a (b + recordSize) y
+  settles-upper h = upper (ltb-true _ _ h) refl refl refl
+
+  pub settles-equal : ltb (callKey x) (callKey y) ≡ false → ltb (callKey y) (callKey x) ≡ false
+      → KeySettled x y a b (a + recordSize) (b + recordSize) (standing x y)
+  settles-equal h k = equal (omega (arith, ltb-false (callKey x) (callKey y) h, ltb-false (callKey y) (callKey x) k)) refl refl refl
+
 -- a step goes on
-pub further : {x y : Call} {a b p q : ℕ} {z : Call} → Settled x y a b p q z → a + b < p + q
+pub further : {x y : Call} {a b p q : ℕ} {z : Call} → KeySettled x y a b p q z → a + b < p + q
 further (lower h e f g) = omega arith
 further (upper h e f g) = omega arith
 further (equal h e f g) = omega arith
@@ -136,27 +181,28 @@ pub record Run (s : List ℕ) (n : ℕ) (t : List ℕ) (m a b k : ℕ) : Type 0 
   pub few : k ≤ first + second
   pub done : List Call
   pub count : k ≡ length done
-  pub joins : done ++ joinCalls (left s n first) (left t m second) ≡ joinCalls (left s n 0) (left t m 0)
+  pub joins : done ++ merge (leftOf s n first) (leftOf t m second) ≡ merge (leftOf s n 0) (leftOf t m 0)
 
 pub start : (s : List ℕ) (n : ℕ) (t : List ℕ) (m : ℕ) → Run s n t m 16 16 0
 start s n t m =
     record { first = 0; second = 0; at-first = refl; at-second = refl; in-first = omega arith; in-second = omega arith; few = omega arith; done = []; count = refl; joins = refl }
 
 module _ {s : List ℕ} {n : ℕ} {t : List ℕ} {m a b k : ℕ} (g : Run s n t m a b k) where
-  pub stepped : {p q : ℕ} {z : Call} → a < sizeOf n → b < sizeOf m → Settled (callAt s a) (callAt t b) a b p q z → Stepped s n (g .first) t m (g .second) p q z
-  unfolding callOf
+  pub stepped : {p q : ℕ} {z : Call} → a < sizeOf n → b < sizeOf m → KeySettled (callAt s a) (callAt t b) a b p q z
+      → Stepped s n (g .first) t m (g .second) p q z
+  unfolding recordAt
   stepped h l d =
       let e = g .at-first in
       let f = g .at-second in
       step s n (g .first) t m (g .second) (omega arith) (omega arith) (rw (e, f) at d)
 
   -- the next record has its place
-  pub room : a < sizeOf n → b < sizeOf m → k < length (joinCalls (left s n 0) (left t m 0))
+  pub room : a < sizeOf n → b < sizeOf m → k < length (merge (leftOf s n 0) (leftOf t m 0))
   room h l =
       let e = g .at-first in
       let f = g .count in
-      let rest = joinCalls (left s n (g .first)) (left t m (g .second)) in
-      let some = joins-long (joins (left s n (g .first)) (left t m (g .second))) in
+      let rest = merge (leftOf s n (g .first)) (leftOf t m (g .second)) in
+      let some = merges-long (merges (leftOf s n (g .first)) (leftOf t m (g .second))) in
       omega (arith, ap length (g .joins), length-append (g .done) rest, length-left s n (g .first))
 
   pub again : {p q : ℕ} {z : Call} → Stepped s n (g .first) t m (g .second) p q z → Run s n t m p q (k + 1)
@@ -176,13 +222,13 @@ module _ {s : List ℕ} {n : ℕ} {t : List ℕ} {m a b k : ℕ} (g : Run s n t 
       }
 
 -- one book is at its end: what is left is what the other has left
-pub last-left : (s : List ℕ) (n i : ℕ) (t : List ℕ) (m j : ℕ) → (n ≤ i) ⊎ (m ≤ j) → joinCalls (left s n i) (left t m j) ≡ left s n i ++ left t m j
+pub last-left : (s : List ℕ) (n i : ℕ) (t : List ℕ) (m j : ℕ) → (n ≤ i) ⊎ (m ≤ j) → merge (leftOf s n i) (leftOf t m j) ≡ leftOf s n i ++ leftOf t m j
 last-left s n i t m j (inl h) =
     let e = left-end s n i h in
-    ap (λ (l : List Call). joinCalls l (left t m j)) e ∙ join-none (left t m j) ∙ sym (ap (λ (l : List Call). l ++ left t m j) e)
+    ap (λ (l : List Call). merge l (leftOf t m j)) e ∙ merge-none (leftOf t m j) ∙ sym (ap (λ (l : List Call). l ++ leftOf t m j) e)
 last-left s n i t m j (inr h) =
     let e = left-end t m j h in
-    ap (joinCalls (left s n i)) e ∙ join-nil (left s n i) ∙ sym (ap (λ (l : List Call). left s n i ++ l) e ∙ append-nil (left s n i))
+    ap (merge (leftOf s n i)) e ∙ merge-nil (leftOf s n i) ∙ sym (ap (λ (l : List Call). leftOf s n i ++ l) e ∙ append-nil (leftOf s n i))
 
 -- the test of the loop: both books have records
 pub both-left : (a e b f : ℕ) → (ltb a e && ltb b f) ≡ true → (a < e) × (b < f)
@@ -198,14 +244,14 @@ one-over a e b f h = go (ltb a e) refl h
     go false p q = inl (ltb-false a e p)
 
 -- the keys of a run, and what is left of both books
-pub counts-all : {s t : List ℕ} {a b k e f : ℕ} → Run s (countOf s) t (countOf t) a b k → e ≡ sizeOf (countOf s) → f ≡ sizeOf (countOf t) → (ltb a e && ltb b f) ≡ false
-    → k + (e - a) / 32 + (f - b) / 32 ≡ length (joinedOf s t)
-counts-all {s} {t} {a} {b} {k} {e} {f} g p q h = go (one-over a e b f h)
+pub counts-all : {s t : List ℕ} {a b k e f : ℕ} → Accepted s → Accepted t → Run s (countAt s) t (countAt t) a b k
+    → e ≡ sizeOf (countAt s) → f ≡ sizeOf (countAt t) → (ltb a e && ltb b f) ≡ false → k + (e - a) / 32 + (f - b) / 32 ≡ keysOfBoth s t
+counts-all {s} {t} {a} {b} {k} {e} {f} ps pt g p q h = go (one-over a e b f h)
   where
-    go : (e ≤ a) ⊎ (f ≤ b) → k + (e - a) / 32 + (f - b) / 32 ≡ length (joinedOf s t)
+    go : (e ≤ a) ⊎ (f ≤ b) → k + (e - a) / 32 + (f - b) / 32 ≡ keysOfBoth s t
     go o =
-        let n = countOf s in
-        let m = countOf t in
+        let n = countAt s in
+        let m = countAt t in
         let i = g .first in
         let j = g .second in
         let x = g .at-first in
@@ -213,15 +259,15 @@ counts-all {s} {t} {a} {b} {k} {e} {f} g p q h = go (one-over a e b f h)
         let u = g .in-first in
         let v = g .in-second in
         let c = g .count in
-        let l = left s n i in
-        let r = left t m j in
+        let l = leftOf s n i in
+        let r = leftOf t m j in
         let over : (n ≤ i) ⊎ (m ≤ j) = ends o in
-        let all : length (g .done ++ joinCalls l r) ≡ length (joinedOf s t) = ap length (g .joins ∙ all-left s t) in
+        let all : length (g .done ++ merge l r) ≡ keysOfBoth s t = ap length (g .joins) ∙ count-left s t ps pt in
         let d : (e - a) / 32 ≡ n - i = omega arith in
         let w : (f - b) / 32 ≡ m - j = omega arith in
-        omega (arith, length-append (g .done) (joinCalls l r), ap length (last-left s n i t m j over), length-append l r, length-left s n i, length-left t m j)
+        omega (arith, length-append (g .done) (merge l r), ap length (last-left s n i t m j over), length-append l r, length-left s n i, length-left t m j)
       where
-        ends : (e ≤ a) ⊎ (f ≤ b) → (countOf s ≤ g .first) ⊎ (countOf t ≤ g .second)
+        ends : (e ≤ a) ⊎ (f ≤ b) → (countAt s ≤ g .first) ⊎ (countAt t ≤ g .second)
         ends (inl z) = let x = g .at-first in inl (omega arith)
         ends (inr z) = let y = g .at-second in inr (omega arith)
 
@@ -240,8 +286,8 @@ one-record : (c : Call) {out out′ : List ℕ} {at : ℕ} → Stores out at (ca
 unfolding recordBytes
 one-record c s = rw (append-nil (callBytes c)) s
 
-more-records : (cs ds : List Call) (at at′ : ℕ) {out₀ out out′ : List ℕ} → at′ ≡ at + 32 * length cs → Stores out₀ at (recordBytes cs) out → Stores out at′ (recordBytes ds) out′
-    → Stores out₀ at (recordBytes (cs ++ ds)) out′
+more-records : (cs ds : List Call) (at at′ : ℕ) {out₀ out out′ : List ℕ} → at′ ≡ at + 32 * length cs → Stores out₀ at (recordBytes cs) out
+    → Stores out at′ (recordBytes ds) out′ → Stores out₀ at (recordBytes (cs ++ ds)) out′
 more-records cs ds at at′ e s t = rw (record-append cs ds) (then at′ (omega (arith, length-records cs)) s t)
 
 pub same-long : {out₀ out : List ℕ} {at : ℕ} {v : List ℕ} → Stores out₀ at v out → length out ≡ length out₀
@@ -251,16 +297,16 @@ same-long {out₀} {out} {at} {v} s = ap length (s .is) ∙ length-sets out₀ a
 pub record Writing (s t out₀ out : List ℕ) (a b at : ℕ) : Type 0 where
   pub keys : ℕ
   pub place : at ≡ 32 * keys
-  pub run : Run s (countOf s) t (countOf t) a b keys
+  pub run : Run s (countAt s) t (countAt t) a b keys
   pub written : Stores out₀ 0 (recordBytes (run .done)) out
 
 pub begin : (s t out : List ℕ) → Writing s t out out 16 16 0
 unfolding start
-begin s t out = record { keys = 0; place = refl; run = start s (countOf s) t (countOf t); written = no-records out 0 }
+begin s t out = record { keys = 0; place = refl; run = start s (countAt s) t (countAt t); written = no-records out 0 }
 
 module _ {s t out₀ out : List ℕ} {a b at : ℕ} (w : Writing s t out₀ out a b at) where
-  module _ (h : a < sizeOf (countOf s)) (l : b < sizeOf (countOf t)) where
-    pub writes-again : {r : Next} {out′ : List ℕ} → Put s a t b r out at out′ → Writing s t out₀ out′ (r .first) (r .second) (at + 32)
+  module _ (h : a < sizeOf (countAt s)) (l : b < sizeOf (countAt t)) where
+    pub writes-again : {r : Next} {out′ : List ℕ} → KeyPut s a t b r out at out′ → Writing s t out₀ out′ (r .first) (r .second) (at + 32)
     unfolding again
     writes-again p =
         let e = w .place in
@@ -272,10 +318,10 @@ module _ {s t out₀ out : List ℕ} {a b at : ℕ} (w : Writing s t out₀ out 
           written = more-records (w .run .done) (p .call ∷ []) 0 at (omega arith) (w .written) (one-record (p .call) (p .stored));
         }
 
-    pub place-left : 32 * length (joinedOf s t) ≤ length out₀ → at + 32 ≤ length out
-    place-left k = let e = w .place in omega (arith, room (w .run) h l, ap length (all-left s t), same-long (w .written))
+    pub place-left : Accepted s → Accepted t → 32 * keysOfBoth s t ≤ length out₀ → at + 32 ≤ length out
+    place-left p q k = let e = w .place in omega (arith, room (w .run) h l, count-left s t p q, same-long (w .written))
 
-  pub merged : {r : Reached} {e f : ℕ} → e ≡ sizeOf (countOf s) → f ≡ sizeOf (countOf t) → (ltb a e && ltb b f) ≡ false
+  pub merged : {r : Reached} {e f : ℕ} → e ≡ sizeOf (countAt s) → f ≡ sizeOf (countAt t) → (ltb a e && ltb b f) ≡ false
       → r .first ≡ (a - 16) / 32 → r .second ≡ (b - 16) / 32 → r .done ≡ at / 32 → Merged s t out₀ r out
   merged {r} {e} {f} p q h x y z =
       let g = w .run in
@@ -297,70 +343,73 @@ module _ {s t out₀ out : List ℕ} {a b at : ℕ} (w : Writing s t out₀ out 
         stored = w .written;
       }
     where
-      ends : (e ≤ a) ⊎ (f ≤ b) → (countOf s ≤ r .first) ⊎ (countOf t ≤ r .second)
+      ends : (e ≤ a) ⊎ (f ≤ b) → (countAt s ≤ r .first) ⊎ (countAt t ≤ r .second)
       ends (inl o) = let u = w .run .at-first in inl (omega arith)
       ends (inr o) = let v = w .run .at-second in inr (omega arith)
 
 -- The rest of a book
 
-calls-snoc : (b : List ℕ) (l i : ℕ) → callsFrom b i (l + 1) ≡ callsFrom b i l ++ (callOf b (i + l) ∷ [])
+calls-snoc : (b : List ℕ) (l i : ℕ) → callsFrom b i (l + 1) ≡ callsFrom b i l ++ (recordAt b (i + l) ∷ [])
 unfolding callsFrom
-calls-snoc b zero i = let e : i ≡ i + 0 = omega arith in ap (λ (k : ℕ). callOf b k ∷ []) e
+calls-snoc b zero i = let e : i ≡ i + 0 = omega arith in ap (λ (k : ℕ). recordAt b k ∷ []) e
 calls-snoc b (suc l) i =
     let e : suc l + 1 ≡ suc (l + 1) = omega arith in
     let f : suc i + l ≡ i + suc l = omega arith in
-    ap (callsFrom b i) e ∙ ap (λ (cs : List Call). callOf b i ∷ cs) (calls-snoc b l (suc i) ∙ ap (λ (k : ℕ). callsFrom b (suc i) l ++ (callOf b k ∷ [])) f)
+    ap (callsFrom b i) e ∙ ap (λ (cs : List Call). recordAt b i ∷ cs) (calls-snoc b l (suc i) ∙ ap (λ (k : ℕ). callsFrom b (suc i) l ++ (recordAt b k ∷ [])) f)
 
 -- so many records from record i on stand behind the k that the output had
 pub record Rest (s : List ℕ) (i k : ℕ) (out₀ out : List ℕ) (l : ℕ) : Type 0 where
-  pub within : i + l ≤ countOf s
+  pub within : i + l ≤ countAt s
   pub stored : Stores out₀ (32 * k) (recordBytes (callsFrom s i l)) out
 
-pub rest-none : (s : List ℕ) (i k : ℕ) (out : List ℕ) → i ≤ countOf s → Rest s i k out out 0
+pub rest-none : (s : List ℕ) (i k : ℕ) (out : List ℕ) → i ≤ countAt s → Rest s i k out out 0
 unfolding callsFrom
 rest-none s i k out h = record { within = omega arith; stored = no-records out (32 * k) }
 
 module _ {s : List ℕ} {i k : ℕ} {out₀ out : List ℕ} {l : ℕ} (g : Rest s i k out₀ out l) where
-  pub rest-more : {out′ : List ℕ} → i + l < countOf s → Stores out (32 * (k + l)) (callBytes (callAt s (sizeOf (i + l)))) out′ → Rest s i k out₀ out′ (l + 1)
-  unfolding callOf
+  pub rest-more : {out′ : List ℕ} → i + l < countAt s → Stores out (32 * (k + l)) (callBytes (callAt s (sizeOf (i + l)))) out′ → Rest s i k out₀ out′ (l + 1)
+  unfolding recordAt
   rest-more h t =
       record {
         within = omega arith;
-        stored = rw (calls-snoc s l i) (more-records (callsFrom s i l) (callOf s (i + l) ∷ []) (32 * k) (32 * (k + l)) (omega (arith, length-calls s l i)) (g .stored) (one-record (callOf s (i + l)) t));
+        stored =
+            rw (calls-snoc s l i)
+            (more-records (callsFrom s i l) (recordAt s (i + l) ∷ []) (32 * k) (32 * (k + l)) (omega (arith, length-calls s l i)) (g .stored)
+            (one-record (recordAt s (i + l)) t));
       }
 
-  pub rest-all : countOf s ≤ i + l → (k + l ≡ k + (countOf s - i)) × Stores out₀ (32 * k) (recordBytes (left s (countOf s) i)) out
-  unfolding left
+  pub rest-all : countAt s ≤ i + l → (k + l ≡ k + (countAt s - i)) × Stores out₀ (32 * k) (recordBytes (leftOf s (countAt s) i)) out
+  unfolding leftOf
   rest-all h =
       let w = g .within in
-      let e : l ≡ countOf s - i = omega arith in
+      let e : l ≡ countAt s - i = omega arith in
       (ap (λ (n : ℕ). k + n) e, rw e at (g .stored))
 
 -- the join up to the end of one book, and the rest of both
-module _ {s t out₀ : List ℕ} {r : Reached} {out : List ℕ} (g : Merged s t out₀ r out) where
+module _ {s t out₀ : List ℕ} {r : Reached} {out : List ℕ} (p : Accepted s) (q : Accepted t) (g : Merged s t out₀ r out) where
   rests : List Call
-  rests = left s (countOf s) (r .first) ++ left t (countOf t) (r .second)
+  rests = leftOf s (countAt s) (r .first) ++ leftOf t (countAt t) (r .second)
 
   whole-join : g .done ++ rests ≡ joinedOf s t
   unfolding rests
-  whole-join = ap (λ (l : List Call). g .done ++ l) (sym (last-left s (countOf s) (r .first) t (countOf t) (r .second) (g .over))) ∙ g .joins ∙ all-left s t
+  whole-join = ap (λ (l : List Call). g .done ++ l) (sym (last-left s (countAt s) (r .first) t (countAt t) (r .second) (g .over))) ∙ g .joins ∙ all-left s t p q
 
-  pub total : r .done + (countOf s - r .first) + (countOf t - r .second) ≡ length (joinedOf s t)
+  pub total : r .done + (countAt s - r .first) + (countAt t - r .second) ≡ keysOfBoth s t
   unfolding rests
   total =
-      let x = left s (countOf s) (r .first) in
-      let y = left t (countOf t) (r .second) in
+      let x = leftOf s (countAt s) (r .first) in
+      let y = leftOf t (countAt t) (r .second) in
       let c = g .count in
-      omega (arith, ap length whole-join, length-append (g .done) (x ++ y), length-append x y, length-left s (countOf s) (r .first), length-left t (countOf t) (r .second))
+      omega (arith, ap length whole-join ∙ joined-length s t, length-append (g .done) (x ++ y), length-append x y, length-left s (countAt s) (r .first), length-left t (countAt t) (r .second))
 
-  pub puts-all : {k q : ℕ} {mid after : List ℕ} → k ≡ r .done + (countOf s - r .first) → Stores out (32 * r .done) (recordBytes (left s (countOf s) (r .first))) mid
-      → q ≡ k + (countOf t - r .second) → Stores mid (32 * k) (recordBytes (left t (countOf t) (r .second))) after
-      → (q ≡ length (joinedOf s t)) × Stores out₀ 0 (recordBytes (joinedOf s t)) after
+  pub puts-all : {k n : ℕ} {mid after : List ℕ} → k ≡ r .done + (countAt s - r .first) → Stores out (32 * r .done) (recordBytes (leftOf s (countAt s) (r .first))) mid
+      → n ≡ k + (countAt t - r .second) → Stores mid (32 * k) (recordBytes (leftOf t (countAt t) (r .second))) after
+      → (n ≡ keysOfBoth s t) × Stores out₀ 0 (recordBytes (joinedOf s t)) after
   unfolding rests
-  puts-all {k} {q} e u f v =
-      let x = left s (countOf s) (r .first) in
-      let y = left t (countOf t) (r .second) in
+  puts-all {k} {n} e u f v =
+      let x = leftOf s (countAt s) (r .first) in
+      let y = leftOf t (countAt t) (r .second) in
       let c = g .count in
       let both = more-records (g .done) x 0 (32 * r .done) (omega arith) (g .stored) u in
-      let all = more-records (g .done ++ x) y 0 (32 * k) (omega (arith, length-append (g .done) x, length-left s (countOf s) (r .first))) both v in
+      let all = more-records (g .done ++ x) y 0 (32 * k) (omega (arith, length-append (g .done) x, length-left s (countAt s) (r .first))) both v in
       (omega (arith, total), rw (append-assoc (g .done) x y ∙ whole-join) at all)

@@ -9,21 +9,22 @@ use native.Mathlib.Omega.{arith}
 use lib.Dec.{lit<, lit≤}
 use lib.IntN.{pos}
 use lib.ListN.{length}
-use Rattle.units.specs.Month.{leap, daysOf, minutesOf}
+use Rattle.units.specs.Month.{isLeap, daysOf, minutesOf}
 use Rattle.call.specs.declared.Call.{Call}
-use Rattle.call.specs.Key.{keyOf}
-use Rattle.call.specs.Limits.{table, limitsOf, allows, soundCall}
-use Rattle.call.specs.Revising.{withdrawnOf}
-use Rattle.call.specs.Service.{Within}
+use Rattle.call.specs.Key.{callKey}
+use Rattle.call.specs.Limits.{table, limitsOf, limitsAllow, callIsSound}
+use Rattle.call.specs.Revising.{callWithdrawn}
+use Rattle.call.specs.Service.{CallWithin}
 use Rattle.call.proofs.Exact.{sound-within}
 use Rattle.book.specs.declared.Header.{Header}
-use Rattle.book.specs.Book.{mostRecords, headerOf, callsOf, bookBytes}
-use Rattle.book.specs.Check.{monthOf}
+use Rattle.book.specs.Book.{version, mostRecords, headerAt, callsOf, bookBytes}
+use Rattle.book.specs.Check.{headerMinutes}
 use Rattle.book.specs.Sound.{Heading, Sound}
 use Rattle.book.proofs.Exact.{reads-back}
 use Rattle.rule.specs.Standing.{isWithdrawn}
-use Rattle.rule.specs.Whole.{put, putAll, differentKeys}
-use Rattle.join.specs.Trees.{Plan, book, join, books, written, result, AllAccepted, keyCount, Room, OneMonth, Covers, ruleBook}
+use Rattle.rule.specs.Keys.{put, putAll, differentKeys}
+use Rattle.join.specs.Joining.{keyCount}
+use Rattle.join.specs.Trees.{Plan, book, join, books, written, result, AllAccepted, Room, OneMonth, Covers, ruleBook}
 use Rattle.join.proofs.Trees.{book-sound}
 use Rattle.join.proofs.Orders.{any-order, same-bytes, stays-withdrawn}
 
@@ -43,20 +44,20 @@ early : Call
 early = stop 1 240
 
 pub withdrawal : Call
-withdrawal = withdrawnOf (stop 2 300)
+withdrawal = callWithdrawn (stop 2 300)
 
 -- each within the paper's limits
-entered-within : Within (monthOf march) entered
-unfolding entered stop march monthOf minutesOf daysOf leap soundCall allows limitsOf table
-entered-within = sound-within (monthOf march) entered (lit< tt) (lit< tt) refl
+entered-within : CallWithin (headerMinutes march) entered
+unfolding entered stop march headerMinutes minutesOf daysOf isLeap callIsSound limitsAllow limitsOf table
+entered-within = sound-within (headerMinutes march) entered (lit< tt) (lit< tt) refl
 
-early-within : Within (monthOf march) early
-unfolding early stop march monthOf minutesOf daysOf leap soundCall allows limitsOf table
-early-within = sound-within (monthOf march) early (lit< tt) (lit< tt) refl
+early-within : CallWithin (headerMinutes march) early
+unfolding early stop march headerMinutes minutesOf daysOf isLeap callIsSound limitsAllow limitsOf table
+early-within = sound-within (headerMinutes march) early (lit< tt) (lit< tt) refl
 
-withdrawal-within : Within (monthOf march) withdrawal
-unfolding withdrawal stop march monthOf minutesOf daysOf leap soundCall allows limitsOf table
-withdrawal-within = sound-within (monthOf march) withdrawal (lit< tt) (lit< tt) refl
+withdrawal-within : CallWithin (headerMinutes march) withdrawal
+unfolding withdrawal stop march headerMinutes minutesOf daysOf isLeap callIsSound limitsAllow limitsOf table
+withdrawal-within = sound-within (headerMinutes march) withdrawal (lit< tt) (lit< tt) refl
 
 march-heads : Heading march
 unfolding march
@@ -64,14 +65,14 @@ march-heads = record { area = (lit≤ tt, lit≤ tt); year = (lit≤ tt, lit≤ 
 
 -- a book of one record is sound, and reads back
 one : Call → List ℕ
-one c = bookBytes march (c ∷ [])
+one c = bookBytes version march (c ∷ [])
 
-module _ (c : Call) (w : Within (monthOf march) c) where
+module _ (c : Call) (w : CallWithin (headerMinutes march) c) where
   one-sound : Sound (one c)
   unfolding one
   one-sound = book-sound march (c ∷ []) march-heads (lit≤ tt) (record { within = (w, tt); rises = (omega arith, tt) })
 
-  one-reads : (headerOf (one c) ≡ march) × (callsOf (one c) ≡ c ∷ [])
+  one-reads : (headerAt (one c) ≡ march) × (callsOf (one c) ≡ c ∷ [])
   unfolding one
   one-reads = reads-back march (c ∷ []) march-heads (lit≤ tt) (w, tt)
 
@@ -100,7 +101,7 @@ one-month =
     record {
       sound = each Sound (one-sound entered entered-within) (one-sound withdrawal withdrawal-within) (one-sound early early-within);
       header =
-          each (λ (b : List ℕ). headerOf b ≡ march) (one-reads entered entered-within .0) (one-reads withdrawal withdrawal-within .0)
+          each (λ (b : List ℕ). headerAt b ≡ march) (one-reads entered entered-within .0) (one-reads withdrawal withdrawal-within .0)
           (one-reads early early-within .0);
     }
 
@@ -160,7 +161,7 @@ right-covers : Covers right three
 unfolding right books three
 right-covers = record { all = λ b i. i; only = λ b i. i }
 
-few : keyCount three ≤ mostRecords
+few : keyCount three ≤ mostRecords version
 unfolding three
 few = omega (arith, all-three)
 
@@ -176,6 +177,6 @@ withdrawn-there : In withdrawal (callsOf head-office)
 unfolding head-office
 withdrawn-there = rw (one-reads withdrawal withdrawal-within .1) (here refl)
 
-pub stop-withdrawn : (r : Call) × In r (callsOf (written (result left))) × (keyOf r ≡ keyOf withdrawal) × (isWithdrawn r ≡ true)
+pub stop-withdrawn : (r : Call) × In r (callsOf (written (result left))) × (callKey r ≡ callKey withdrawal) × (isWithdrawn r ≡ true)
 unfolding three withdrawal
 stop-withdrawn = stays-withdrawn march three one-month left left-covers left-room few head-office (there (here refl)) withdrawal withdrawn-there refl

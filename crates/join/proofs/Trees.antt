@@ -10,34 +10,34 @@ use lib.Seq.{take-length, take-append-seam}
 use borrow.Author.Tests.{eq-eqb, ne-eqb}
 use Rattle.call.specs.declared.Call.{Call}
 use Rattle.book.specs.declared.Header.{Header}
-use Rattle.book.specs.Book.{mostRecords, sizeOf, headerOf, callsOf, bookBytes}
-use Rattle.book.specs.Check.{accepted, monthOf}
+use Rattle.book.specs.Book.{version, mostRecords, sizeOf, headerAt, callsOf, bookBytes}
+use Rattle.book.specs.Check.{refused, accepted, headerMinutes}
 use Rattle.book.specs.Sound.{Heading, Sound}
-use Rattle.book.specs.Write.{Outcome, refusedOut, wroteOut}
 use Rattle.book.proofs.Exact.{sound-accepted, reads-back, sound-reads}
 use Rattle.rule.specs.Joined.{joinCalls}
 use Rattle.rule.specs.Whole.{Tree, leaf, node, leaves, joined}
-use Rattle.rule.proofs.Joins.{joins, joins-long}
+use Rattle.rule.proofs.Merging.{join-long}
 use Rattle.rule.proofs.Bounds.{Calls, Sounds, tree-sound}
 use Rattle.rule.proofs.Orders.{Over}
 use Rattle.rule.proofs.Whole.{number-of-keys}
-use Rattle.pair.specs.Screening.{sameMonth, screened}
-use Rattle.join.specs.Joining.{joinedOf, joining}
-use Rattle.join.specs.Trees.{Plan, book, join, books, written, joinBoth, result, AllAccepted, keyCount, Room, OneMonth, Covers}
+use Rattle.pair.specs.Screening.{sameMonth, screen}
+use Rattle.join.specs.Joining.{JoinOutcome, joinRefused, joinWrote, keyCount, keysOfBoth, joinedOf, joining}
+use Rattle.join.specs.Trees.{Plan, book, join, books, written, joinBoth, result, AllAccepted, Room, OneMonth, Covers}
 use Rattle.pair.proofs.Screening.{screen-passes}
-use Rattle.join.proofs.WaysOut.{refuse-many, joins-both}
+use Rattle.join.proofs.WaysOut.{over-many, refuse-over, joins-both}
+use Rattle.join.proofs.Steps.{joined-length}
 
 -- Sound books
 
-pub sound-calls : (b : List ℕ) → Sound b → Calls (monthOf (headerOf b)) (callsOf b)
+pub sound-calls : (b : List ℕ) → Sound b → Calls (headerMinutes (headerAt b)) (callsOf b)
 sound-calls b s =
     let r = sound-reads b s in
     rw (r .0, r .1) (record { within = s .within; rises = s .rising })
 
-pub sound-bytes : (b : List ℕ) → Sound b → b ≡ bookBytes (headerOf b) (callsOf b)
-sound-bytes b s = let r = sound-reads b s in s .bytes ∙ ap₂ bookBytes (sym (r .0)) (sym (r .1))
+pub sound-bytes : (b : List ℕ) → Sound b → b ≡ bookBytes version (headerAt b) (callsOf b)
+sound-bytes b s = let r = sound-reads b s in s .bytes ∙ ap₂ (bookBytes version) (sym (r .0)) (sym (r .1))
 
-pub book-sound : (h : Header) (cs : List Call) → Heading h → length cs ≤ mostRecords → Calls (monthOf h) cs → Sound (bookBytes h cs)
+pub book-sound : (h : Header) (cs : List Call) → Heading h → length cs ≤ mostRecords version → Calls (headerMinutes h) cs → Sound (bookBytes version h cs)
 book-sound h cs g f c = record { header = h; calls = cs; heading = g; few = f; within = c .within; rising = c .rises; bytes = refl }
 
 pub same-month : (h : Header) → sameMonth h h ≡ true
@@ -46,25 +46,31 @@ same-month h = simp (eq-eqb (h .year) (h .year) refl, eq-eqb (h .month) (h .mont
 
 -- The join of two sound books of one month and area
 
-module _ (h : Header) (g : Heading h) (xs ys : List Call) (fx : length xs ≤ mostRecords) (fy : length ys ≤ mostRecords)
-    (cx : Calls (monthOf h) xs) (cy : Calls (monthOf h) ys) (out : List ℕ) where
-  none-refused : screened (bookBytes h xs) (bookBytes h ys) ≡ accepted
+module _ (h : Header) (g : Heading h) (xs ys : List Call) (fx : length xs ≤ mostRecords version) (fy : length ys ≤ mostRecords version)
+    (cx : Calls (headerMinutes h) xs) (cy : Calls (headerMinutes h) ys) (out : List ℕ) where
+  none-refused : screen (bookBytes version h xs) (bookBytes version h ys) ≡ accepted
   none-refused =
-      sym (screen-passes (bookBytes h xs) (bookBytes h ys) (sound-accepted _ (book-sound h xs g fx cx)) (sound-accepted _ (book-sound h ys g fy cy))
+      sym (screen-passes (bookBytes version h xs) (bookBytes version h ys) (sound-accepted _ (book-sound h xs g fx cx)) (sound-accepted _ (book-sound h ys g fy cy))
       (ap₂ sameMonth (reads-back h xs g fx (cx .within) .0) (reads-back h ys g fy (cy .within) .0) ∙ same-month h))
 
-  calls-joined : joinedOf (bookBytes h xs) (bookBytes h ys) ≡ joinCalls xs ys
+  calls-joined : joinedOf (bookBytes version h xs) (bookBytes version h ys) ≡ joinCalls xs ys
   unfolding joinedOf
   calls-joined = ap₂ joinCalls (reads-back h xs g fx (cx .within) .1) (reads-back h ys g fy (cy .within) .1)
 
-  pub book-joined : length (joinCalls xs ys) ≤ mostRecords → sizeOf (length (joinCalls xs ys)) ≤ length out
-      → joining (bookBytes h xs) (bookBytes h ys) out ≡ wroteOut (bookBytes h (joinCalls xs ys)) out
-  book-joined f r =
-      sym (joins-both (bookBytes h xs) (bookBytes h ys) out none-refused (length (joinCalls xs ys)) (ap length (sym calls-joined)) f r)
-      ∙ ap₂ (λ (k : Header) (zs : List Call). wroteOut (bookBytes k zs) out) (reads-back h xs g fx (cx .within) .0) calls-joined
+  keys-joined : keysOfBoth (bookBytes version h xs) (bookBytes version h ys) ≡ length (joinCalls xs ys)
+  keys-joined = sym (joined-length (bookBytes version h xs) (bookBytes version h ys)) ∙ ap length calls-joined
 
-  pub book-refused : mostRecords < length (joinCalls xs ys) → joining (bookBytes h xs) (bookBytes h ys) out ≡ refusedOut 8 0 out
-  book-refused f = sym (refuse-many (bookBytes h xs) (bookBytes h ys) out none-refused (length (joinCalls xs ys)) (ap length (sym calls-joined)) f)
+  pub book-joined : length (joinCalls xs ys) ≤ mostRecords version → sizeOf (length (joinCalls xs ys)) ≤ length out
+      → joining (bookBytes version h xs) (bookBytes version h ys) out ≡ joinWrote (bookBytes version h (joinCalls xs ys)) out
+  book-joined f r =
+      sym (joins-both (bookBytes version h xs) (bookBytes version h ys) out none-refused (omega (arith, keys-joined)) (omega (arith, keys-joined)))
+      ∙ ap₂ (λ (k : Header) (zs : List Call). joinWrote (bookBytes version k zs) out) (reads-back h xs g fx (cx .within) .0) calls-joined
+
+  pub book-refused : mostRecords version < length (joinCalls xs ys)
+      → joining (bookBytes version h xs) (bookBytes version h ys) out ≡ joinRefused (refused 8 0) out
+  book-refused f =
+      sym (refuse-over (bookBytes version h xs) (bookBytes version h ys) out none-refused _
+      (over-many (keysOfBoth (bookBytes version h xs) (bookBytes version h ys)) (length out) (omega (arith, keys-joined))) (λ z. omega arith))
 
 -- The tree over lists of calls
 
@@ -96,7 +102,7 @@ own : (p : Plan) → Covers p (books p)
 own p = record { all = λ b i. i; only = λ b i. i }
 
 module _ (h : Header) where
-  pub month-sounds : (bs : List (List ℕ)) → OneMonth h bs → Sounds (monthOf h) (map callsOf bs)
+  pub month-sounds : (bs : List (List ℕ)) → OneMonth h bs → Sounds (headerMinutes h) (map callsOf bs)
   month-sounds bs o d i =
       let m = Memᴰ·of-map callsOf bs i in
       let c = sound-calls (m .0) (o .sound (m .0) (m .1)) in
@@ -117,43 +123,43 @@ module _ (h : Header) where
       rw (sym (sound-reads b s .0) ∙ o .header b (here refl)) at (s .heading)
   heading (join l r out) o = heading l (left-month l r out o)
 
-  pub tree-calls : (p : Plan) → OneMonth h (books p) → Calls (monthOf h) (joined (treeOf p))
-  tree-calls p o = tree-sound (monthOf h) (treeOf p) (λ d i. month-sounds (books p) o d (covers-over p (books p) (own p) .only d i))
+  pub tree-calls : (p : Plan) → OneMonth h (books p) → Calls (headerMinutes h) (joined (treeOf p))
+  tree-calls p o = tree-sound (headerMinutes h) (treeOf p) (λ d i. month-sounds (books p) o d (covers-over p (books p) (own p) .only d i))
 
   key-count : (p : Plan) → OneMonth h (books p) → length (joined (treeOf p)) ≡ keyCount (books p)
   unfolding keyCount
-  key-count p o = number-of-keys (monthOf h) (treeOf p) (map callsOf (books p)) (covers-over p (books p) (own p)) (month-sounds (books p) o)
+  key-count p o = number-of-keys (headerMinutes h) (treeOf p) (map callsOf (books p)) (covers-over p (books p) (own p)) (month-sounds (books p) o)
 
   -- what a tree gives: the book of its calls, or a refusal 8
   pub record Gives (p : Plan) : Type 0 where
-    pub few : length (joined (treeOf p)) ≤ mostRecords → AllAccepted p × (result p .number ≡ 0) × (written (result p) ≡ bookBytes h (joined (treeOf p)))
-    pub many : mostRecords < length (joined (treeOf p)) → result p .number ≡ 8
+    pub few : length (joined (treeOf p)) ≤ mostRecords version → AllAccepted p × (result p .number ≡ 0) × (written (result p) ≡ bookBytes version h (joined (treeOf p)))
+    pub many : mostRecords version < length (joined (treeOf p)) → result p .number ≡ 8
 
-  gives-book : (b : List ℕ) → Sound b → headerOf b ≡ h → Gives (book b)
+  gives-book : (b : List ℕ) → Sound b → headerAt b ≡ h → Gives (book b)
   unfolding result treeOf joined
   gives-book b s e =
       record {
-        few = λ f. (tt, refl, take-length b ∙ sound-bytes b s ∙ ap (λ (k : Header). bookBytes k (callsOf b)) e);
+        few = λ f. (tt, refl, take-length b ∙ sound-bytes b s ∙ ap (λ (k : Header). bookBytes version k (callsOf b)) e);
         many = λ f. absurd (omega (arith, s .few, ap length (sound-reads b s .1)));
       }
 
   -- a join of two outcomes, each a book of this month and area
-  both-accepted : (l r : Outcome) (out : List ℕ) → l .number ≡ 0 → r .number ≡ 0 → joinBoth l r out ≡ joining (written l) (written r) out
+  both-accepted : (l r : JoinOutcome) (out : List ℕ) → l .number ≡ 0 → r .number ≡ 0 → joinBoth l r out ≡ joining (written l) (written r) out
   unfolding joinBoth
   both-accepted l r out p q = rw (eq-eqb (l .number) 0 p, eq-eqb (r .number) 0 q) refl
 
-  left-refused : (l r : Outcome) (out : List ℕ) → l .number ≡ 8 → joinBoth l r out .number ≡ 8
+  left-refused : (l r : JoinOutcome) (out : List ℕ) → l .number ≡ 8 → joinBoth l r out .number ≡ 8
   unfolding joinBoth
   left-refused l r out p = rw (ne-eqb (l .number) 0 (λ e. omega arith)) p
 
-  right-refused : (l r : Outcome) (out : List ℕ) → l .number ≡ 0 → r .number ≡ 8 → joinBoth l r out .number ≡ 8
+  right-refused : (l r : JoinOutcome) (out : List ℕ) → l .number ≡ 0 → r .number ≡ 8 → joinBoth l r out .number ≡ 8
   unfolding joinBoth
   right-refused l r out p q = rw (eq-eqb (l .number) 0 p, ne-eqb (r .number) 0 (λ e. omega arith)) q
 
   gives-join : (l r : Plan) (out : List ℕ) → OneMonth h (books (join l r out)) → Gives l → Gives r
-      → (keyCount (books (join l r out)) ≤ mostRecords → sizeOf (keyCount (books (join l r out))) ≤ length out) → Gives (join l r out)
+      → (keyCount (books (join l r out)) ≤ mostRecords version → sizeOf (keyCount (books (join l r out))) ≤ length out) → Gives (join l r out)
   unfolding result treeOf joined
-  gives-join l r out o gl gr room = go (decLe (length xs) mostRecords) (decLe (length ys) mostRecords)
+  gives-join l r out o gl gr room = go (decLe (length xs) (mostRecords version)) (decLe (length ys) (mostRecords version))
     where
       xs : List Call
       xs = joined (treeOf l)
@@ -161,22 +167,22 @@ module _ (h : Header) where
       ys : List Call
       ys = joined (treeOf r)
 
-      long : (length xs ≤ length (joinCalls xs ys)) × (length ys ≤ length (joinCalls xs ys))
-      long = joins-long (joins xs ys)
-
       count : length (joinCalls xs ys) ≡ keyCount (books (join l r out))
       count = key-count (join l r out) o
 
       g : Heading h
       g = heading (join l r out) o
 
-      cx : Calls (monthOf h) xs
+      cx : Calls (headerMinutes h) xs
       cx = tree-calls l (left-month l r out o)
 
-      cy : Calls (monthOf h) ys
+      cy : Calls (headerMinutes h) ys
       cy = tree-calls r (right-month l r out o)
 
-      go : Dec (length xs ≤ mostRecords) → Dec (length ys ≤ mostRecords) → Gives (join l r out)
+      long : (length xs ≤ length (joinCalls xs ys)) × (length ys ≤ length (joinCalls xs ys))
+      long = join-long 0 xs ys (cx .rises) (cy .rises)
+
+      go : Dec (length xs ≤ mostRecords version) → Dec (length ys ≤ mostRecords version) → Gives (join l r out)
       go (no p) q =
           record {
             few = λ f. absurd (omega (arith, long));
@@ -190,16 +196,17 @@ module _ (h : Header) where
       go (yes p) (yes q) =
           let a = gl .few p in
           let b = gr .few q in
-          let at : joining (written (result l)) (written (result r)) out ≡ joining (bookBytes h xs) (bookBytes h ys) out = ap₂ (λ (x y : List ℕ). joining x y out) (a .2) (b .2) in
+          let at : joining (written (result l)) (written (result r)) out ≡ joining (bookBytes version h xs) (bookBytes version h ys) out =
+          ap₂ (λ (x y : List ℕ). joining x y out) (a .2) (b .2) in
           let two = both-accepted (result l) (result r) out (a .1) (b .1) in
           record {
             few = λ f.
                 let e = at ∙ book-joined h g xs ys p q cx cy out f (omega (arith, count, room (omega (arith, count)))) in (
-                  (a .0, b .0, ap (λ (x : Outcome). x .number) e),
-                  ap (λ (x : Outcome). x .number) (two ∙ e),
-                  ap written (two ∙ e) ∙ take-append-seam (bookBytes h (joinCalls xs ys)) _,
+                  (a .0, b .0, ap (λ (x : JoinOutcome). x .number) e),
+                  ap (λ (x : JoinOutcome). x .number) (two ∙ e),
+                  ap written (two ∙ e) ∙ take-append-seam (bookBytes version h (joinCalls xs ys)) _,
                 );
-            many = λ f. ap (λ (x : Outcome). x .number) (two ∙ at ∙ book-refused h g xs ys p q cx cy out f);
+            many = λ f. ap (λ (x : JoinOutcome). x .number) (two ∙ at ∙ book-refused h g xs ys p q cx cy out f);
           }
 
   pub gives : (p : Plan) → OneMonth h (books p) → Room p → Gives p

@@ -1,68 +1,73 @@
 -- The ways out of a join: refused by its screen, by 8 or by 9, or joined. Assumes nothing.
-use mathlib.Core.Path.{_≡_, refl, sym, _∙_, ap}
+use mathlib.Core.Path.{_≡_, refl, sym, ap}
 use mathlib.Core.List.{List}
 use Prim.Native.Nat.{ℕ, _<_, _≤_}
 use native.Mathlib.Omega.{arith}
-use native.Mathlib.Decide.{decLe}
+use native.Mathlib.Decide.{decLe, ℕ-discrete}
 use lib.ListN.{length}
 use borrow.Author.Tests.{ne-eqb, lt-ltb, le-ltb}
 use Rattle.book.specs.declared.Verdict.{Verdict}
-use Rattle.book.specs.Book.{mostRecords, sizeOf, headerOf, bookBytes}
-use Rattle.book.specs.Check.{accepted}
-use Rattle.book.specs.Write.{refusedOut, wroteOut}
-use Rattle.pair.specs.Screening.{screened}
-use Rattle.join.specs.Joining.{joinedOf, joinFault, joining}
-use Rattle.join.specs.Steps.{overfull}
-
-module _ (a b out : List ℕ) where
-  pub refuse-screened : (v : Verdict) → v ≡ screened a b → (v .number ≡ 0 → ⊥) → refusedOut (v .number) (v .place) out ≡ joining a b out
-  unfolding joining joinFault
-  refuse-screened v e z = rw (← e, ne-eqb (v .number) 0 z, ne-eqb (v .number) 0 z) refl
-
-  module _ (p : screened a b ≡ accepted) (n : ℕ) (k : n ≡ length (joinedOf a b)) where
-    pub refuse-many : mostRecords < n → refusedOut 8 0 out ≡ joining a b out
-    unfolding joining joinFault
-    refuse-many h = rw (p, ← k, lt-ltb mostRecords n h) refl
-
-    module _ (f : n ≤ mostRecords) where
-      pub refuse-short : length out < sizeOf n → refusedOut 9 0 out ≡ joining a b out
-      unfolding joining joinFault
-      refuse-short h = rw (p, ← k, le-ltb mostRecords n f, lt-ltb (length out) (sizeOf n) h) refl
-
-      pub joins-both : sizeOf n ≤ length out → wroteOut (bookBytes (headerOf a) (joinedOf a b)) out ≡ joining a b out
-      unfolding joining joinFault
-      joins-both h = rw (p, ← k, le-ltb mostRecords n f, le-ltb (length out) (sizeOf n) h) refl
+use Rattle.book.specs.Book.{version, mostRecords, sizeOf, headerAt, bookBytes}
+use Rattle.book.specs.Check.{refused, accepted}
+use Rattle.pair.specs.Screening.{screen}
+use Rattle.pair.proofs.Screening.{Screened, passed-screen, zero-screened}
+use Rattle.join.specs.Joining.{joinRefused, joinWrote, keysOfBoth, overflow, joinFault, joinedOf, joining}
 
 -- 8 and 9 by the number of keys
 module _ (n room : ℕ) where
-  pub over-many : mostRecords < n → 8 ≡ overfull n room
-  unfolding overfull
-  over-many h = rw (lt-ltb mostRecords n h) refl
+  pub over-many : mostRecords version < n → refused 8 0 ≡ overflow n room
+  unfolding overflow
+  over-many h = rw (lt-ltb (mostRecords version) n h) refl
 
-  pub over-short : n ≤ mostRecords → room < sizeOf n → 9 ≡ overfull n room
-  unfolding overfull
-  over-short f h = rw (le-ltb mostRecords n f, lt-ltb room (sizeOf n) h) refl
+  pub over-short : n ≤ mostRecords version → room < sizeOf n → refused 9 0 ≡ overflow n room
+  unfolding overflow
+  over-short f h = rw (le-ltb (mostRecords version) n f, lt-ltb room (sizeOf n) h) refl
 
-  pub over-none : n ≤ mostRecords → sizeOf n ≤ room → 0 ≡ overfull n room
-  unfolding overfull
-  over-none f h = rw (le-ltb mostRecords n f, le-ltb room (sizeOf n) h) refl
+  pub over-none : n ≤ mostRecords version → sizeOf n ≤ room → accepted ≡ overflow n room
+  unfolding overflow
+  over-none f h = rw (le-ltb (mostRecords version) n f, le-ltb room (sizeOf n) h) refl
 
-  pub never-over : overfull n room ≡ 0 → (n ≤ mostRecords) × (sizeOf n ≤ room)
-  never-over z = go (decLe n mostRecords) (decLe (sizeOf n) room)
+  pub never-over : overflow n room .number ≡ 0 → (n ≤ mostRecords version) × (sizeOf n ≤ room)
+  never-over z = go (decLe n (mostRecords version)) (decLe (sizeOf n) room)
     where
-      go : Dec (n ≤ mostRecords) → Dec (sizeOf n ≤ room) → (n ≤ mostRecords) × (sizeOf n ≤ room)
-      go (no f) r = absurd (let e : 8 ≡ overfull n room = over-many (omega arith) in omega arith)
-      go (yes f) (no r) = absurd (let e : 9 ≡ overfull n room = over-short f (omega arith) in omega arith)
+      go : Dec (n ≤ mostRecords version) → Dec (sizeOf n ≤ room) → (n ≤ mostRecords version) × (sizeOf n ≤ room)
+      go (no f) r = absurd (omega (arith, ap (λ (v : Verdict). v .number) (over-many (omega arith))))
+      go (yes f) (no r) = absurd (omega (arith, ap (λ (v : Verdict). v .number) (over-short f (omega arith))))
       go (yes f) (yes r) = (f, r)
 
--- a join that is refused by them
-pub refuse-over : (a b out : List ℕ) → screened a b ≡ accepted → (v : ℕ) → v ≡ overfull (length (joinedOf a b)) (length out) → (v ≡ 0 → ⊥) → refusedOut v 0 out ≡ joining a b out
-refuse-over a b out p v e z = go (decLe n mostRecords) (decLe (sizeOf n) (length out))
-  where
-    n : ℕ
-    n = length (joinedOf a b)
+module _ (a b out : List ℕ) where
+  pub refuse-screened : (v : Verdict) → v ≡ screen a b → (v .number ≡ 0 → ⊥) → joinRefused v out ≡ joining a b out
+  unfolding joining joinFault
+  refuse-screened v e z = rw (← e, ne-eqb (v .number) 0 z, ne-eqb (v .number) 0 z) refl
 
-    go : Dec (n ≤ mostRecords) → Dec (sizeOf n ≤ length out) → refusedOut v 0 out ≡ joining a b out
-    go (no f) r = ap (λ (k : ℕ). refusedOut k 0 out) (e ∙ sym (over-many n (length out) (omega arith))) ∙ refuse-many a b out p n refl (omega arith)
-    go (yes f) (no r) = ap (λ (k : ℕ). refusedOut k 0 out) (e ∙ sym (over-short n (length out) f (omega arith))) ∙ refuse-short a b out p n refl f (omega arith)
-    go (yes f) (yes r) = absurd (z (e ∙ sym (over-none n (length out) f r)))
+  module _ (p : screen a b ≡ accepted) where
+    pub refuse-over : (v : Verdict) → v ≡ overflow (keysOfBoth a b) (length out) → (v .number ≡ 0 → ⊥) → joinRefused v out ≡ joining a b out
+    unfolding joining joinFault
+    refuse-over v e z = rw (p, ← e, ne-eqb (v .number) 0 z) refl
+
+    pub joins-both : keysOfBoth a b ≤ mostRecords version → sizeOf (keysOfBoth a b) ≤ length out
+        → joinWrote (bookBytes version (headerAt a) (joinedOf a b)) out ≡ joining a b out
+    unfolding joining joinFault
+    joins-both f r = rw (p, ← over-none (keysOfBoth a b) (length out) f r) refl
+
+  -- one of them is the outcome
+  pub data Way : Type 0 where
+    screened : (screen a b .number ≡ 0 → ⊥) → joinRefused (screen a b) out ≡ joining a b out → Way
+    many : Screened a b → mostRecords version < keysOfBoth a b → joinRefused (refused 8 0) out ≡ joining a b out → Way
+    short : Screened a b → length out < sizeOf (keysOfBoth a b) → joinRefused (refused 9 0) out ≡ joining a b out → Way
+    joins : Screened a b → keysOfBoth a b ≤ mostRecords version
+        → joinWrote (bookBytes version (headerAt a) (joinedOf a b)) out ≡ joining a b out → Way
+
+  pub way : Way
+  way = go (ℕ-discrete (screen a b .number) 0) (decLe n (mostRecords version)) (decLe (sizeOf n) (length out))
+    where
+      n : ℕ
+      n = keysOfBoth a b
+
+      go : Dec (screen a b .number ≡ 0) → Dec (n ≤ mostRecords version) → Dec (sizeOf n ≤ length out) → Way
+      go (no s) f r = screened s (refuse-screened (screen a b) refl s)
+      go (yes s) (no f) r =
+          many (passed-screen a b s) (omega arith) (refuse-over (zero-screened a b s) _ (over-many n (length out) (omega arith)) (λ z. omega arith))
+      go (yes s) (yes f) (no r) =
+          short (passed-screen a b s) (omega arith) (refuse-over (zero-screened a b s) _ (over-short n (length out) f (omega arith)) (λ z. omega arith))
+      go (yes s) (yes f) (yes r) = joins (passed-screen a b s) f (joins-both (zero-screened a b s) f r)

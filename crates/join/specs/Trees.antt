@@ -6,11 +6,10 @@ use Prim.Native.Nat.{ℕ, _≤_}
 use lib.Dec.{eqb}
 use lib.ListN.{length, take}
 use Rattle.book.specs.declared.Header.{Header}
-use Rattle.book.specs.Book.{mostRecords, sizeOf, headerOf, callsOf, bookBytes}
+use Rattle.book.specs.Book.{version, mostRecords, sizeOf, headerAt, callsOf, bookBytes}
 use Rattle.book.specs.Sound.{Sound}
-use Rattle.book.specs.Write.{Outcome}
-use Rattle.rule.specs.Whole.{differentKeys, ruleCalls}
-use Rattle.join.specs.Joining.{joining}
+use Rattle.rule.specs.Whole.{ruleCalls}
+use Rattle.join.specs.Joining.{JoinOutcome, keyCount, joining}
 
 -- a lone book, or the join of what two trees give, into an output that is lent to it
 pub data Plan : Type 0 where
@@ -23,15 +22,15 @@ books (book b) = b ∷ []
 books (join l r out) = books l ++ books r
 
 -- the book that an outcome has written
-abbrev pub written : Outcome → List ℕ
+abbrev pub written : JoinOutcome → List ℕ
 written o = take (o .size) (o .out)
 
 -- the join of what two outcomes have written; a refusal ends it
-unfoldable pub joinBoth : Outcome → Outcome → List ℕ → Outcome
+unfoldable pub joinBoth : JoinOutcome → JoinOutcome → List ℕ → JoinOutcome
 joinBoth l r out = cond (eqb (l .number) 0) (cond (eqb (r .number) 0) (joining (written l) (written r) out) r) l
 
 -- what a tree gives: each node is the outcome of a join
-unfoldable pub result : Plan → Outcome
+unfoldable pub result : Plan → JoinOutcome
 result (book b) = record { number = 0; place = 0; size = length b; out = b }
 result (join l r out) = joinBoth (result l) (result r) out
 
@@ -40,19 +39,15 @@ abbrev pub AllAccepted : Plan → Type 0
 AllAccepted (book b) = Unit {0}
 AllAccepted (join l r out) = AllAccepted l × AllAccepted r × (joining (written (result l)) (written (result r)) out .number ≡ 0)
 
--- how many different keys books have
-unfoldable pub keyCount : List (List ℕ) → ℕ
-keyCount bs = length (differentKeys (map callsOf bs))
-
 -- each output holds the result, where its keys are not too many
 abbrev pub Room : Plan → Type 0
 Room (book b) = Unit {0}
-Room (join l r out) = Room l × Room r × (keyCount (books l ++ books r) ≤ mostRecords → sizeOf (keyCount (books l ++ books r)) ≤ length out)
+Room (join l r out) = Room l × Room r × (keyCount (books l ++ books r) ≤ mostRecords version → sizeOf (keyCount (books l ++ books r)) ≤ length out)
 
 -- sound books of one month and area
 pub record OneMonth (h : Header) (bs : List (List ℕ)) : Type 0 where
   pub sound : (b : List ℕ) → In b bs → Sound b
-  pub header : (b : List ℕ) → In b bs → headerOf b ≡ h
+  pub header : (b : List ℕ) → In b bs → headerAt b ≡ h
 
 -- the leaves of a tree are these books, each at least once
 pub record Covers (p : Plan) (bs : List (List ℕ)) : Type 0 where
@@ -61,4 +56,4 @@ pub record Covers (p : Plan) (bs : List (List ℕ)) : Type 0 where
 
 -- the book that the rule over the whole list gives
 unfoldable pub ruleBook : Header → List (List ℕ) → List ℕ
-ruleBook h bs = bookBytes h (ruleCalls (map callsOf bs))
+ruleBook h bs = bookBytes version h (ruleCalls (map callsOf bs))

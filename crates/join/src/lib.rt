@@ -1,30 +1,39 @@
 // Joining two books: straight from two books of bytes into a third.
+use book::HEADER_SIZE;
+use book::MOST_RECORDS;
+use book::Verdict;
 use book::count_at;
 use book::header_at;
-use book::write::Written;
+use book::refused;
+use book::size_of;
 use book::write::put_header;
+use call::RECORD_SIZE;
 use call::layout::call_at;
 use call::layout::put_call;
 use le::put_u64;
-use pair::decide_from;
+use le::u64_at;
 use pair::precedes;
 use pair::screen;
-use pair::word_at;
 use rule::Decision;
+use rule::decide_at;
 ghost use mathlib.Core.Path.{_≡_};
-ghost use Prim.Native.Nat.{_+_, _*_, _-_, _≤_};
+ghost use mathlib.Core.List.{List};
+ghost use Prim.Native.Nat.{ℕ, _+_, _*_, _-_, _≤_};
 ghost use lib.ListN.{length};
 ghost use Rattle.le.specs.Le.{Stores};
-ghost use Rattle.call.specs.Layout.{callAt, callBytes};
-ghost use Rattle.book.specs.Book.{sizeOf, headerOf, countOf, recordBytes, bookBytes};
-ghost use Rattle.book.specs.Check.{accepted, checkOf};
-ghost use Rattle.book.specs.Write.{outcome};
+ghost use Rattle.call.specs.Layout.{recordSize, callAt, callBytes};
+ghost use Rattle.book.specs.Book.{version, mostRecords, sizeOf, headerAt, countAt, recordBytes, bookBytes};
 ghost use Rattle.rule.specs.Standing.{given};
-ghost use Rattle.join.specs.Joining.{joinedOf, joining};
-ghost use Rattle.join.specs.Steps.{left, Whole, Spells, wordBytes, Counted, Put, Merged, overfull};
+ghost use Rattle.pair.specs.Screening.{Accepted};
+ghost use Rattle.join.specs.Joining.{joinOutcome, joinRefused, keysOfBoth, overflow, joinedOf, joining};
+ghost use Rattle.join.specs.Steps.{leftOf, RecordLies, Spells, wordBytes, KeyCounted, KeyPut, Merged};
 
-// The most records that a book may have.
-const MOST: usize = 512;
+// A refusal's number and place, or zeros, and the length of the joined book.
+pub struct Joined {
+    pub number: u32,
+    pub place: usize,
+    pub length: usize,
+}
 
 // The places of the next records in both books.
 pub struct Next {
@@ -34,12 +43,13 @@ pub struct Next {
 
 // Behind the lower key, or behind both where they are equal.
 fn next_from(first: &[u8], a: usize, second: &[u8], b: usize) -> Next
-    requires { ⌜ (a + 32 ≤ length (now first)) × (b + 32 ≤ length (now second)) ⌝ }
-    ensures { λ r. ⌜ Counted (now (first .entry)) a (now (second .entry)) b r ⌝ }
+    requires { ⌜ a + recordSize ≤ length (now first) ⌝ }
+    requires { ⌜ b + recordSize ≤ length (now second) ⌝ }
+    ensures { λ r. ⌜ KeyCounted (now (first .entry)) a (now (second .entry)) b r ⌝ }
 {
     let lower = precedes(first, a, second, b);
     if lower {
-        let p = a + 32;
+        let p = a + RECORD_SIZE;
         return Next {
             first: p,
             second: b,
@@ -47,31 +57,30 @@ fn next_from(first: &[u8], a: usize, second: &[u8], b: usize) -> Next
     }
     let upper = precedes(second, b, first, a);
     if upper {
-        let q = b + 32;
+        let q = b + RECORD_SIZE;
         return Next {
             first: a,
             second: q,
         };
     }
-    let p = a + 32;
-    let q = b + 32;
+    let p = a + RECORD_SIZE;
+    let q = b + RECORD_SIZE;
     Next {
         first: p,
         second: q,
     }
 }
 
-// How many records the join has: a step for each key while both books have records, and then the rest of one book.
-fn count_keys(first: &[u8], second: &[u8]) -> usize
-    requires { ⌜ (checkOf (now first) ≡ accepted) × (checkOf (now second) ≡ accepted) ⌝ }
-    ensures { λ r. ⌜ r ≡ length (joinedOf (now (first .entry)) (now (second .entry))) ⌝ }
+// How many different keys the books have: a step for each key while both books have records, and then the rest of one book.
+fn keys_of_both(first: &[u8], second: &[u8]) -> usize
+    requires { ⌜ Accepted (now first) ⌝ }
+    requires { ⌜ Accepted (now second) ⌝ }
+    ensures { λ r. ⌜ r ≡ keysOfBoth (now (first .entry)) (now (second .entry)) ⌝ }
 {
-    let n = count_at(first);
-    let m = count_at(second);
-    let e = 16 + 32 * n;
-    let f = 16 + 32 * m;
-    let mut a = 16;
-    let mut b = 16;
+    let e = size_of(count_at(first));
+    let f = size_of(count_at(second));
+    let mut a = HEADER_SIZE;
+    let mut b = HEADER_SIZE;
     let mut k = 0;
     while (a < e) & (b < f) {
         let s = next_from(first, a, second, b);
@@ -79,10 +88,10 @@ fn count_keys(first: &[u8], second: &[u8]) -> usize
         b = s.second;
         k += 1;
     }
-    k + (e - a) / 32 + (f - b) / 32
+    k + (e - a) / RECORD_SIZE + (f - b) / RECORD_SIZE
 }
 
-// The 32 bytes of a record, eight at a time.
+// The 32 bytes of a record, eight at a time, since a join copies every record.
 pub struct Words {
     pub who: u64,
     pub time: u64,
@@ -91,13 +100,13 @@ pub struct Words {
 }
 
 fn words_at(s: &[u8], at: usize) -> Words
-    requires { ⌜ at + 32 ≤ length (now s) ⌝ }
+    requires { ⌜ at + recordSize ≤ length (now s) ⌝ }
     ensures { λ r. ⌜ Spells (now (s .entry)) at r ⌝ }
 {
-    let who = word_at(s, at);
-    let time = word_at(s, at + 8);
-    let terms = word_at(s, at + 16);
-    let rest = word_at(s, at + 24);
+    let who = u64_at(s, at);
+    let time = u64_at(s, at + 8);
+    let terms = u64_at(s, at + 16);
+    let rest = u64_at(s, at + 24);
     Words {
         who,
         time,
@@ -107,7 +116,7 @@ fn words_at(s: &[u8], at: usize) -> Words
 }
 
 fn put_words(out: &mut [u8], at: usize, w: Words)
-    requires { ⌜ at + 32 ≤ length (now out) ⌝ }
+    requires { ⌜ at + recordSize ≤ length (now out) ⌝ }
     ensures { λ _. ⌜ Stores (now (out .entry)) at (wordBytes w) (now (out .exit)) ⌝ }
 {
     put_u64(out, at, w.who);
@@ -118,7 +127,8 @@ fn put_words(out: &mut [u8], at: usize, w: Words)
 
 // The 32 bytes of a sound record as they lie: they are the record's one encoding.
 fn copy_record(s: &[u8], from: usize, out: &mut [u8], at: usize)
-    requires { ⌜ Whole (now s) from × (at + 32 ≤ length (now out)) ⌝ }
+    requires { ⌜ RecordLies (now s) from ⌝ }
+    requires { ⌜ at + recordSize ≤ length (now out) ⌝ }
     ensures { λ _. ⌜ Stores (now (out .entry)) at (callBytes (callAt (now (s .entry)) from)) (now (out .exit)) ⌝ }
 {
     let w = words_at(s, from);
@@ -135,8 +145,12 @@ fn put_given(
     out: &mut [u8],
     at: usize,
 )
-    requires { ⌜ Whole (now first) a × Whole (now second) b × (at + 32 ≤ length (now out)) ⌝ }
-    ensures { λ _. ⌜ Stores (now (out .entry)) at (callBytes (given decision (callAt (now (first .entry)) a) (callAt (now (second .entry)) b))) (now (out .exit)) ⌝ }
+    requires { ⌜ RecordLies (now first) a ⌝ }
+    requires { ⌜ RecordLies (now second) b ⌝ }
+    requires { ⌜ at + recordSize ≤ length (now out) ⌝ }
+    ensures { λ _. ⌜ Stores (now (out .entry)) at
+        (callBytes (given decision (callAt (now (first .entry)) a) (callAt (now (second .entry)) b)))
+        (now (out .exit)) ⌝ }
 {
     match decision {
         Decision::First => copy_record(first, a, out, at),
@@ -147,13 +161,15 @@ fn put_given(
 
 // The record of the next key, to its place.
 fn put_next(first: &[u8], a: usize, second: &[u8], b: usize, out: &mut [u8], at: usize) -> Next
-    requires { ⌜ Whole (now first) a × Whole (now second) b × (at + 32 ≤ length (now out)) ⌝ }
-    ensures { λ r. ⌜ Put (now (first .entry)) a (now (second .entry)) b r (now (out .entry)) at (now (out .exit)) ⌝ }
+    requires { ⌜ RecordLies (now first) a ⌝ }
+    requires { ⌜ RecordLies (now second) b ⌝ }
+    requires { ⌜ at + recordSize ≤ length (now out) ⌝ }
+    ensures { λ r. ⌜ KeyPut (now (first .entry)) a (now (second .entry)) b r (now (out .entry)) at (now (out .exit)) ⌝ }
 {
     let lower = precedes(first, a, second, b);
     if lower {
         copy_record(first, a, out, at);
-        let p = a + 32;
+        let p = a + RECORD_SIZE;
         return Next {
             first: p,
             second: b,
@@ -162,16 +178,16 @@ fn put_next(first: &[u8], a: usize, second: &[u8], b: usize, out: &mut [u8], at:
     let upper = precedes(second, b, first, a);
     if upper {
         copy_record(second, b, out, at);
-        let q = b + 32;
+        let q = b + RECORD_SIZE;
         return Next {
             first: a,
             second: q,
         };
     }
-    let decision = decide_from(first, a, second, b);
+    let decision = decide_at(first, a, second, b);
     put_given(decision, first, a, second, b, out, at);
-    let p = a + 32;
-    let q = b + 32;
+    let p = a + RECORD_SIZE;
+    let q = b + RECORD_SIZE;
     Next {
         first: p,
         second: q,
@@ -187,24 +203,27 @@ pub struct Reached {
 
 // The records of the join, each straight to its place, while both books have records.
 fn put_both(first: &[u8], second: &[u8], out: &mut [u8]) -> Reached
-    requires { ⌜ (checkOf (now first) ≡ accepted) × (checkOf (now second) ≡ accepted)
-        × (32 * length (joinedOf (now first) (now second)) ≤ length (now out)) ⌝ }
+    requires { ⌜ Accepted (now first) ⌝ }
+    requires { ⌜ Accepted (now second) ⌝ }
+    requires { ⌜ recordSize * keysOfBoth (now first) (now second) ≤ length (now out) ⌝ }
     ensures { λ r. ⌜ Merged (now (first .entry)) (now (second .entry)) (now (out .entry)) r (now (out .exit)) ⌝ }
 {
-    let e = 16 + 32 * count_at(first);
-    let f = 16 + 32 * count_at(second);
-    let mut a = 16;
-    let mut b = 16;
+    let n = count_at(first);
+    let e = size_of(n);
+    let m = count_at(second);
+    let f = size_of(m);
+    let mut a = HEADER_SIZE;
+    let mut b = HEADER_SIZE;
     let mut at = 0;
     while (a < e) & (b < f) {
         let s = put_next(first, a, second, b, out, at);
         a = s.first;
         b = s.second;
-        at += 32;
+        at += RECORD_SIZE;
     }
-    let i = (a - 16) / 32;
-    let j = (b - 16) / 32;
-    let k = at / 32;
+    let i = (a - HEADER_SIZE) / RECORD_SIZE;
+    let j = (b - HEADER_SIZE) / RECORD_SIZE;
+    let k = at / RECORD_SIZE;
     Reached {
         first: i,
         second: j,
@@ -214,14 +233,21 @@ fn put_both(first: &[u8], second: &[u8], out: &mut [u8]) -> Reached
 
 // The rest of a book, from record i on, behind the k records that the output has.
 fn put_rest(s: &[u8], i: usize, out: &mut [u8], k: usize) -> usize
-    requires { ⌜ (checkOf (now s) ≡ accepted) × (i ≤ countOf (now s)) × (32 * (k + (countOf (now s) - i)) ≤ length (now out)) ⌝ }
-    ensures { λ r. ⌜ (r ≡ k + (countOf (now (s .entry)) - i))
-        × Stores (now (out .entry)) (32 * k) (recordBytes (left (now (s .entry)) (countOf (now (s .entry))) i)) (now (out .exit)) ⌝ }
+    requires { ⌜ Accepted (now s) ⌝ }
+    requires { ⌜ i ≤ countAt (now s) ⌝ }
+    requires { ⌜ recordSize * (k + (countAt (now s) - i)) ≤ length (now out) ⌝ }
+    ensures { λ r. ⌜ (r ≡ k + (countAt (now (s .entry)) - i))
+        × Stores (now (out .entry)) (recordSize * k) (recordBytes (leftOf (now (s .entry)) (countAt (now (s .entry))) i)) (now (out .exit)) ⌝ }
 {
     let n = count_at(s);
     let mut l = 0;
     while i + l < n {
-        copy_record(s, 16 + 32 * (i + l), out, 32 * (k + l));
+        copy_record(
+            s,
+            HEADER_SIZE + RECORD_SIZE * (i + l),
+            out,
+            RECORD_SIZE * (k + l),
+        );
         l += 1;
     }
     k + l
@@ -229,9 +255,10 @@ fn put_rest(s: &[u8], i: usize, out: &mut [u8], k: usize) -> usize
 
 // All records of the join. Answers with how many there are.
 fn put_records(first: &[u8], second: &[u8], out: &mut [u8]) -> usize
-    requires { ⌜ (checkOf (now first) ≡ accepted) × (checkOf (now second) ≡ accepted)
-        × (32 * length (joinedOf (now first) (now second)) ≤ length (now out)) ⌝ }
-    ensures { λ r. ⌜ (r ≡ length (joinedOf (now (first .entry)) (now (second .entry))))
+    requires { ⌜ Accepted (now first) ⌝ }
+    requires { ⌜ Accepted (now second) ⌝ }
+    requires { ⌜ recordSize * keysOfBoth (now first) (now second) ≤ length (now out) ⌝ }
+    ensures { λ r. ⌜ (r ≡ keysOfBoth (now (first .entry)) (now (second .entry)))
         × Stores (now (out .entry)) 0 (recordBytes (joinedOf (now (first .entry)) (now (second .entry)))) (now (out .exit)) ⌝ }
 {
     let b = put_both(first, second, out);
@@ -244,64 +271,70 @@ fn put_records(first: &[u8], second: &[u8], out: &mut [u8]) -> usize
 // The joined book: its records, and then the header, which has their number. The part of the output behind the header is lent
 // to the writer of the records. Answers with their number.
 fn put_book(first: &[u8], second: &[u8], out: &mut [u8]) -> usize
-    requires { ⌜ (checkOf (now first) ≡ accepted) × (checkOf (now second) ≡ accepted)
-        × (length (joinedOf (now first) (now second)) ≤ 512)
-        × (sizeOf (length (joinedOf (now first) (now second))) ≤ length (now out)) ⌝ }
-    ensures { λ r. ⌜ (r ≡ length (joinedOf (now (first .entry)) (now (second .entry))))
-        × Stores (now (out .entry)) 0 (bookBytes (headerOf (now (first .entry))) (joinedOf (now (first .entry)) (now (second .entry)))) (now (out .exit)) ⌝ }
+    requires { ⌜ Accepted (now first) ⌝ }
+    requires { ⌜ Accepted (now second) ⌝ }
+    requires { ⌜ keysOfBoth (now first) (now second) ≤ mostRecords version ⌝ }
+    requires { ⌜ sizeOf (keysOfBoth (now first) (now second)) ≤ length (now out) ⌝ }
+    ensures { λ r. ⌜ (r ≡ keysOfBoth (now (first .entry)) (now (second .entry)))
+        × Stores (now (out .entry)) 0
+        (bookBytes version (headerAt (now (first .entry))) (joinedOf (now (first .entry)) (now (second .entry))))
+        (now (out .exit)) ⌝ }
 {
-    let keys = put_records(first, second, &mut out[16..]);
+    let keys = put_records(first, second, &mut out[HEADER_SIZE..]);
     let count = keys as u16;
     put_header(out, header_at(first), count);
     keys
 }
 
-// 8 and 9, or 0. The keys are counted only where the records of both books together are too many, or too long for the output.
-fn overflow(first: &[u8], second: &[u8], room: usize) -> u32
-    requires { ⌜ (checkOf (now first) ≡ accepted) × (checkOf (now second) ≡ accepted) ⌝ }
-    ensures { λ r. ⌜ r ≡ overfull (length (joinedOf (now (first .entry)) (now (second .entry)))) room ⌝ }
+// 8 and 9. The keys are counted only where the records of both books together are too many, or too long for the output.
+fn overflow(first: &[u8], second: &[u8], room: usize) -> Verdict
+    requires { ⌜ Accepted (now first) ⌝ }
+    requires { ⌜ Accepted (now second) ⌝ }
+    ensures { λ r. ⌜ r ≡ overflow (keysOfBoth (now (first .entry)) (now (second .entry))) room ⌝ }
 {
     let n = count_at(first);
     let m = count_at(second);
     let most = n + m;
-    if (most <= MOST) & (16 + 32 * most <= room) {
-        return 0;
+    if most <= MOST_RECORDS {
+        if size_of(most) <= room {
+            return refused(0, 0);
+        }
     }
-    let keys = count_keys(first, second);
-    if MOST < keys {
-        return 8;
+    let keys = keys_of_both(first, second);
+    if MOST_RECORDS < keys {
+        return refused(8, 0);
     }
-    if room < 16 + 32 * keys {
-        return 9;
+    if room < size_of(keys) {
+        return refused(9, 0);
     }
-    0
+    refused(0, 0)
 }
 
-fn refusal(number: u32, place: usize) -> Written
-    ensures { λ r. ⌜ (r .number ≡ number) × (r .place ≡ place) × (r .length ≡ 0) ⌝ }
+fn join_refused(v: Verdict) -> Joined
+    ensures { λ r. ⌜ ((out : List ℕ) → joinOutcome r out ≡ joinRefused v out) ⌝ }
 {
-    Written {
-        number,
-        place,
+    Joined {
+        number: v.number,
+        place: v.place,
         length: 0,
     }
 }
 
 // Two books joined into the output: refused by number and place, or the joined book at its start.
-pub fn join(first: &[u8], second: &[u8], out: &mut [u8]) -> Written
-    ensures { λ r. ⌜ outcome r (now (out .exit)) ≡ joining (now (first .entry)) (now (second .entry)) (now (out .entry)) ⌝ }
+pub fn join(first: &[u8], second: &[u8], out: &mut [u8]) -> Joined
+    ensures { λ r. ⌜ joinOutcome r (now (out .exit)) ≡ joining (now (first .entry)) (now (second .entry)) (now (out .entry)) ⌝ }
 {
     let v = screen(first, second);
     if v.number != 0 {
-        return refusal(v.number, v.place);
+        return join_refused(v);
     }
-    let number = overflow(first, second, out.len());
-    if number != 0 {
-        return refusal(number, 0);
+    let w = overflow(first, second, out.len());
+    if w.number != 0 {
+        return join_refused(w);
     }
     let keys = put_book(first, second, out);
-    let size = 16 + 32 * keys;
-    Written {
+    let size = size_of(keys);
+    Joined {
         number: 0,
         place: 0,
         length: size,

@@ -5,9 +5,10 @@ use mathlib.Core.List.{List, [], _∷_, _++_}
 use Prim.Native.Nat.{ℕ}
 use lib.Dec.{eqb}
 use Rattle.row.specs.Numbers.{numbersIn}
-use Rattle.share.specs.Sharing.{soundLine}
+use Rattle.row.specs.Judging.{filledUp, judged}
+use Rattle.share.specs.Sharing.{lineIsSound}
 use Rattle.lines.specs.declared.Taken.{Taken}
-use Rattle.lines.specs.Text.{lineOf, textLines, arrayFrom, judged, readText}
+use Rattle.lines.specs.Text.{lineOf, textLines, readText}
 
 -- "1 0 100 300000 0"
 first : List ℕ
@@ -61,5 +62,5 @@ every (c ∷ cs) = as-said c (readText (c .text)) && every cs
 
 -- Each text is read as the table says.
 pub reads-as-told : every cases ≡ true
-unfolding every as-said cases sample first second third readText judged textLines lineOf numbersIn soundLine arrayFrom
+unfolding every as-said cases sample first second third readText judged textLines lineOf numbersIn lineIsSound filledUp
 reads-as-told = refl

@@ -1,27 +1,28 @@
 -- When a sharing line is sound, and what a line says that was read from its text. Assumes nothing.
 use mathlib.Core.Path.{_≡_, refl, ap, sym, _∙_}
 use mathlib.Core.Bool.{Bool, true, false, cond, _&&_}
-use mathlib.Core.List.{List, [], _∷_, map}
+use mathlib.Core.List.{List, [], _∷_, _++_, map}
 use Prim.Native.Nat.{ℕ, _≤_}
 use native.Mathlib.Omega.{arith}
 use lib.Dec.{ltb, leb}
 use lib.IntN.{pos}
-use lib.ListN.{length, getD}
+use lib.ListN.{length, getD, take}
+use lib.Seq.{take-take}
 use borrow.Author.Tests.{leb-true}
 use Rattle.le.proofs.Tests.{joined, each}
 use Rattle.row.specs.declared.Row.{Row}
-use Rattle.row.specs.Numbers.{partsOf, numbersIn, ceiling, held, numbersOf}
-use Rattle.row.specs.Meaning.{isRow}
-use Rattle.row.specs.Judging.{fairBy}
+use Rattle.row.specs.Numbers.{partsOf, numbersIn, ceiling, hold, numbersOf}
+use Rattle.row.specs.Meaning.{isRow, rowFirstFive}
+use Rattle.row.specs.Inner.{fairBy}
 use Rattle.row.proofs.Texts.{and-false}
 use Rattle.row.proofs.Held.{capped, held-at}
 use Rattle.row.proofs.Rows.{whole-row, none-row}
 use Rattle.row.proofs.Judging.{Lawful}
 use Rattle.share.specs.declared.Line.{Line}
-use Rattle.share.specs.Sharing.{soundLine, mostNumber, mostStatus, mostEnergy, mostCompensation, mostAssessment}
-use Rattle.share.specs.Forms.{blank}
-use Rattle.lines.specs.Text.{space, asLine, lineOf}
-use Rattle.lines.specs.Meaning.{inTurn, fair, fiveOf, rowLine, wholeLine}
+use Rattle.share.specs.Sharing.{lineIsSound, mostNumber, mostStatus, mostEnergy, mostCompensation, mostAssessment}
+use Rattle.share.specs.Forms.{blankLine}
+use Rattle.lines.specs.Text.{space, asLine, lineOf, sharingLines}
+use Rattle.lines.specs.Meaning.{fair, fiveOf, lineIn, wholeLine}
 
 -- Limits
 
@@ -36,15 +37,15 @@ and-true : (t : Bool) → t ≡ (t && true)
 and-true true = refl
 and-true false = refl
 
-splits : (b : ℕ) (l : Line) → soundLine b l ≡ (within l && ltb b (l .number))
-unfolding soundLine within
+splits : (b : ℕ) (l : Line) → lineIsSound b l ≡ (within l && ltb b (l .number))
+unfolding lineIsSound within
 splits b l = go (ltb b (l .number))
   where
     go : (t : Bool) → joined (t && leb (l .number) mostNumber) (bounds l) ≡ (within l && t)
     go true = and-true (within l)
     go false = sym (and-false (within l))
 
-pub lawful : Lawful inTurn
+pub lawful : Lawful sharingLines
 unfolding within
 lawful = record { within = within; splits = splits; few = λ l h. leb-true (l .number) mostNumber (each (leb (l .number) mostNumber) (bounds l) h .0); none = refl }
 
@@ -53,16 +54,16 @@ lawful = record { within = within; splits = splits; few = λ l h. leb-true (l .n
 abbrev heldLine : Line → Line
 heldLine l =
     record {
-      number = held (l .number);
-      status = held (l .status);
-      energy = record { 0 = held (l .energy .0) };
-      compensation = record { 0 = held (l .compensation .0) };
-      assessment = record { 0 = held (l .assessment .0) };
+      number = hold (l .number);
+      status = hold (l .status);
+      energy = record { 0 = hold (l .energy .0) };
+      compensation = record { 0 = hold (l .compensation .0) };
+      assessment = record { 0 = hold (l .assessment .0) };
       share = l .share;
       amount = l .amount;
     }
 
-held-line : (ns : List ℕ) → asLine (map held ns) ≡ heldLine (asLine ns)
+held-line : (ns : List ℕ) → asLine (map hold ns) ≡ heldLine (asLine ns)
 held-line ns =
     λ i. record {
       number = held-at ns 0 i;
@@ -86,14 +87,14 @@ held-same : (l : Line) → within l ≡ true → heldLine l ≡ l
 unfolding within
 held-same l h =
     let p = each (leb (l .number) mostNumber) (bounds l) h in
-    let n : held (l .number) ≡ l .number = omega (arith, leb-true (l .number) mostNumber (p .0)) in
-    let s : held (l .status) ≡ l .status = omega (arith, leb-true (l .status) mostStatus (p .1 .0)) in
-    let e : held (l .energy .0) ≡ l .energy .0 = omega (arith, leb-true (l .energy .0) mostEnergy (p .1 .1 .0)) in
-    let c : held (l .compensation .0) ≡ l .compensation .0 = omega (arith, leb-true (l .compensation .0) mostCompensation (p .1 .1 .1 .0)) in
-    let a : held (l .assessment .0) ≡ l .assessment .0 = omega (arith, leb-true (l .assessment .0) mostAssessment (p .1 .1 .1 .1 .0)) in
+    let n : hold (l .number) ≡ l .number = omega (arith, leb-true (l .number) mostNumber (p .0)) in
+    let s : hold (l .status) ≡ l .status = omega (arith, leb-true (l .status) mostStatus (p .1 .0)) in
+    let e : hold (l .energy .0) ≡ l .energy .0 = omega (arith, leb-true (l .energy .0) mostEnergy (p .1 .1 .0)) in
+    let c : hold (l .compensation .0) ≡ l .compensation .0 = omega (arith, leb-true (l .compensation .0) mostCompensation (p .1 .1 .1 .0)) in
+    let a : hold (l .assessment .0) ≡ l .assessment .0 = omega (arith, leb-true (l .assessment .0) mostAssessment (p .1 .1 .1 .1 .0)) in
     λ i. record { number = n i; status = s i; energy = record { 0 = e i }; compensation = record { 0 = c i }; assessment = record { 0 = a i }; share = l .share; amount = l .amount }
 
-fair-beyond : (l : Line) → within l ≡ false → fair l ≡ blank
+fair-beyond : (l : Line) → within l ≡ false → fair l ≡ blankLine
 unfolding fairBy
 fair-beyond l h = rw (splits 0 l, h)
 
@@ -149,21 +150,24 @@ module _ (d : List ℕ) (a : ℕ) where
       let p = each (ltb 0 (getD d 0 0)) (five-tests d a) h in
       (leb-true _ _ (p .1 .0), leb-true _ _ (p .1 .1 .0), leb-true _ _ (p .1 .1 .1 .0), leb-true _ _ (p .1 .1 .1 .1 .1 .0))
 
-  fair-five : (t : Bool) → five-test d a ≡ t → fair (lineBy d a) ≡ cond t (lineBy d a) blank
-  unfolding fairBy soundLine
+  fair-five : (t : Bool) → five-test d a ≡ t → fair (lineBy d a) ≡ cond t (lineBy d a) blankLine
+  unfolding fairBy lineIsSound
   fair-five t h = rw h
 
   pub five-sound : length d ≡ 5 → five-test d a ≡ true → lineBy d a ≡ fair (asLine (fiveOf d a))
   five-sound l h = sym (fair-five true h) ∙ ap (λ (x : Line). fair x) (line-by d a l)
 
-  pub five-bad : length d ≡ 5 → five-test d a ≡ false → blank ≡ fair (asLine (fiveOf d a))
+  pub five-bad : length d ≡ 5 → five-test d a ≡ false → blankLine ≡ fair (asLine (fiveOf d a))
   five-bad l h = sym (fair-five false h) ∙ ap (λ (x : Line). fair x) (line-by d a l)
 
 -- A line that ends
 
-pub line-whole : (row : Row) (v : ℕ) → isRow 4 row [] [] ≡ true → v ≡ held (row .value) → fair (asLine (fiveOf (row .ended) v)) ≡ fair (rowLine row [])
-line-whole row v h e = ap (λ (ns : List ℕ). fair (asLine ns)) (sym (whole-row space 4 row v h e))
+pub line-whole : (row : Row) (five : List ℕ) (v : ℕ) → isRow 4 row [] [] ≡ true → five ≡ rowFirstFive row → v ≡ hold (row .value)
+    → fair (asLine (fiveOf five v)) ≡ lineIn row
+line-whole row five v h f e =
+    ap (λ (ns : List ℕ). fair (asLine (ns ++ v ∷ []))) (ap (take 4) f ∙ take-take 4 5 (row .ended) (omega arith))
+    ∙ ap (λ (ns : List ℕ). fair (asLine ns)) (sym (whole-row space 4 row v h e))
 
-pub line-none : (row : Row) → isRow 4 row [] [] ≡ false → blank ≡ fair (rowLine row [])
-unfolding fairBy soundLine
+pub line-none : (row : Row) → isRow 4 row [] [] ≡ false → blankLine ≡ lineIn row
+unfolding fairBy lineIsSound
 line-none row h = ap (λ (ns : List ℕ). fair (asLine ns)) (sym (none-row space 4 row h))

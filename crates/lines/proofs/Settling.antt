@@ -10,20 +10,21 @@ use lib.ListN.{length, take, getD, replicate, length-take, length-replicate}
 use borrow.Author.Tests.{ltb-true, ltb-false, leb-true, eqb-true, eqb-false, lt-ltb, le-ltb, le-leb, eq-eqb, ne-eqb, not-true, not-false}
 use Rattle.le.proofs.Tests.{Hold, each, all}
 use Rattle.row.specs.declared.Row.{Row}
-use Rattle.row.specs.Numbers.{onto, partsOf, linesOf, isDigit, digits, some, numbers, value, held}
-use Rattle.row.specs.Meaning.{begun, isRow, rowAt, rowParts, rowNumbers}
-use Rattle.row.specs.Judging.{judgeFrom, outcomeOf}
-use Rattle.row.proofs.Texts.{and-false, or-true, grows, Without, line-last, by-parts}
+use Rattle.row.specs.Numbers.{onto, partsOf, linesOf, isDigit, digits, some, numbers, value, hold}
+use Rattle.row.specs.Meaning.{rowIsBegun, isRow, rowAt, rowParts, rowNumbers}
+use Rattle.row.specs.Judging.{refusedAt}
+use Rattle.row.specs.Inner.{judgeFrom, judgedOn}
+use Rattle.row.proofs.Texts.{and-false, or-true, digit-is-not, grows, Without, line-last, by-parts}
 use Rattle.row.proofs.Rows.{foreign, none-row}
 use Rattle.share.specs.declared.Line.{Line}
-use Rattle.share.specs.Sharing.{soundLine, mostNumber, mostStatus, mostEnergy, mostCompensation, mostAssessment}
-use Rattle.share.specs.Forms.{blank}
+use Rattle.share.specs.Sharing.{lineIsSound, mostNumber, mostStatus, mostEnergy, mostCompensation, mostAssessment}
+use Rattle.share.specs.Forms.{blankLine}
 use Rattle.share.proofs.Counted.{blank-bad}
 use Rattle.lines.specs.declared.Reader.{Reader}
 use Rattle.lines.specs.declared.Taken.{Taken}
-use Rattle.lines.specs.Text.{asLine, refusedAt}
-use Rattle.lines.specs.Meaning.{rowLine, linesFrom, inTurn, meaning}
-use Rattle.lines.specs.Settling.{numberBytes, zeros, bestBytes, Settled, Tells}
+use Rattle.lines.specs.Text.{asLine, sharingLines}
+use Rattle.lines.specs.Meaning.{rowLine, linesLeft, meaning, numberBytes, zeros, bestBytes}
+use Rattle.lines.specs.Stream.{Tells, Stays}
 
 -- The bytes that end the open number
 
@@ -134,14 +135,14 @@ In b ns =
 tests : List ℕ → List Bool
 tests ns = leb (getD ns 0 0) mostNumber ∷ leb (getD ns 1 0) mostStatus ∷ leb (getD ns 2 0) mostEnergy ∷ leb (getD ns 3 0) mostCompensation ∷ leb (getD ns 4 0) mostAssessment ∷ []
 
-sound-in : (b : ℕ) (ns : List ℕ) → soundLine b (asLine ns) ≡ true → In b ns
-unfolding soundLine tests
+sound-in : (b : ℕ) (ns : List ℕ) → lineIsSound b (asLine ns) ≡ true → In b ns
+unfolding lineIsSound tests
 sound-in b ns h =
     let p = each (ltb b (getD ns 0 0)) (tests ns) h in
     (ltb-true _ _ (p .0), leb-true _ _ (p .1 .0), leb-true _ _ (p .1 .1 .0), leb-true _ _ (p .1 .1 .1 .0), leb-true _ _ (p .1 .1 .1 .1 .0), leb-true _ _ (p .1 .1 .1 .1 .1 .0))
 
-in-sound : (b : ℕ) (ns : List ℕ) → In b ns → soundLine b (asLine ns) ≡ true
-unfolding soundLine tests
+in-sound : (b : ℕ) (ns : List ℕ) → In b ns → lineIsSound b (asLine ns) ≡ true
+unfolding lineIsSound tests
 in-sound b ns h =
     all (ltb b (getD ns 0 0)) (tests ns)
     (lt-ltb _ _ (h .0), (le-leb _ _ (h .1), (le-leb _ _ (h .2), (le-leb _ _ (h .3), (le-leb _ _ (h .4), (le-leb _ _ (h .5), tt))))))
@@ -164,7 +165,7 @@ in-first b w zs h k z = (h, k, omega (arith, z 0), omega (arith, z 1), omega (ar
 zeroPieces : ℕ → List (List ℕ)
 zeroPieces k = replicate k (48 ∷ [])
 
-zero-values : (k j : ℕ) → getD (map held (map (value 0) (zeroPieces k))) j 0 ≡ 0
+zero-values : (k j : ℕ) → getD (map hold (map (value 0) (zeroPieces k))) j 0 ≡ 0
 unfolding zeroPieces
 zero-values zero j = refl
 zero-values (suc k) zero = refl
@@ -176,7 +177,7 @@ zero-numbers zero = refl
 zero-numbers (suc k) = zero-numbers k
 
 no-space : (d : ℕ) → isDigit d ≡ true → eqb d 32 ≡ false
-no-space d h = ne-eqb d 32 (λ e. omega (arith, leb-true 48 d (each (leb 48 d) (leb d 57 ∷ []) h .0), e))
+no-space d h = ne-eqb d 32 (digit-is-not d 32 h (omega arith))
 
 best-pieces : (p : List ℕ) (k : ℕ) → digits p ≡ true → partsOf 32 (p ++ zeros k) ≡ p ∷ zeroPieces k
 unfolding zeroPieces
@@ -190,27 +191,27 @@ best-pieces (d ∷ p) k h =
 
 -- the numbers of a line of which `p` is left of the open one, and the parts `ps` come behind it
 abbrev fiveWith : Row → List ℕ → List (List ℕ) → List ℕ
-fiveWith row p ps = take (row .at) (row .ended) ++ map held (value (row .value) p ∷ map (value 0) ps)
+fiveWith row p ps = take (row .at) (row .ended) ++ map hold (value (row .value) p ∷ map (value 0) ps)
 
 -- a sound line is five numbers
-five-of : (b : ℕ) (row : Row) (p : List ℕ) (ps : List (List ℕ)) → soundLine b (asLine (rowAt 4 row p ps)) ≡ true
-    → (isRow 4 row p ps ≡ true) × (soundLine b (asLine (fiveWith row p ps)) ≡ true)
+five-of : (b : ℕ) (row : Row) (p : List ℕ) (ps : List (List ℕ)) → lineIsSound b (asLine (rowAt 4 row p ps)) ≡ true
+    → (isRow 4 row p ps ≡ true) × (lineIsSound b (asLine (fiveWith row p ps)) ≡ true)
 five-of b row p ps h = go (isRow 4 row p ps) refl h
   where
-    go : (t : Bool) → isRow 4 row p ps ≡ t → soundLine b (asLine (cond t (fiveWith row p ps) [])) ≡ true
-        → (isRow 4 row p ps ≡ true) × (soundLine b (asLine (fiveWith row p ps)) ≡ true)
+    go : (t : Bool) → isRow 4 row p ps ≡ t → lineIsSound b (asLine (cond t (fiveWith row p ps) [])) ≡ true
+        → (isRow 4 row p ps ≡ true) × (lineIsSound b (asLine (fiveWith row p ps)) ≡ true)
     go true e k = (e, k)
     go false e k = absurd (true≢false (sym k ∙ blank-bad b))
 
 five-tests : Row → List ℕ → List (List ℕ) → List Bool
 five-tests row p ps = digits p ∷ (row .digit || some p) ∷ numbers ps ∷ eqb (row .at + length ps) 4 ∷ []
 
-module _ (b : ℕ) (row : Row) (long : length (row .ended) ≡ 5) where
-  best-at : (p : List ℕ) (ps : List (List ℕ)) → soundLine b (asLine (rowAt 4 row p ps)) ≡ true → soundLine b (rowLine row (bestBytes row)) ≡ true
+module _ (b : ℕ) (row : Row) (long : 4 ≤ length (row .ended)) where
+  best-at : (p : List ℕ) (ps : List (List ℕ)) → lineIsSound b (asLine (rowAt 4 row p ps)) ≡ true → lineIsSound b (rowLine row (bestBytes row)) ≡ true
   unfolding five-tests zeroPieces rowNumbers
   best-at p ps h = go (decLe 1 (row .at))
     where
-      five : (isRow 4 row p ps ≡ true) × (soundLine b (asLine (fiveWith row p ps)) ≡ true)
+      five : (isRow 4 row p ps ≡ true) × (lineIsSound b (asLine (fiveWith row p ps)) ≡ true)
       five = five-of b row p ps h
 
       limits : In b (fiveWith row p ps)
@@ -224,35 +225,35 @@ module _ (b : ℕ) (row : Row) (long : length (row .ended) ≡ 5) where
 
       end : digits (numberBytes row) ≡ true → (row .digit || some (numberBytes row)) ≡ true
           → In b (fiveWith row (numberBytes row) (zeroPieces (4 - row .at)))
-          → soundLine b (rowLine row (bestBytes row)) ≡ true
+          → lineIsSound b (rowLine row (bestBytes row)) ≡ true
       end ds s l =
           let all-tests : isRow 4 row (numberBytes row) (zeroPieces (4 - row .at)) ≡ true =
           all (not (row .bad)) (five-tests row (numberBytes row) (zeroPieces (4 - row .at)))
           (t .0, (ds, (s, (zero-numbers (4 - row .at), (eq-eqb (row .at + length (zeroPieces (4 - row .at))) 4 (omega (arith, few, length-replicate {A = List ℕ} (4 - row .at) (48 ∷ []))), tt))))) in
           rw (best-pieces (numberBytes row) (4 - row .at) ds, all-tests) (in-sound b (fiveWith row (numberBytes row) (zeroPieces (4 - row .at))) l)
 
-      go : Dec (1 ≤ row .at) → soundLine b (rowLine row (bestBytes row)) ≡ true
+      go : Dec (1 ≤ row .at) → lineIsSound b (rowLine row (bestBytes row)) ≡ true
       go (yes k) =
           let n = next row p k (t .1 .1 .0) in
-          let size : length (take (row .at) (row .ended)) ≡ row .at = length-take (row .at) (row .ended) ∙ omega (arith, few) in
+          let size : length (take (row .at) (row .ended)) ≡ row .at = length-take (row .at) (row .ended) ∙ omega (arith, few, long) in
           end (n .digits) (n .some)
-          (in-next b (take (row .at) (row .ended)) (held (value (row .value) p)) (held (value (row .value) (numberBytes row)))
-          (map held (map (value 0) ps)) (map held (map (value 0) (zeroPieces (4 - row .at))))
-          (omega arith) (omega (arith, few)) (omega (arith, n .low)) (zero-values (4 - row .at)) limits)
+          (in-next b (take (row .at) (row .ended)) (hold (value (row .value) p)) (hold (value (row .value) (numberBytes row)))
+          (map hold (map (value 0) ps)) (map hold (map (value 0) (zeroPieces (4 - row .at))))
+          (omega arith) (omega (arith, few, long)) (omega (arith, n .low)) (zero-values (4 - row .at)) limits)
       go (no k) =
           let none : row .at ≡ 0 = omega arith in
           let pre : take (row .at) (row .ended) ≡ [] = ap (λ (n : ℕ). take n (row .ended)) none in
-          let l = subst (λ (ns : List ℕ). In b (ns ++ map held (value (row .value) p ∷ map (value 0) ps))) pre limits in
+          let l = subst (λ (ns : List ℕ). In b (ns ++ map hold (value (row .value) p ∷ map (value 0) ps))) pre limits in
           let f = first b row p (omega arith) (t .1 .0) (t .1 .1 .0) (omega (arith, l .0)) (omega (arith, l .1)) in
           end (f .digits) (f .some)
-          (subst (λ (ns : List ℕ). In b (ns ++ map held (value (row .value) (numberBytes row) ∷ map (value 0) (zeroPieces (4 - row .at))))) (sym pre)
-          (in-first b (held (value (row .value) (numberBytes row))) (map held (map (value 0) (zeroPieces (4 - row .at))))
+          (subst (λ (ns : List ℕ). In b (ns ++ map hold (value (row .value) (numberBytes row) ∷ map (value 0) (zeroPieces (4 - row .at))))) (sym pre)
+          (in-first b (hold (value (row .value) (numberBytes row))) (map hold (map (value 0) (zeroPieces (4 - row .at))))
           (omega (arith, f .above, f .within)) (omega (arith, f .within)) (zero-values (4 - row .at))))
 
   -- IF ANY BYTES MAKE AN OPEN LINE SOUND, THE BEST ONES DO.
-  pub best-sound : (rest : List ℕ) → soundLine b (rowLine row rest) ≡ true → soundLine b (rowLine row (bestBytes row)) ≡ true
+  pub best-sound : (rest : List ℕ) → lineIsSound b (rowLine row rest) ≡ true → lineIsSound b (rowLine row (bestBytes row)) ≡ true
   unfolding rowNumbers
-  best-sound rest h = by-parts 32 (λ ps. soundLine b (asLine (rowParts 4 row ps)) ≡ true → soundLine b (rowLine row (bestBytes row)) ≡ true) best-at rest h
+  best-sound rest h = by-parts 32 (λ ps. lineIsSound b (asLine (rowParts 4 row ps)) ≡ true → lineIsSound b (rowLine row (bestBytes row)) ≡ true) best-at rest h
 
 -- The reader
 
@@ -276,7 +277,7 @@ plain : (p : List ℕ) (k : ℕ) → digits p ≡ true → Without 10 (p ++ zero
 plain [] k h = zeros-plain k
 plain (d ∷ p) k h =
     let e = each (isDigit d) (digits p ∷ []) h in
-    (λ f. omega (arith, leb-true 48 d (each (leb 48 d) (leb d 57 ∷ []) (e .0) .0), f), plain p k (e .1 .0))
+    (digit-is-not d 10 (e .0) (omega arith), plain p k (e .1 .0))
 
 alone : List ℕ → List (List ℕ)
 alone [] = []
@@ -287,30 +288,30 @@ unfolding alone
 one-line [] h = refl
 one-line (b ∷ bs) h = line-last b bs h
 
-lines-alone : (row : Row) (bs : List ℕ) → begun row ≡ true → linesFrom row (alone bs) ≡ rowLine row bs ∷ []
+lines-alone : (row : Row) (bs : List ℕ) → rowIsBegun row ≡ true → linesLeft row (alone bs) ≡ rowLine row bs ∷ []
 unfolding alone
 lines-alone row [] h = rw h
 lines-alone row (b ∷ bs) h = refl
 
-pub tells-refused : (s : Reader) → s .sheet .refused ≡ true → Tells s true
-unfolding meaning outcomeOf
-tells-refused s h = record { stays = λ _ rest. simp h; moves = λ e. absurd (true≢false e) }
+pub tells-refused : (s : Reader) → s .sheet .refused ≡ true → Tells (Stays s) true
+unfolding meaning judgedOn
+tells-refused s h = record { yes = λ _ rest. simp h; no = λ e. absurd (true≢false e) }
 
-ten-or-none : (s : Reader) (bad good : List ℕ) → meaning s bad .number ≡ 10 → meaning s good .number ≡ 0 → Settled s → ⊥
+ten-or-none : (s : Reader) (bad good : List ℕ) → meaning s bad .number ≡ 10 → meaning s good .number ≡ 0 → Stays s → ⊥
 ten-or-none s bad good b g h =
     let e : _≡_ {A = ℕ} 10 0 = sym b ∙ ap (λ (t : Taken). t .number) (h bad ∙ sym (h good)) ∙ g in
     omega arith
 
 module _ (s : Reader) (on : s .sheet .refused ≡ false) where
-  pub tells-shut : begun (s .row) ≡ false → Tells s false
-  unfolding meaning outcomeOf
+  pub tells-shut : rowIsBegun (s .row) ≡ false → Tells (Stays s) false
+  unfolding meaning judgedOn
   tells-shut h =
       let d : s .row .digit ≡ false = no-digit (s .row .bad) (s .row .digit) (ltb 0 (s .row .at)) h in
       let none : isRow 4 (s .row) [] [] ≡ false = simp (d, and-false) in
-      let line : rowLine (s .row) [] ≡ blank = ap asLine (none-row 32 4 (s .row) none) in
+      let line : rowLine (s .row) [] ≡ blankLine = ap asLine (none-row 32 4 (s .row) none) in
       record {
-        stays = λ e. absurd (true≢false (sym e));
-        moves = λ _. ten-or-none s (10 ∷ []) [] (rw (on, line, blank-bad (s .sheet .before))) (rw (on, h));
+        yes = λ e. absurd (true≢false (sym e));
+        no = λ _. ten-or-none s (10 ∷ []) [] (rw (on, line, blank-bad (s .sheet .before))) (rw (on, h));
       }
     where
       no-digit : (a d n : Bool) → (a || d || n) ≡ false → d ≡ false
@@ -318,43 +319,43 @@ module _ (s : Reader) (on : s .sheet .refused ≡ false) where
       no-digit false true n h = absurd (true≢false h)
       no-digit false false n h = refl
 
-  module _ (isOpen : begun (s .row) ≡ true) where
+  module _ (isOpen : rowIsBegun (s .row) ≡ true) where
     takes : List ℕ → Bool
-    takes bytes = soundLine (s .sheet .before) (rowLine (s .row) bytes) && ltb (s .sheet .count) mostNumber
+    takes bytes = lineIsSound (s .sheet .before) (rowLine (s .row) bytes) && ltb (s .sheet .count) mostNumber
 
-    none-taken : length (s .row .ended) ≡ 5 → takes (bestBytes (s .row)) ≡ false → (rest : List ℕ) → takes rest ≡ false
+    none-taken : 4 ≤ length (s .row .ended) → takes (bestBytes (s .row)) ≡ false → (rest : List ℕ) → takes rest ≡ false
     unfolding takes
-    none-taken long h rest = go (soundLine (s .sheet .before) (rowLine (s .row) rest)) (ltb (s .sheet .count) mostNumber) refl refl
+    none-taken long h rest = go (lineIsSound (s .sheet .before) (rowLine (s .row) rest)) (ltb (s .sheet .count) mostNumber) refl refl
       where
-        go : (t u : Bool) → soundLine (s .sheet .before) (rowLine (s .row) rest) ≡ t → ltb (s .sheet .count) mostNumber ≡ u → takes rest ≡ false
+        go : (t u : Bool) → lineIsSound (s .sheet .before) (rowLine (s .row) rest) ≡ t → ltb (s .sheet .count) mostNumber ≡ u → takes rest ≡ false
         go false u e f = rw e
-        go true false e f = rw f (and-false (soundLine (s .sheet .before) (rowLine (s .row) rest)))
+        go true false e f = rw f (and-false (lineIsSound (s .sheet .before) (rowLine (s .row) rest)))
         go true true e f = absurd (true≢false (sym (all _ (_ ∷ []) (best-sound (s .sheet .before) (s .row) long rest e, (f, tt))) ∙ h))
 
-    refused-all : ((rest : List ℕ) → takes rest ≡ false) → (rest : List ℕ) → meaning s rest ≡ refusedAt (s .sheet .count)
-    unfolding meaning takes outcomeOf
+    refused-all : ((rest : List ℕ) → takes rest ≡ false) → (rest : List ℕ) → meaning s rest ≡ refusedAt sharingLines (s .sheet .count)
+    unfolding meaning takes judgedOn
     refused-all h rest = rw on (go (linesOf rest))
       where
-        go : (ls : List (List ℕ)) → judgeFrom inTurn (s .sheet .before) (s .sheet .lines) (s .sheet .count) (linesFrom (s .row) ls) ≡ refusedAt (s .sheet .count)
+        go : (ls : List (List ℕ)) → judgeFrom sharingLines (s .sheet .before) (s .sheet .lines) (s .sheet .count) (linesLeft (s .row) ls) ≡ refusedAt sharingLines (s .sheet .count)
         go [] = rw (isOpen, h [])
         go (l ∷ ls) = rw (h l)
 
     taken-one : takes (bestBytes (s .row)) ≡ true → meaning s (bestBytes (s .row)) .number ≡ 0
-    unfolding meaning takes outcomeOf
+    unfolding meaning takes judgedOn
     taken-one h = rw (on, one-line (bestBytes (s .row)) (plain (numberBytes (s .row)) (4 - s .row .at) (number-digits (s .row))), lines-alone (s .row) (bestBytes (s .row)) isOpen, h)
 
     spoilt-one : meaning s (0 ∷ []) .number ≡ 10
-    unfolding meaning outcomeOf
+    unfolding meaning judgedOn
     spoilt-one =
-        let line : rowLine (s .row) (0 ∷ []) ≡ blank = ap asLine (foreign 32 4 (s .row) 0 (λ e. omega arith) refl []) in
+        let line : rowLine (s .row) (0 ∷ []) ≡ blankLine = ap asLine (foreign 32 4 (s .row) 0 (λ e. omega arith) refl []) in
         rw (on, line, blank-bad (s .sheet .before))
 
-    pub tells-open : (best : Row) (t : Bool) → length (s .row .ended) ≡ 5 → rowLine best [] ≡ rowLine (s .row) (bestBytes (s .row))
-        → t ≡ (soundLine (s .sheet .before) (rowLine best []) && ltb (s .sheet .count) mostNumber) → Tells s (not t)
+    pub tells-open : (best : Row) (t : Bool) → 4 ≤ length (s .row .ended) → rowLine best [] ≡ rowLine (s .row) (bestBytes (s .row))
+        → t ≡ (lineIsSound (s .sheet .before) (rowLine best []) && ltb (s .sheet .count) mostNumber) → Tells (Stays s) (not t)
     unfolding takes
     tells-open best t long e f =
-        let is : t ≡ takes (bestBytes (s .row)) = f ∙ ap (λ (l : Line). soundLine (s .sheet .before) l && ltb (s .sheet .count) mostNumber) e in
+        let is : t ≡ takes (bestBytes (s .row)) = f ∙ ap (λ (l : Line). lineIsSound (s .sheet .before) l && ltb (s .sheet .count) mostNumber) e in
         record {
-          stays = λ h rest. let none = refused-all (none-taken long (sym is ∙ not-true t h)) in none rest ∙ sym (none []);
-          moves = λ h. ten-or-none s (0 ∷ []) (bestBytes (s .row)) spoilt-one (taken-one (sym is ∙ not-false t h));
+          yes = λ h rest. let none = refused-all (none-taken long (sym is ∙ not-true t h)) in none rest ∙ sym (none []);
+          no = λ h. ten-or-none s (0 ∷ []) (bestBytes (s .row)) spoilt-one (taken-one (sym is ∙ not-false t h));
         }

@@ -8,19 +8,19 @@ use lib.ListN.{drop}
 use borrow.Author.Tests.{ne-eqb}
 use Rattle.row.specs.Numbers.{onto, partsOf, isDigit, digits, some, isNumber, numbers, numbersIn}
 use Rattle.row.proofs.Texts.{and-false}
-use Rattle.share.specs.Forms.{blank}
+use Rattle.share.specs.Forms.{blankLine}
 use Rattle.lines.specs.Text.{lineOf}
 
-bad-line : (l : List ℕ) → numbers (partsOf 32 l) ≡ false → lineOf l ≡ blank
+bad-line : (l : List ℕ) → numbers (partsOf 32 l) ≡ false → lineOf l ≡ blankLine
 unfolding lineOf numbersIn
 bad-line l h = rw h
 
 -- An empty line is a bad line;
-pub empty-line : lineOf [] ≡ blank
+pub empty-line : lineOf [] ≡ blankLine
 empty-line = bad-line [] refl
 
--- so is one with a blank in front,
-pub leading-blank : (l : List ℕ) → lineOf (32 ∷ l) ≡ blank
+-- so is one with a blankLine in front,
+pub leading-blank : (l : List ℕ) → lineOf (32 ∷ l) ≡ blankLine
 leading-blank l = bad-line (32 ∷ l) refl
 
 -- the pieces, but perhaps the first, have an empty one
@@ -33,7 +33,7 @@ empty-piece (x ∷ pre) rest qs h = go (eqb x 32) (partsOf 32 (pre ++ 32 ∷ res
     go true (p ∷ ps) k = rw k (and-false (isNumber p))
     go false (p ∷ ps) k = k
 
-behind-blank : (pre rest : List ℕ) (qs : List (List ℕ)) → partsOf 32 rest ≡ [] ∷ qs → lineOf (pre ++ 32 ∷ rest) ≡ blank
+behind-blank : (pre rest : List ℕ) (qs : List (List ℕ)) → partsOf 32 rest ≡ [] ∷ qs → lineOf (pre ++ 32 ∷ rest) ≡ blankLine
 behind-blank pre rest qs h = bad-line (pre ++ 32 ∷ rest) (go (partsOf 32 (pre ++ 32 ∷ rest)) (empty-piece pre rest qs h))
   where
     go : (ps : List (List ℕ)) → numbers (drop 1 ps) ≡ false → numbers ps ≡ false
@@ -41,11 +41,11 @@ behind-blank pre rest qs h = bad-line (pre ++ 32 ∷ rest) (go (partsOf 32 (pre 
     go (p ∷ ps) k = rw k (and-false (isNumber p))
 
 -- with two blanks side by side,
-pub double-blank : (pre post : List ℕ) → lineOf (pre ++ 32 ∷ 32 ∷ post) ≡ blank
+pub double-blank : (pre post : List ℕ) → lineOf (pre ++ 32 ∷ 32 ∷ post) ≡ blankLine
 double-blank pre post = behind-blank pre (32 ∷ post) (partsOf 32 post) refl
 
--- with a blank behind,
-pub trailing-blank : (pre : List ℕ) → lineOf (pre ++ 32 ∷ []) ≡ blank
+-- with a blankLine behind,
+pub trailing-blank : (pre : List ℕ) → lineOf (pre ++ 32 ∷ []) ≡ blankLine
 trailing-blank pre = behind-blank pre [] [] refl
 
 allDigits : List (List ℕ) → Bool
@@ -79,6 +79,6 @@ foreign (x ∷ pre) post b d ne = go (eqb x 32) (partsOf 32 (pre ++ b ∷ post))
     go false [] k = absurd (true≢false k)
     go false (p ∷ ps) k = under (isDigit x) (digits p) (allDigits ps) k
 
--- or with any byte that is no digit and no blank, wherever it stands: a carriage return, a tab, a sign, a NUL.
-pub foreign-byte : (pre post : List ℕ) (b : ℕ) → isDigit b ≡ false → (b ≡ 32 → ⊥) → lineOf (pre ++ b ∷ post) ≡ blank
+-- or with any byte that is no digit and no blankLine, wherever it stands: a carriage return, a tab, a sign, a NUL.
+pub foreign-byte : (pre post : List ℕ) (b : ℕ) → isDigit b ≡ false → (b ≡ 32 → ⊥) → lineOf (pre ++ b ∷ post) ≡ blankLine
 foreign-byte pre post b d ne = bad-line (pre ++ b ∷ post) (no-numbers (partsOf 32 (pre ++ b ∷ post)) (foreign pre post b d ne))

@@ -1,3 +1,3 @@
 pub mod Text
+pub mod Stream
 pub mod Meaning
-pub mod Settling

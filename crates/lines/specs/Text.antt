@@ -1,16 +1,17 @@
 -- Sharing lines in a text, as the paper has them: lines end in a line feed, the last perhaps not; a line is five decimal numbers
 -- parted by single blanks. Over the whole text; how it is read is not spoken of. Assumes nothing.
 use mathlib.Core.Bool.{cond}
-use mathlib.Core.List.{List, [], _++_, map}
-use Prim.Native.Nat.{ℕ, _-_}
-use lib.Dec.{ltb, eqb}
+use mathlib.Core.List.{List, map}
+use Prim.Native.Nat.{ℕ}
+use lib.Dec.{eqb}
 use lib.IntN.{pos}
-use lib.ListN.{length, getD, replicate}
+use lib.ListN.{getD}
 use Rattle.row.specs.Numbers.{linesOf, partsOf, numbersIn}
+use Rattle.row.specs.Judging.{Judge, judged}
 use Rattle.share.specs.declared.Line.{Line}
 use Rattle.share.specs.declared.Shared.{Shared}
-use Rattle.share.specs.Sharing.{firstBad, mostNumber}
-use Rattle.share.specs.Forms.{blank, sharedArray}
+use Rattle.share.specs.Sharing.{lineIsSound, mostNumber}
+use Rattle.share.specs.Forms.{blankLine, sharedArray}
 use Rattle.lines.specs.declared.Taken.{Taken}
 
 -- Sharing lines
@@ -18,6 +19,10 @@ use Rattle.lines.specs.declared.Taken.{Taken}
 -- the numbers of a line are parted by single blanks
 abbrev pub space : ℕ
 space = 32
+
+-- a line is five numbers
+abbrev pub lineColumns : ℕ
+lineColumns = 5
 
 -- a sharing line by its five numbers: number, status, energy, compensation, assessment
 abbrev pub asLine : List ℕ → Line
@@ -34,7 +39,7 @@ asLine ns =
 
 -- the line that bytes spell; bytes that are not five decimal numbers say none, and a line of no numbers is blank
 unfoldable pub lineOf : List ℕ → Line
-lineOf bytes = asLine (numbersIn 5 (partsOf space bytes))
+lineOf bytes = asLine (numbersIn lineColumns (partsOf space bytes))
 
 -- the sharing lines of a text
 unfoldable pub textLines : List ℕ → List Line
@@ -42,28 +47,23 @@ textLines text = map lineOf (linesOf text)
 
 -- Reading
 
--- the lines, and blank ones behind them up to 64
-unfoldable pub arrayFrom : List Line → List Line
-arrayFrom ls = ls ++ replicate (mostNumber - length ls) blank
+-- sharing lines are judged by the paper's limits, their numbers rising; there are at most 64
+abbrev pub sharingLines : Judge Line Taken
+sharingLines =
+    record {
+      sound = lineIsSound;
+      number = λ l. l .number;
+      most = mostNumber;
+      blank = blankLine;
+      answer = λ number place count lines. record { number = number; place = place; count = count; lines = lines };
+    }
 
--- 10 at a line, otherwise zeros
-abbrev pub refusedAt : ℕ → Taken
-refusedAt place = record { number = 10; place = place; count = 0; lines = arrayFrom [] }
-
--- the lines, and how many there are
-abbrev pub accepted : List Line → Taken
-accepted ls = record { number = 0; place = 0; count = length ls; lines = arrayFrom ls }
-
--- lines are judged in turn: the first that is not sound is refused, with 10
-unfoldable pub judged : List Line → Taken
-judged ls = cond (ltb (firstBad 0 ls) (length ls)) (refusedAt (firstBad 0 ls)) (accepted ls)
-
--- what a whole text says
+-- what a whole text says: its lines judged in turn, 10 at the first bad one, or all of them
 unfoldable pub readText : List ℕ → Taken
-readText text = judged (textLines text)
+readText text = judged sharingLines (textLines text)
 
 -- the sharing of what was read, or its refusal
-unfoldable pub sharedOf : Taken → Shared
-sharedOf t =
+unfoldable pub takenShared : Taken → Shared
+takenShared t =
     cond (eqb (t .number) 0) (sharedArray (t .lines) (t .count))
     (record { number = t .number; place = t .place; gap = record { 0 = pos 0 }; lines = t .lines })

@@ -5,6 +5,8 @@ mod sheet;
 use line::best;
 use line::stepped;
 use row::Row;
+use row::grown;
+use row::is_digit;
 use share::Line;
 use share::Shared;
 use sheet::Sheet;
@@ -12,16 +14,19 @@ use units::SignedFen;
 ghost use mathlib.Core.Path.{_≡_};
 ghost use mathlib.Core.List.{List, [], _∷_, _++_};
 ghost use Prim.Native.Nat.{ℕ};
-ghost use Rattle.lines.specs.Text.{readText, sharedOf};
+ghost use Rattle.lines.specs.Text.{readText, takenShared};
 ghost use Rattle.lines.specs.Meaning.{meaning};
-ghost use Rattle.lines.specs.Settling.{Tells};
+ghost use Rattle.lines.specs.Stream.{HasRead, Settled, Tells, GoesOn, Stays};
+
+// The most lines that a text may have.
+pub const MOST_LINES: usize = 64;
 
 // The answer: 10 and a place, or zeros, how many lines there are, and the lines.
 pub struct Taken {
     pub number: u32,
     pub place: usize,
     pub count: usize,
-    pub lines: [Line; 64],
+    pub lines: [Line; MOST_LINES],
 }
 
 // All that is kept of the text so far: the line that is being read, and the lines before it.
@@ -30,10 +35,12 @@ pub struct Reader {
     sheet: Sheet,
 }
 
+// The first `ensures` of each speaks of the text that was read. The second says of every reader, also of one that has read no text, how it
+// answers, so that none is left open.
 impl Reader {
     // The reader before any byte.
     pub fn start() -> Reader
-        ensures { λ r. ⌜ ((text : List ℕ) → meaning r text ≡ readText text) ⌝ }
+        ensures { λ r. ⌜ HasRead r [] ⌝ }
     {
         let row = Row::start();
         let sheet = Sheet::start();
@@ -42,7 +49,8 @@ impl Reader {
 
     // The reader after one byte more.
     pub fn step(self, b: u8) -> Reader
-        ensures { λ r. ⌜ ((rest : List ℕ) → meaning r rest ≡ meaning self (b ∷ rest)) ⌝ }
+        ensures { λ r. ⌜ ((text : List ℕ) → HasRead self text → HasRead r (text ++ b ∷ [])) ⌝ }
+        ensures { λ r. ⌜ GoesOn self (b ∷ []) r ⌝ }
     {
         let row = self.row;
         let sheet = self.sheet;
@@ -58,16 +66,21 @@ impl Reader {
         Reader { row: next, sheet }
     }
 
-    // The reader after some bytes more. The sheet is large: between line feeds only the row moves.
+    // The reader after some bytes more. The sheet is large: between line feeds only the row moves, and of the row at a digit only the open
+    // number, so that no array is copied for each byte.
     pub fn feed(self, bytes: &[u8]) -> Reader
-        ensures { λ r. ⌜ ((rest : List ℕ) → meaning r rest ≡ meaning self (now (bytes .entry) ++ rest)) ⌝ }
+        ensures { λ r. ⌜ ((text : List ℕ) → HasRead self text → HasRead r (text ++ now (bytes .entry))) ⌝ }
+        ensures { λ r. ⌜ GoesOn self (now (bytes .entry)) r ⌝ }
     {
         let mut row = self.row;
         let mut sheet = self.sheet;
         let mut i: usize = 0;
         while i < bytes.len() {
             let b = bytes[i];
-            if b == b'\n' {
+            if is_digit(b) {
+                row.digit = true;
+                row.value = grown(row.value, b);
+            } else if b == b'\n' {
                 sheet = sheet.with(row);
                 row = Row::start();
             } else {
@@ -80,7 +93,8 @@ impl Reader {
 
     // Whether the answer is known, whatever follows.
     pub fn is_settled(self) -> bool
-        ensures { λ r. ⌜ Tells self r ⌝ }
+        ensures { λ r. ⌜ ((text : List ℕ) → HasRead self text → Tells (Settled text) r) ⌝ }
+        ensures { λ r. ⌜ Tells (Stays self) r ⌝ }
     {
         let row = self.row;
         let sheet = self.sheet;
@@ -95,6 +109,7 @@ impl Reader {
 
     // The answer, if the text ends here.
     pub fn finish(self) -> Taken
+        ensures { λ r. ⌜ ((text : List ℕ) → HasRead self text → r ≡ readText text) ⌝ }
         ensures { λ r. ⌜ r ≡ meaning self [] ⌝ }
     {
         let row = self.row;
@@ -119,7 +134,7 @@ pub fn read_text(text: &[u8]) -> Taken
 impl Taken {
     // The sharing of what was read, or its refusal.
     pub fn shared(self) -> Shared
-        ensures { λ r. ⌜ r ≡ sharedOf self ⌝ }
+        ensures { λ r. ⌜ r ≡ takenShared self ⌝ }
     {
         let lines = self.lines;
         if self.number == 0 {

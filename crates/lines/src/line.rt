@@ -3,6 +3,7 @@ use row::Row;
 use row::hold;
 use share::Line;
 use share::array::blank_line;
+use share::limits::numbers_are_sound;
 use units::Fen;
 use units::Mwh;
 use units::SignedFen;
@@ -11,14 +12,19 @@ ghost use mathlib.Core.Path.{_≡_};
 ghost use mathlib.Core.List.{List, [], _++_};
 ghost use Prim.Native.Nat.{ℕ};
 ghost use Rattle.lines.specs.Text.{asLine};
-ghost use Rattle.lines.specs.Meaning.{fair, fiveOf, rowLine, Follows};
-ghost use Rattle.lines.specs.Settling.{bestBytes, numberBytes};
+ghost use Rattle.lines.specs.Meaning.{fair, fiveOf, lineIn, rowLine, LineFollows, bestBytes, numberBytes};
+
+// A line is five numbers.
+const COLUMNS: usize = 5;
+
+// Which of them is the last, from 0 on.
+const LAST: usize = COLUMNS - 1;
 
 // The row after a byte of its line.
 pub fn stepped(row: Row, b: u8) -> Row
-    ensures { λ r. ⌜ Follows row b r ⌝ }
+    ensures { λ r. ⌜ LineFollows row b r ⌝ }
 {
-    row.step(b' ', 4, b)
+    row.step(b' ', LAST, b)
 }
 
 // The row after the bytes that end its open number best.
@@ -50,7 +56,7 @@ pub fn best(start: Row) -> Row
 {
     let mut row = numbered(start);
     let mut i = start.at;
-    while i < 4 {
+    while i < LAST {
         let parted = stepped(row, b' ');
         row = stepped(parted, b'0');
         i += 1;
@@ -66,13 +72,7 @@ fn typed(ended: [u64; 5], assessed: u64) -> Line
     let s = ended[1];
     let e = ended[2];
     let c = ended[3];
-    if (0 < n)
-        & (n <= 64)
-        & (s <= 2)
-        & (e <= 5000000)
-        & (c <= 100000000000)
-        & (assessed <= 10000000)
-    {
+    if numbers_are_sound(0, n, s, e, c, assessed) {
         return Line {
             number: n as u16,
             status: s as u8,
@@ -87,11 +87,11 @@ fn typed(ended: [u64; 5], assessed: u64) -> Line
 }
 
 // The line, if it ends here.
-pub fn line_of(row: Row) -> Line
-    ensures { λ r. ⌜ r ≡ fair (rowLine row []) ⌝ }
+pub fn line_in(row: Row) -> Line
+    ensures { λ r. ⌜ r ≡ lineIn row ⌝ }
 {
-    if row.is_whole(4) {
-        let ended = row.ended;
+    if row.is_whole(LAST) {
+        let ended = row.first_five();
         return typed(ended, hold(row.value));
     }
     blank_line()

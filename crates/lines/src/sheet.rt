@@ -1,6 +1,7 @@
 // The lines taken so far, or that one of them was bad.
+use crate::MOST_LINES;
 use crate::Taken;
-use crate::line::line_of;
+use crate::line::line_in;
 use row::Row;
 use share::Line;
 use share::array::blank_lines;
@@ -9,23 +10,23 @@ ghost use mathlib.Core.Bool.{true, _&&_};
 ghost use lib.Dec.{ltb};
 ghost use mathlib.Core.List.{List, [], _∷_};
 ghost use Rattle.share.specs.declared.Line.{Line};
-ghost use Rattle.share.specs.Sharing.{soundLine, mostNumber};
-ghost use Rattle.lines.specs.Text.{arrayFrom};
-ghost use Rattle.row.specs.Judging.{judgeFrom};
-ghost use Rattle.lines.specs.Meaning.{inTurn, outcome, rowLine};
+ghost use Rattle.share.specs.Sharing.{lineIsSound, mostNumber};
+ghost use Rattle.row.specs.Judging.{judged};
+ghost use Rattle.lines.specs.Text.{sharingLines};
+ghost use Rattle.lines.specs.Meaning.{sheetOutcome, rowLine};
 
 // How many lines were sound, the number of the last of them (else 0), and the lines; `refused`: the one after them was not.
 pub struct Sheet {
     pub refused: bool,
     pub before: u16,
     pub count: usize,
-    pub lines: [Line; 64],
+    pub lines: [Line; MOST_LINES],
 }
 
 impl Sheet {
     // The sheet before any line.
     pub fn start() -> Sheet
-        ensures { λ r. ⌜ ((ls : List Line) → outcome r ls ≡ judgeFrom inTurn 0 (arrayFrom []) 0 ls) ⌝ }
+        ensures { λ r. ⌜ ((ls : List Line) → sheetOutcome r ls ≡ judged sharingLines ls) ⌝ }
     {
         let lines = blank_lines();
         Sheet {
@@ -45,25 +46,25 @@ impl Sheet {
 
     // Whether the line is taken, if it ends here. A line that was read is within its limits or blank: its number decides.
     pub fn takes(self, row: Row) -> bool
-        ensures { λ r. ⌜ r ≡ (soundLine (self .before) (rowLine row []) && ltb (self .count) mostNumber) ⌝ }
+        ensures { λ r. ⌜ r ≡ (lineIsSound (self .before) (rowLine row []) && ltb (self .count) mostNumber) ⌝ }
     {
-        let l = line_of(row);
-        (self.before < l.number) & (self.count < 64)
+        let l = line_in(row);
+        (self.before < l.number) & (self.count < MOST_LINES)
     }
 
     // The sheet after the end of a line.
     pub fn with(self, row: Row) -> Sheet
-        ensures { λ r. ⌜ ((ls : List Line) → outcome r ls ≡ outcome self (rowLine row [] ∷ ls)) ⌝ }
+        ensures { λ r. ⌜ ((ls : List Line) → sheetOutcome r ls ≡ sheetOutcome self (rowLine row [] ∷ ls)) ⌝ }
     {
         if self.refused {
             return self;
         }
-        let l = line_of(row);
+        let l = line_in(row);
         if l.number <= self.before {
             return self.refuse();
         }
         let at = self.count;
-        if 63 < at {
+        if MOST_LINES <= at {
             return self.refuse();
         }
         let mut lines = self.lines;
@@ -78,7 +79,7 @@ impl Sheet {
 
     // The answer where no line follows.
     pub fn answer(self) -> Taken
-        ensures { λ r. ⌜ r ≡ outcome self [] ⌝ }
+        ensures { λ r. ⌜ r ≡ sheetOutcome self [] ⌝ }
     {
         if self.refused {
             let none = blank_lines();

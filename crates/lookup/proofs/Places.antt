@@ -1,136 +1,157 @@
 -- Where a key's record lies. Assumes nothing.
-use mathlib.Core.Path.{_≡_, refl, sym, _∙_, ap}
-use mathlib.Core.Bool.{Bool, true, false, cond}
-use mathlib.Core.List.{List, []}
-use Prim.Native.Nat.{ℕ, suc, _+_, _-_, _<_, _≤_}
+use mathlib.Core.Path.{_≡_, refl, sym, _∙_, ap₂, subst}
+use mathlib.Core.List.{List, [], _∷_}
+use mathlib.Core.Option.{none, some}
+use Prim.Native.Nat.{ℕ, zero, suc, _+_, _-_, _<_, _≤_}
 use native.Mathlib.Decide.{ℕ-discrete}
+use native.Mathlib.Nat.{zero-add, sub-zero}
 use native.Mathlib.Omega.{arith}
 use base.Fml.{GName}
-use lib.Dec.{leb}
 use lib.ListN.{length, take, drop}
-use borrow.Author.Tests.{eq-eqb, ne-eqb, leb-false}
+use borrow.Author.Tests.{eq-eqb, ne-eqb}
 use borrow.Rule.Slice.PartAt.{slPart}
 use borrow.Rule.Slice.Shared.{byByte}
 use denote.Ref.{RefT}
-use Rattle.call.specs.Key.{key, keyOf}
+use Rattle.call.specs.declared.Call.{Call}
+use Rattle.call.specs.Key.{keyOf, callKey}
+use Rattle.call.specs.Layout.{recordSize}
+use Rattle.book.specs.Inner.{wordLimit}
 use Rattle.book.specs.declared.Verdict.{Verdict}
-use Rattle.book.specs.Book.{sizeOf, countOf, callOf}
+use Rattle.book.specs.Book.{placeOf, countAt, recordAt, callsFrom, callsOf}
 use Rattle.rule.specs.declared.Decision.{Decision}
 use Rattle.rule.specs.declared.Decision.the-variants.{First, Second, Struck}
-use Rattle.rule.specs.Standing.{decision}
-use Rattle.lookup.specs.declared.Place.{Place}
-use Rattle.pair.specs.Screening.{screened}
-use Rattle.lookup.specs.Lookup.{placeIn, placed, standsAt, chosen, whichOf, Lies, LiesAt}
+use Rattle.rule.specs.Standing.{decide}
+use Rattle.rule.specs.Keys.{recordOf}
+use Rattle.rule.proofs.Keyed.{find-hit, find-miss}
+use Rattle.pair.specs.Screening.{Accepted, screen}
 use Rattle.pair.proofs.Screening.{passed-screen}
-use Rattle.join.proofs.Books.{size}
+use Rattle.join.proofs.Books.{few, size}
+use Rattle.lookup.specs.declared.Index.{Index}
+use Rattle.lookup.specs.declared.Index.the-variants.{Missing, At}
+use Rattle.lookup.specs.declared.Place.{Place}
+use Rattle.lookup.specs.declared.Place.the-variants.{Nowhere, InFirst, InSecond}
+use Rattle.lookup.specs.Lookup.{indexFrom, indexOf, standsAt, choose, which, Lies, LiesAt}
+use Rattle.lookup.specs.Inner.{HasIndex}
+
+-- The search of a book, from record i of n on
 
 module _ (b : List ℕ) (k i n : ℕ) where
-  left : i < n → n - i ≡ suc (n - (i + 1))
-  left l = omega arith
+  -- what is left to be searched
+  pub leftAt : Index
+  leftAt = indexFrom k i (callsFrom b i (n - i))
 
-  pub at-hit : i < n → keyOf (callOf b i) ≡ k → placeIn b k i (n - i) ≡ i
-  unfolding placeIn
-  at-hit l e = rw (left l, eq-eqb (keyOf (callOf b i)) k e) refl
+  pub at-hit : i < n → callKey (recordAt b i) ≡ k → At i ≡ leftAt
+  unfolding leftAt indexFrom callsFrom
+  at-hit l e = let h : n - i ≡ suc (n - (i + 1)) = omega arith in rw (h, eq-eqb (callKey (recordAt b i)) k e) refl
 
-  pub at-miss : i < n → (keyOf (callOf b i) ≡ k → ⊥) → placeIn b k i (n - i) ≡ placeIn b k (i + 1) (n - (i + 1))
-  unfolding placeIn
-  at-miss l e = rw (left l, ne-eqb (keyOf (callOf b i)) k e) (ap (λ (j : ℕ). placeIn b k j (n - (i + 1))) (omega arith))
-
-  pub at-end : n ≤ i → placeIn b k i (n - i) ≡ i
-  unfolding placeIn
+  pub at-end : n ≤ i → Missing ≡ leftAt
+  unfolding leftAt indexFrom callsFrom
   at-end h = let e : n - i ≡ 0 = omega arith in rw e refl
 
--- records that are there or not, and where that leaves the key
-module _ (a : List ℕ) (n i : ℕ) (b : List ℕ) (m j : ℕ) where
-  -- the decision between two records
-  stands-first : (d : Decision) → standsAt d i j .book ≡ 1 → standsAt d i j .index ≡ i
+pub at-miss : (b : List ℕ) (k i n : ℕ) → i < n → (callKey (recordAt b i) ≡ k → ⊥) → leftAt b k (i + 1) n ≡ leftAt b k i n
+unfolding leftAt indexFrom callsFrom
+at-miss b k i n l e =
+    let h : n - i ≡ suc (n - (i + 1)) = omega arith in
+    let s : i + 1 ≡ suc i = omega arith in
+    rw (h, ne-eqb (callKey (recordAt b i)) k e, s) refl
+
+pub at-start : (b : List ℕ) (k n : ℕ) → n ≡ countAt b → leftAt b k 0 n ≡ indexOf k b
+unfolding leftAt indexOf callsOf
+at-start b k n e = rw (sub-zero n, e) refl
+
+-- What is found: nothing, or a record of the book, as the calls have it for the key
+
+pub data Finds (b : List ℕ) (k most : ℕ) (x : Index) (cs : List Call) : Type 0 where
+  missing : x ≡ Missing → recordOf k cs ≡ none → Finds b k most x cs
+  found : (i : ℕ) → i < most → x ≡ At i → recordOf k cs ≡ some (recordAt b i) → Finds b k most x cs
+
+finds : (b : List ℕ) (k n i : ℕ) → Finds b k (i + n) (indexFrom k i (callsFrom b i n)) (callsFrom b i n)
+unfolding indexFrom callsFrom recordOf
+finds b k zero i = missing refl refl
+finds b k (suc n) i = go (ℕ-discrete (callKey (recordAt b i)) k) (finds b k n (suc i))
+  where
+    tail : List Call
+    tail = callsFrom b (suc i) n
+
+    next : (callKey (recordAt b i) ≡ k → ⊥) → indexFrom k i (recordAt b i ∷ tail) ≡ indexFrom k (suc i) tail
+    next e = rw (ne-eqb (callKey (recordAt b i)) k e) refl
+
+    go : Dec (callKey (recordAt b i) ≡ k) → Finds b k (suc i + n) (indexFrom k (suc i) tail) tail
+        → Finds b k (i + suc n) (indexFrom k i (recordAt b i ∷ tail)) (recordAt b i ∷ tail)
+    go (yes e) ih = found i (omega arith) (rw (eq-eqb (callKey (recordAt b i)) k e) refl) (find-hit k (recordAt b i) tail e)
+    go (no e) (missing p q) = missing (next e ∙ p) (find-miss k (recordAt b i) tail e ∙ q)
+    go (no e) (found j l p q) = found j (omega arith) (next e ∙ p) (find-miss k (recordAt b i) tail e ∙ q)
+
+pub in-book : (b : List ℕ) (k : ℕ) → Finds b k (countAt b) (indexOf k b) (callsOf b)
+unfolding indexOf callsOf
+in-book b k = rw (zero-add (countAt b)) at (finds b k (countAt b) 0)
+
+pub has-index : (b : List ℕ) (k : ℕ) → HasIndex b (indexOf k b)
+has-index b k = go (in-book b k)
+  where
+    go : Finds b k (countAt b) (indexOf k b) (callsOf b) → HasIndex b (indexOf k b)
+    go (missing p q) = rw p tt
+    go (found i l p q) = rw p l
+
+-- The place of a lookup is that of a record
+
+abbrev InBooks : List ℕ → List ℕ → Place → Type 0
+InBooks a b Nowhere = Unit {0}
+InBooks a b (InFirst i) = Accepted a × (i < countAt a)
+InBooks a b (InSecond j) = Accepted b × (j < countAt b)
+
+module _ (a b : List ℕ) where
+  stands : Accepted a → Accepted b → (i j : ℕ) → i < countAt a → j < countAt b → (d : Decision) → InBooks a b (standsAt d i j)
   unfolding standsAt
-  stands-first First e = refl
-  stands-first Second e = absurd (omega arith)
-  stands-first Struck e = absurd (omega arith)
+  stands p q i j h l First = (p, h)
+  stands p q i j h l Second = (q, l)
+  stands p q i j h l Struck = tt
 
-  stands-second : (d : Decision) → standsAt d i j .book ≡ 2 → standsAt d i j .index ≡ j
-  unfolding standsAt
-  stands-second First e = absurd (omega arith)
-  stands-second Second e = refl
-  stands-second Struck e = absurd (omega arith)
+  chosen : Accepted a → Accepted b → (x y : Index) → HasIndex a x → HasIndex b y → InBooks a b (choose a x b y)
+  unfolding choose
+  chosen p q Missing Missing h l = tt
+  chosen p q (At i) Missing h l = (p, h)
+  chosen p q Missing (At j) h l = (q, l)
+  chosen p q (At i) (At j) h l = stands p q i j h l (decide (recordAt a i) (recordAt b j))
 
-  -- a place in the first book is that of a record of it
-  pub chosen-first : chosen a n i b m j .book ≡ 1 → (i < n) × (chosen a n i b m j .index ≡ i)
-  unfolding chosen
-  chosen-first e = go (leb n i) (leb m j) refl refl e
-    where
-      go : (t u : Bool) → leb n i ≡ t → leb m j ≡ u
-          → cond t (cond u (placed 0 0) (placed 2 j)) (cond u (placed 1 i) (standsAt (decision (callOf a i) (callOf b j)) i j)) .book ≡ 1
-          → (i < n) × (cond t (cond u (placed 0 0) (placed 2 j)) (cond u (placed 1 i) (standsAt (decision (callOf a i) (callOf b j)) i j)) .index ≡ i)
-      go true true f g h = absurd (omega arith)
-      go true false f g h = absurd (omega arith)
-      go false true f g h = (leb-false _ _ f, refl)
-      go false false f g h = (leb-false _ _ f, stands-first (decision (callOf a i) (callOf b j)) h)
+  module _ (p k : ℕ) where
+    pub which-refused : (v : Verdict) → v ≡ screen a b → (v .number ≡ 0 → ⊥) → Nowhere ≡ which a b p k
+    unfolding which
+    which-refused v e z = rw (← e, ne-eqb (v .number) 0 z) refl
 
-  pub chosen-second : chosen a n i b m j .book ≡ 2 → (j < m) × (chosen a n i b m j .index ≡ j)
-  unfolding chosen
-  chosen-second e = go (leb n i) (leb m j) refl refl e
-    where
-      go : (t u : Bool) → leb n i ≡ t → leb m j ≡ u
-          → cond t (cond u (placed 0 0) (placed 2 j)) (cond u (placed 1 i) (standsAt (decision (callOf a i) (callOf b j)) i j)) .book ≡ 2
-          → (j < m) × (cond t (cond u (placed 0 0) (placed 2 j)) (cond u (placed 1 i) (standsAt (decision (callOf a i) (callOf b j)) i j)) .index ≡ j)
-      go true true f g h = absurd (omega arith)
-      go true false f g h = (leb-false _ _ g, refl)
-      go false true f g h = absurd (omega arith)
-      go false false f g h = (leb-false _ _ g, stands-second (decision (callOf a i) (callOf b j)) h)
+    pub which-chosen : screen a b .number ≡ 0 → choose a (indexOf (keyOf p k) a) b (indexOf (keyOf p k) b) ≡ which a b p k
+    unfolding which
+    which-chosen z = rw (eq-eqb (screen a b .number) 0 z) refl
 
-module _ (a b : List ℕ) (p k : ℕ) where
-  pub which-refused : (v : Verdict) → v ≡ screened a b → (v .number ≡ 0 → ⊥) → placed 0 0 ≡ whichOf a b p k
-  unfolding whichOf
-  which-refused v e z = rw (← e, ne-eqb (v .number) 0 z) refl
+    which-in : InBooks a b (which a b p k)
+    which-in = go (ℕ-discrete (screen a b .number) 0)
+      where
+        go : Dec (screen a b .number ≡ 0) → InBooks a b (which a b p k)
+        go (no z) = subst (InBooks a b) (which-refused (screen a b) refl z) tt
+        go (yes z) =
+            let s = passed-screen a b z in
+            subst (InBooks a b) (which-chosen z) (chosen (s .first) (s .second) _ _ (has-index a (keyOf p k)) (has-index b (keyOf p k)))
 
-  -- the places of the key in both books
-  pub which-chosen : screened a b .number ≡ 0
-      → chosen a (countOf a) (placeIn a (key p k) 0 (countOf a)) b (countOf b) (placeIn b (key p k) 0 (countOf b)) ≡ whichOf a b p k
-  unfolding whichOf
-  which-chosen z = rw (eq-eqb (screened a b .number) 0 z) refl
+-- a place so low is a number of 64 bits
+pub in-word : (i : ℕ) → i ≤ 65535 → placeOf i < wordLimit
+in-word i h = omega arith
 
-  -- a place in a book is that of a record of it
-  in-book : (w : Place) → w ≡ whichOf a b p k → 1 ≤ w .book → screened a b .number ≡ 0
-  in-book w e h = go (ℕ-discrete (screened a b .number) 0)
-    where
-      go : Dec (screened a b .number ≡ 0) → screened a b .number ≡ 0
-      go (yes z) = z
-      go (no z) = absurd (let n : w .book ≡ 0 = ap (λ (v : Place). v .book) (e ∙ sym (which-refused (screened a b) refl z)) in omega arith)
+-- its index has a place, and the record's bytes lie within the book
+pub fits : (b : List ℕ) (i : ℕ) → Accepted b → i < countAt b → (i ≤ 65535) × (placeOf i + recordSize ≤ length b)
+fits b i e h = (omega (arith, few b e), omega (arith, size b e))
 
-  pub which-first : (w : Place) → w ≡ whichOf a b p k → w .book ≡ 1 → sizeOf (w .index) + 32 ≤ length a
-  which-first w e h =
-      let z = in-book w e (omega arith) in
-      let f = which-chosen z ∙ sym e in
-      let s = passed-screen a b z in
-      let i = chosen-first a (countOf a) _ b (countOf b) _ (ap (λ (v : Place). v .book) f ∙ h) in
-      let g = sym (ap (λ (v : Place). v .index) f) ∙ i .1 in
-      let l = i .0 in
-      omega (arith, size a (s .first))
+module _ (a b : List ℕ) (p k : ℕ) (w : Place) (e : w ≡ which a b p k) where
+  pub first-fits : (i : ℕ) → w ≡ InFirst i → (i ≤ 65535) × (placeOf i + recordSize ≤ length a)
+  first-fits i h = let r = subst (InBooks a b) (sym e ∙ h) (which-in a b p k) in fits a i (r .0) (r .1)
 
-  pub which-second : (w : Place) → w ≡ whichOf a b p k → w .book ≡ 2 → sizeOf (w .index) + 32 ≤ length b
-  which-second w e h =
-      let z = in-book w e (omega arith) in
-      let f = which-chosen z ∙ sym e in
-      let s = passed-screen a b z in
-      let i = chosen-second a (countOf a) _ b (countOf b) _ (ap (λ (v : Place). v .book) f ∙ h) in
-      let g = sym (ap (λ (v : Place). v .index) f) ∙ i .1 in
-      let l = i .0 in
-      omega (arith, size b (s .second))
+  pub second-fits : (j : ℕ) → w ≡ InSecond j → (j ≤ 65535) × (placeOf j + recordSize ≤ length b)
+  second-fits j h = let r = subst (InBooks a b) (sym e ∙ h) (which-in a b p k) in fits b j (r .0) (r .1)
 
 -- the part that is cut lies where it should
-pub lies : (s : RefT (List ℕ)) (at : ℕ) (g : GName) → Lies s at 32 (slPart s (byByte at (s .ptr .1)) at (at + 32) g)
-lies s at g =
-    let e : at + 32 - at ≡ 32 = omega arith in
-    record { bytes = ap (λ n. take n (drop at (s .now))) e; block = refl; offset = omega arith }
+pub lies : (s : RefT (List ℕ)) (at n : ℕ) (g : GName) → at ≡ n → Lies s n recordSize (slPart s (byByte at (s .ptr .1)) at (at + recordSize) g)
+lies s at n g a =
+    let e : at + recordSize - at ≡ recordSize = omega arith in
+    record { bytes = ap₂ (λ (k m : ℕ). take k (drop m (s .now))) e a; block = refl; offset = omega arith }
 
-module _ (s t : RefT (List ℕ)) (w p : Place) (e : w ≡ p) where
-  pub found-first : (g : GName) → w .book ≡ 1 → LiesAt p s t (slPart s (byByte (sizeOf (w .index)) (s .ptr .1)) (sizeOf (w .index)) (sizeOf (w .index) + 32) g)
-  found-first g h = rw (← e, eq-eqb (w .book) 1 h) (lies s (sizeOf (w .index)) g)
-
-  pub found-second : (g : GName) → w .book ≡ 2 → LiesAt p s t (slPart t (byByte (sizeOf (w .index)) (t .ptr .1)) (sizeOf (w .index)) (sizeOf (w .index) + 32) g)
-  found-second g h = rw (← e, ne-eqb (w .book) 1 (λ f. omega arith), eq-eqb (w .book) 2 h) (lies t (sizeOf (w .index)) g)
-
-  pub found-none : (r : RefT (List ℕ)) → (w .book ≡ 1 → ⊥) → (w .book ≡ 2 → ⊥) → r .now ≡ [] → LiesAt p s t r
-  found-none r h l q = rw (← e, ne-eqb (w .book) 1 h, ne-eqb (w .book) 2 l) q
+pub found-at : (s t r : RefT (List ℕ)) (w p q : Place) → w ≡ p → w ≡ q → LiesAt q s t r → LiesAt p s t r
+found-at s t r w p q e h l = subst (λ (x : Place). LiesAt x s t r) (sym h ∙ e) l

@@ -1,47 +1,52 @@
 -- One key in two books: the record that stands, as it lies in the first or the second. Assumes nothing.
 use mathlib.Core.Path.{_≡_}
 use mathlib.Core.Bool.{cond}
-use mathlib.Core.List.{List, []}
-use Prim.Native.Nat.{ℕ, zero, suc, _+_}
-use lib.Dec.{eqb, leb}
+use mathlib.Core.List.{List, [], _∷_}
+use Prim.Native.Nat.{ℕ, suc, _+_, _<_}
+use lib.Dec.{eqb}
 use lib.ListN.{take, drop}
 use denote.Ref.{RefT, now, ptr}
-use Rattle.call.specs.Key.{key, keyOf}
-use Rattle.book.specs.Book.{sizeOf, countOf, callOf}
+use Rattle.call.specs.declared.Call.{Call}
+use Rattle.call.specs.Key.{keyOf, callKey}
+use Rattle.call.specs.Layout.{recordSize}
+use Rattle.book.specs.Book.{placeOf, countAt, recordAt, callsOf}
 use Rattle.rule.specs.declared.Decision.{Decision}
 use Rattle.rule.specs.declared.Decision.the-variants.{First, Second, Struck}
-use Rattle.rule.specs.Standing.{decision}
+use Rattle.rule.specs.Standing.{decide}
+use Rattle.pair.specs.Screening.{passes, screen}
+use Rattle.lookup.specs.declared.Index.{Index}
+use Rattle.lookup.specs.declared.Index.the-variants.{Missing, At}
 use Rattle.lookup.specs.declared.Place.{Place}
-use Rattle.pair.specs.Screening.{passes, screened}
+use Rattle.lookup.specs.declared.Place.the-variants.{Nowhere, InFirst, InSecond}
 
--- the index of the first record with a key among so many from record i on, or the index after them
-unfoldable pub placeIn : List ℕ → ℕ → ℕ → ℕ → ℕ
-placeIn b k i zero = i
-placeIn b k i (suc left) = cond (eqb (keyOf (callOf b i)) k) i (placeIn b k (suc i) left)
+-- the index of the record with a key, among calls of which the first is record i
+unfoldable pub indexFrom : ℕ → ℕ → List Call → Index
+indexFrom k i [] = Missing
+indexFrom k i (c ∷ cs) = cond (eqb (callKey c) k) (At i) (indexFrom k (suc i) cs)
 
--- the first book is 1, the second 2, and 0 is neither
-abbrev pub placed : ℕ → ℕ → Place
-placed book index = record { book = book; index = index }
+-- the same of a book
+unfoldable pub indexOf : ℕ → List ℕ → Index
+indexOf k b = indexFrom k 0 (callsOf b)
 
--- where the record that stands lies; a struck one stands in neither
+-- where the record that stands lies, of record i of the first book and record j of the second; a struck one stands in neither
 unfoldable pub standsAt : Decision → ℕ → ℕ → Place
-standsAt First i j = placed 1 i
-standsAt Second i j = placed 2 j
-standsAt Struck i j = placed 0 0
+standsAt First i j = InFirst i
+standsAt Second i j = InSecond j
+standsAt Struck i j = Nowhere
 
--- records i of n and j of m, of which either may not be there
-unfoldable pub chosen : List ℕ → ℕ → ℕ → List ℕ → ℕ → ℕ → Place
-chosen first n i second m j =
-    cond (leb n i) (cond (leb m j) (placed 0 0) (placed 2 j))
-    (cond (leb m j) (placed 1 i) (standsAt (decision (callOf first i) (callOf second j)) i j))
+-- a key that neither book has is nowhere; in one book only, it is there; in both, it is where the record that stands lies
+unfoldable pub choose : List ℕ → Index → List ℕ → Index → Place
+choose first Missing second Missing = Nowhere
+choose first (At i) second Missing = InFirst i
+choose first Missing second (At j) = InSecond j
+choose first (At i) second (At j) = standsAt (decide (recordAt first i) (recordAt second j)) i j
 
 -- nowhere, where joining would refuse with 1 to 7 or 21 to 26
-unfoldable pub whichOf : List ℕ → List ℕ → ℕ → ℕ → Place
-whichOf first second participant number =
-    cond (passes (screened first second))
-    (chosen first (countOf first) (placeIn first (key participant number) 0 (countOf first)) second (countOf second)
-    (placeIn second (key participant number) 0 (countOf second)))
-    (placed 0 0)
+unfoldable pub which : List ℕ → List ℕ → ℕ → ℕ → Place
+which first second participant number =
+    cond (passes (screen first second))
+    (choose first (indexOf (keyOf participant number) first) second (indexOf (keyOf participant number) second))
+    Nowhere
 
 -- a part is so many bytes of a slice from a place on, where they lie
 pub record Lies (s : RefT (List ℕ)) (at size : ℕ) (part : RefT (List ℕ)) : Type 0 where
@@ -51,10 +56,9 @@ pub record Lies (s : RefT (List ℕ)) (at size : ℕ) (part : RefT (List ℕ)) :
 
 -- the record's 32 bytes in the first book or the second, or an empty part
 abbrev pub LiesAt : Place → RefT (List ℕ) → RefT (List ℕ) → RefT (List ℕ) → Type 0
-LiesAt p first second part =
-    cond (eqb (p .book) 1) (Lies first (sizeOf (p .index)) 32 part)
-    (cond (eqb (p .book) 2) (Lies second (sizeOf (p .index)) 32 part)
-    (now part ≡ []))
+LiesAt Nowhere first second part = now part ≡ []
+LiesAt (InFirst i) first second part = Lies first (placeOf i) recordSize part
+LiesAt (InSecond j) first second part = Lies second (placeOf j) recordSize part
 
 abbrev pub Found : RefT (List ℕ) → RefT (List ℕ) → ℕ → ℕ → RefT (List ℕ) → Type 0
-Found first second participant number part = LiesAt (whichOf (now first) (now second) participant number) first second part
+Found first second participant number part = LiesAt (which (now first) (now second) participant number) first second part

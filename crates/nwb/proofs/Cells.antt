@@ -1,35 +1,33 @@
 -- What the cells of a C function hold. Assumes nothing.
 use mathlib.Core.Path.{_≡_, sym, _∙_, ap}
-use mathlib.Core.Bool.{cond}
 use mathlib.Core.List.{List}
 use Prim.Native.Nat.{ℕ}
-use lib.Dec.{eqb}
-use borrow.Author.Tests.{ne-eqb}
 use Rattle.book.specs.declared.write.Written.{Written}
-use Rattle.book.specs.Book.{sizeOf}
-use Rattle.book.specs.Write.{Outcome, outcome}
+use Rattle.book.specs.Write.{BookOutcome, bookOutcome}
+use Rattle.join.specs.declared.Joined.{Joined}
+use Rattle.join.specs.Joining.{JoinOutcome, joinOutcome}
 use Rattle.lookup.specs.declared.Place.{Place}
-use Rattle.nwb.specs.Told.{Wrote, Located}
+use Rattle.nwb.specs.Told.{ToldWrite, ToldJoin, bookNumber, offsetIn, ToldFind}
 
 -- the parts of an outcome, one by one
-pub wrote : (o : Outcome) (r : Written) (out : List ℕ) → outcome r out ≡ o → Wrote o (r .number) (r .place) (r .length) out
+pub wrote : (o : BookOutcome) (r : Written) (out : List ℕ) → bookOutcome r out ≡ o → ToldWrite o (r .number) (r .place) (r .length) out
 wrote o r out e =
     record {
-      number-is = ap (λ (x : Outcome). x .number) e;
-      place-is = ap (λ (x : Outcome). x .place) e;
-      length-is = ap (λ (x : Outcome). x .size) e;
-      out-is = ap (λ (x : Outcome). x .out) e;
+      number-is = ap (λ (x : BookOutcome). x .number) e;
+      place-is = ap (λ (x : BookOutcome). x .place) e;
+      length-is = ap (λ (x : BookOutcome). x .size) e;
+      out-is = ap (λ (x : BookOutcome). x .out) e;
     }
 
--- a place in the first book, in the second, in neither
-located-at : (p : Place) (book offset : ℕ) → p .book ≡ book → offset ≡ cond (eqb book 1) (sizeOf (p .index)) (cond (eqb book 2) (sizeOf (p .index)) 0) → Located p book offset
-located-at p book offset e f = record { book-is = sym e; offset-is = rw e f }
+pub joins : (o : JoinOutcome) (r : Joined) (out : List ℕ) → joinOutcome r out ≡ o → ToldJoin o (r .number) (r .place) (r .length) out
+joins o r out e =
+    record {
+      number-is = ap (λ (x : JoinOutcome). x .number) e;
+      place-is = ap (λ (x : JoinOutcome). x .place) e;
+      length-is = ap (λ (x : JoinOutcome). x .size) e;
+      out-is = ap (λ (x : JoinOutcome). x .out) e;
+    }
 
-pub located-first : (p w : Place) → w ≡ p → w .book ≡ 1 → Located p 1 (sizeOf (w .index))
-located-first p w e h = located-at p 1 _ (ap (λ (x : Place). x .book) (sym e) ∙ h) (ap (λ (x : Place). sizeOf (x .index)) e)
-
-pub located-second : (p w : Place) → w ≡ p → w .book ≡ 2 → Located p 2 (sizeOf (w .index))
-located-second p w e h = located-at p 2 _ (ap (λ (x : Place). x .book) (sym e) ∙ h) (ap (λ (x : Place). sizeOf (x .index)) e)
-
-pub located-none : (p w : Place) → w ≡ p → (w .book ≡ 1 → ⊥) → (w .book ≡ 2 → ⊥) → Located p (w .book) 0
-located-none p w e h k = located-at p (w .book) 0 (ap (λ (x : Place). x .book) (sym e)) (simp (ne-eqb _ _ h, ne-eqb _ _ k))
+-- the place that a lookup gave, told
+pub located : (w p q : Place) (book offset : ℕ) → w ≡ p → w ≡ q → book ≡ bookNumber q → offset ≡ offsetIn q → ToldFind p book offset
+located w p q book offset e h b o = record { book-is = b ∙ ap bookNumber (sym h ∙ e); offset-is = o ∙ ap offsetIn (sym h ∙ e) }

@@ -1,23 +1,25 @@
 // The plants' C library: the functions of include/nwb.h, each thin over the proved operation that it is named after.
 // The number is returned; every other answer goes through a cell, which is always written.
 use book::Header;
+use book::place_of;
 use book::write::write_none;
 use book::write::write_one;
 use call::Call;
+use lookup::Place;
 use pay::Member;
 use units::Kw;
 ghost use mathlib.Core.Path.{_≡_};
 ghost use mathlib.Core.List.{[], _∷_};
-ghost use Rattle.book.specs.Check.{checkOf};
+ghost use Rattle.book.specs.Check.{check};
 ghost use Rattle.book.specs.Write.{writing};
 ghost use Rattle.join.specs.Joining.{joining};
-ghost use Rattle.lookup.specs.Lookup.{whichOf};
+ghost use Rattle.lookup.specs.Lookup.{which};
 ghost use Rattle.score.specs.Scoring.{scoring};
-ghost use Rattle.nwb.specs.Told.{header, member, called, Checked, Wrote, Located, Scored, Shared};
+ghost use Rattle.nwb.specs.Told.{givenHeader, givenMember, givenCall, ToldCheck, ToldWrite, ToldJoin, ToldFind, ToldScore, ToldShare};
 
 #[no_mangle]
 pub extern "C" fn nwb_check(b: &[u8], place: &mut u64) -> u32
-    ensures { λ r. ⌜ Checked (checkOf (now (b .entry))) r (now (place .exit)) ⌝ }
+    ensures { λ r. ⌜ ToldCheck (check (now (b .entry))) r (now (place .exit)) ⌝ }
 {
     let v = book::check(b);
     *place = v.place as u64;
@@ -33,7 +35,8 @@ pub extern "C" fn nwb_none(
     place: &mut u64,
     length: &mut u64,
 ) -> u32
-    ensures { λ r. ⌜ Wrote (writing (header area year month) [] (now (out .entry))) r (now (place .exit)) (now (length .exit)) (now (out .exit)) ⌝ }
+    ensures { λ r. ⌜ ToldWrite (writing (givenHeader area year month) [] (now (out .entry)))
+        r (now (place .exit)) (now (length .exit)) (now (out .exit)) ⌝ }
 {
     let w = write_none(Header { area, year, month }, out);
     *place = w.place as u64;
@@ -60,7 +63,8 @@ pub extern "C" fn nwb_one(
     place: &mut u64,
     length: &mut u64,
 ) -> u32
-    ensures { λ r. ⌜ Wrote (writing (header area year month) (called participant service state number revision start minutes a b c ∷ []) (now (out .entry)))
+    ensures { λ r. ⌜ ToldWrite
+        (writing (givenHeader area year month) (givenCall participant service state number revision start minutes a b c ∷ []) (now (out .entry)))
         r (now (place .exit)) (now (length .exit)) (now (out .exit)) ⌝ }
 {
     let x = Call {
@@ -89,7 +93,8 @@ pub extern "C" fn nwb_join(
     place: &mut u64,
     length: &mut u64,
 ) -> u32
-    ensures { λ r. ⌜ Wrote (joining (now (first .entry)) (now (second .entry)) (now (out .entry))) r (now (place .exit)) (now (length .exit)) (now (out .exit)) ⌝ }
+    ensures { λ r. ⌜ ToldJoin (joining (now (first .entry)) (now (second .entry)) (now (out .entry)))
+        r (now (place .exit)) (now (length .exit)) (now (out .exit)) ⌝ }
 {
     let joined = join::join(first, second, out);
     *place = joined.place as u64;
@@ -105,21 +110,22 @@ pub extern "C" fn nwb_find(
     number: u32,
     offset: &mut u64,
 ) -> u32
-    ensures { λ r. ⌜ Located (whichOf (now (first .entry)) (now (second .entry)) participant number) r (now (offset .exit)) ⌝ }
+    ensures { λ r. ⌜ ToldFind (which (now (first .entry)) (now (second .entry)) participant number) r (now (offset .exit)) ⌝ }
 {
-    let p = lookup::which(first, second, participant, number);
-    let book = p.book;
-    let index = p.index;
-    if book == 1 {
-        *offset = (16 + 32 * index) as u64;
-        return 1;
+    match lookup::which(first, second, participant, number) {
+        Place::Nowhere => {
+            *offset = 0;
+            0
+        }
+        Place::InFirst(i) => {
+            *offset = place_of(i) as u64;
+            1
+        }
+        Place::InSecond(j) => {
+            *offset = place_of(j) as u64;
+            2
+        }
     }
-    if book == 2 {
-        *offset = (16 + 32 * index) as u64;
-        return 2;
-    }
-    *offset = 0;
-    book as u32
 }
 
 #[no_mangle]
@@ -133,7 +139,8 @@ pub extern "C" fn nwb_score(
     grains: &mut u64,
     fen: &mut u64,
 ) -> u32
-    ensures { λ r. ⌜ Scored (scoring (member participant kind rated) (now (b .entry)) (now (series .entry))) r (now (place .exit)) (now (grains .exit)) (now (fen .exit)) ⌝ }
+    ensures { λ r. ⌜ ToldScore (scoring (givenMember participant kind rated) (now (b .entry)) (now (series .entry)))
+        r (now (place .exit)) (now (grains .exit)) (now (fen .exit)) ⌝ }
 {
     let m = Member {
         number: participant,
@@ -149,7 +156,7 @@ pub extern "C" fn nwb_score(
 
 #[no_mangle]
 pub extern "C" fn nwb_share(lines: &[u8], out: &mut [u8], place: &mut u64, gap: &mut i64) -> u32
-    ensures { λ r. ⌜ Shared (now (lines .entry)) (now (out .entry)) (now (out .exit)) r (now (place .exit)) (now (gap .exit)) ⌝ }
+    ensures { λ r. ⌜ ToldShare (now (lines .entry)) (now (out .entry)) (now (out .exit)) r (now (place .exit)) (now (gap .exit)) ⌝ }
 {
     let shared = share_bytes::share_bytes(lines, out);
     *place = shared.place as u64;

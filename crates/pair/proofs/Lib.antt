@@ -1,2 +1,2 @@
+pub mod Keys
 pub mod Screening
-pub mod Equal

@@ -1,10 +1,10 @@
 -- Laws of signed energy. Assumes nothing.
-use mathlib.Core.Path.{_≡_, refl, sym}
+use mathlib.Core.Path.{_≡_, refl}
 use mathlib.Core.Bool.{Bool, true, false, cond, true≢false}
-use Prim.Native.Nat.{ℕ, suc, _+_, _-_, _*_, _^_, _≤_, _<_}
+use Prim.Native.Nat.{ℕ, suc, _+_, _-_, _^_, _≤_, _<_}
 use native.Mathlib.Nat.{not-suc-le-zero}
 use native.Mathlib.Omega.{arith}
-use borrow.Author.Tests.{ltb-true, ltb-false, eqb-true, leb-true, ne-eqb}
+use borrow.Author.Tests.{ltb-true, ltb-false, leb-true, ne-eqb}
 use lib.Dec.{T, ltb, eqb}
 use lib.IntN.{ℤ, pos, negsuc, subℕ, natAbs, _+ℤ_}
 use lib.Signed.{mag, ltZ, leZ, nonNeg}
@@ -12,7 +12,7 @@ use mir.Syntax.{w32, w64}
 use mir.Val.{SFits, toZ, ofZ}
 use mir.ValLaws.{toZ-ofZ}
 use Rattle.pay.specs.Open.{isZero}
-use Rattle.pay.specs.Event.{eventWh, clamp, energyPay}
+use Rattle.pay.specs.Event.{eventWh, clamp}
 
 mag-cond : (t : Bool) {x y k : ℕ} → x ≤ k → y ≤ k → mag (cond t (negsuc x) (pos y)) ≤ k
 mag-cond true p q = p
@@ -60,25 +60,11 @@ pub natAbs-mag : (z : ℤ) → natAbs z ≤ mag z + 1
 natAbs-mag (pos n) = omega arith
 natAbs-mag (negsuc n) = omega arith
 
-pub clamp-mag : (z : ℤ) → clamp z ≤ mag z
-unfolding clamp
-clamp-mag (pos n) = omega arith
-clamp-mag (negsuc n) = omega arith
-
-pub energy-most : (z : ℤ) → energyPay z ≤ mag z * 120000
-unfolding energyPay
-energy-most z = omega (arith, clamp-mag z)
-
 -- the machine's test against 0
 pub zero-bits : (z : ℤ) → mag z < 2 ^ 31 → eqb (ofZ w32 z) 0 ≡ isZero z
 unfolding isZero
 zero-bits (pos n) h = refl
 zero-bits (negsuc n) h = ne-eqb (2 ^ 32 - suc n) 0 (λ e. omega arith)
-
-pub zero-clamp : (a : ℤ) → isZero a ≡ true → clamp a ≡ 0
-unfolding isZero clamp
-zero-clamp (pos n) h = eqb-true n 0 h
-zero-clamp (negsuc n) h = absurd (true≢false (sym h))
 
 pub clamp-top : (a : ℤ) (k : ℕ) → leZ a (pos k) ≡ true → clamp a ≤ k
 unfolding clamp

@@ -14,6 +14,10 @@ unfoldable pub clamp : ℤ → ℕ
 clamp (pos n) = n
 clamp (negsuc n) = 0
 
+-- 2: the power that a reserve call goes up to
+abbrev pub calledUp : ℤ → ℕ
+calledUp a = clamp a
+
 -- the month's sum times 120,000, 200 points per 万千瓦时; a sum below zero pays 0 (house rule)
 unfoldable pub energyPay : ℤ → ℕ
 energyPay z = clamp z * 120000

@@ -1,4 +1,5 @@
 pub mod Sum
+pub mod Kinds
 pub mod Member
 pub mod Window
 pub mod Rate

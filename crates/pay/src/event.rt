@@ -3,14 +3,15 @@ ghost use mathlib.Core.Path.{_≡_};
 ghost use Prim.Native.Nat.{_+_, _≤_};
 ghost use lib.IntN.{_+ℤ_};
 ghost use lib.Signed.{mag};
-ghost use Rattle.pay.specs.Event.{eventWh, clamp, energyPay};
+ghost use Rattle.pay.specs.Event.{eventWh, calledUp, energyPay};
+ghost use Rattle.pay.specs.Inner.{mostWh, mostMonthWh, mostMonthPay};
 use units::Grains;
 use units::Kw;
 use units::Wh;
 
 // The energy of an event: the smaller of a and b, or nothing where c is 1.
 pub fn event_wh(a: i32, b: u32, c: u32) -> Wh
-    ensures { λ r. ⌜ r .0 ≡ eventWh a b c ⌝ }
+    ensures { λ r. ⌜ (r .0 ≡ eventWh a b c) × (mag (r .0) ≤ mostWh) ⌝ }
 {
     if c == 1 {
         return Wh(0);
@@ -22,7 +23,8 @@ pub fn event_wh(a: i32, b: u32, c: u32) -> Wh
 
 // Energy added to the month's.
 pub fn added(x: Wh, y: Wh) -> Wh
-    requires { ⌜ (mag (x .0) ≤ 10000000000000) × (mag (y .0) ≤ 10000000000000) ⌝ }
+    requires { ⌜ mag (x .0) ≤ mostMonthWh ⌝ }
+    requires { ⌜ mag (y .0) ≤ mostMonthWh ⌝ }
     ensures { λ r. ⌜ r .0 ≡ x .0 +ℤ y .0 ⌝ }
 {
     let a = x.0;
@@ -32,7 +34,8 @@ pub fn added(x: Wh, y: Wh) -> Wh
 
 // The month's other pay and its energy's. The sum of energy is clamped at zero here, once: below zero it pays nothing, and takes nothing away.
 pub fn month_pay(other: Grains, x: Wh) -> Grains
-    requires { ⌜ (other .0 ≤ 10000000000000000000) × (mag (x .0) ≤ 10000000000000) ⌝ }
+    requires { ⌜ other .0 ≤ mostMonthPay ⌝ }
+    requires { ⌜ mag (x .0) ≤ mostMonthWh ⌝ }
     ensures { λ r. ⌜ r .0 ≡ other .0 + energyPay (x .0) ⌝ }
 {
     let rest = other.0;
@@ -45,7 +48,7 @@ pub fn month_pay(other: Grains, x: Wh) -> Grains
 
 // The power that a reserve call goes up to.
 pub fn called_up(a: i32) -> Kw
-    ensures { λ r. ⌜ r .0 ≡ clamp a ⌝ }
+    ensures { λ r. ⌜ r .0 ≡ calledUp a ⌝ }
 {
     if a < 0 {
         return Kw(0);

@@ -2,8 +2,30 @@
 ghost use mathlib.Core.Path.{_≡_};
 ghost use Rattle.pay.specs.Open.{isZero, reserveOpen, eventOpen, openTo};
 use crate::Member;
+use crate::has_availability;
+use crate::is_by_rate;
+use crate::kind::COAL;
+use crate::kind::GAS;
+use crate::kind::HYDRO;
 use call::Call;
+use call::service::AGC_AVAILABILITY;
+use call::service::AGC_CONTRIBUTION;
+use call::service::AVC;
+use call::service::BLACK_START;
+use call::service::DEEP_PEAK;
+use call::service::FREQUENCY_EVENT;
+use call::service::MOST_RATE;
+use call::service::RESERVE;
+use call::service::STABILITY_TRIP;
+use call::service::STANDBY;
+use call::service::START_STOP;
 use units::Kw;
+
+// The month of the book that is scored.
+pub struct Month {
+    pub year: u16,
+    pub month: u8,
+}
 
 fn is_zero(a: i32) -> bool
     ensures { λ r. ⌜ r ≡ isZero a ⌝ }
@@ -18,34 +40,38 @@ fn reserve_open(kind: u8, rated: Kw, a: i32) -> bool
     let most = rated.0 as i64;
     let none = is_zero(a);
     match kind {
-        1 => (1 <= wide) & (wide <= most),
-        2 => none,
-        3 => none,
+        COAL => (1 <= wide) & (wide <= most),
+        GAS => none,
+        HYDRO => none,
         _ => false,
     }
 }
 
-fn event_open(rate: bool, a: i32, b: u32) -> bool
-    ensures { λ r. ⌜ r ≡ eventOpen rate a b ⌝ }
+fn event_open(kind: u8, a: i32, b: u32) -> bool
+    ensures { λ r. ⌜ r ≡ eventOpen kind a b ⌝ }
 {
     let none = is_zero(a);
-    !rate | none & (b <= 10_000)
+    let rate = is_by_rate(kind);
+    !rate | none & (b <= MOST_RATE)
 }
 
-// The service and its fields are open to the member's kind.
-pub fn open_to(member: Member, x: Call) -> bool
-    ensures { λ r. ⌜ r ≡ openTo member x ⌝ }
+// The service and its fields are open to the member's kind, in the book's month.
+pub fn open_to(month: Month, member: Member, x: Call) -> bool
+    ensures { λ r. ⌜ r ≡ openTo month member x ⌝ }
 {
     let kind = member.kind;
-    let by_rate = member.is_by_rate();
     let service = x.service;
     match service {
-        1 => kind == 1,
-        2 => reserve_open(kind, member.rated, x.a),
-        3 => (kind == 1) | (kind == 2) | (kind == 3),
-        4 => kind == 1,
-        6 => !by_rate,
-        8 => event_open(by_rate, x.a, x.b),
-        _ => true,
+        DEEP_PEAK => kind == COAL,
+        RESERVE => reserve_open(kind, member.rated, x.a),
+        START_STOP => (kind == COAL) | (kind == GAS) | (kind == HYDRO),
+        STANDBY => kind == COAL,
+        BLACK_START => true,
+        AGC_AVAILABILITY => has_availability(kind),
+        AGC_CONTRIBUTION => true,
+        FREQUENCY_EVENT => event_open(kind, x.a, x.b),
+        AVC => true,
+        STABILITY_TRIP => true,
+        _ => false,
     }
 }

@@ -1,77 +1,123 @@
-// Services 3 to 10: grains for each kW of rating.
+// Services 3 to 10: grains for each kW of rating. A kind that the paper's row does not name is not paid.
 ghost use mathlib.Core.Path.{_≡_};
 ghost use Prim.Native.Nat.{_≤_};
-ghost use Rattle.pay.specs.Rate.{startStop, standby, blackStart, availability, sunContribution, contribution, eventBand, avc, rateOf, ratedPay};
+ghost use Rattle.call.specs.Services.{frequencyEvent};
+ghost use Rattle.pay.specs.Member.{mostRated};
+ghost use Rattle.pay.specs.Rate.{percentsAbove, startStopRate, standbyRate, blackStartRate, availabilityRate, contributionRate, eventBand, eventRate, avcRate, rateOf, ratedPay};
 use crate::Member;
+use crate::has_availability;
+use crate::is_by_rate;
+use crate::kind::COAL;
+use crate::kind::GAS;
+use crate::kind::HYDRO;
+use crate::kind::NEW_STORAGE;
+use crate::kind::PHOTOVOLTAIC;
+use crate::kind::PUMPED_STORAGE;
+use crate::kind::SOLAR_THERMAL;
+use crate::kind::WIND;
 use call::Call;
+use call::service::AGC_AVAILABILITY;
+use call::service::AGC_CONTRIBUTION;
+use call::service::AVC;
+use call::service::BLACK_START;
+use call::service::FREQUENCY_EVENT;
+use call::service::STABILITY_TRIP;
+use call::service::STANDBY;
+use call::service::START_STOP;
 use units::Grains;
 
 // Grains for each kW.
 pub struct PerKw(pub u64);
 
-fn start_stop(kind: u8, minutes: u16) -> PerKw
-    ensures { λ r. ⌜ r .0 ≡ startStop kind minutes ⌝ }
+// The most that black start pays, whatever the rating.
+const MOST_BLACK_START: u64 = 1_800_000_000_000;
+
+// The whole percents of a rate above a level, in hundredths of a percent both.
+fn percents_above(level: u32, rate: u32) -> u32
+    ensures { λ r. ⌜ r ≡ percentsAbove level rate ⌝ }
+{
+    if rate < level {
+        return 0;
+    }
+    (rate - level) / 100
+}
+
+fn start_stop_rate(kind: u8, minutes: u16) -> PerKw
+    ensures { λ r. ⌜ r .0 ≡ startStopRate kind minutes ⌝ }
 {
     match kind {
-        1 => {
+        COAL => {
             if minutes <= 4320 {
                 PerKw(12_000_000)
             } else {
                 PerKw(0)
             }
         }
-        2 => PerKw(6_000_000),
-        3 => PerKw(120_000),
+        GAS => PerKw(6_000_000),
+        HYDRO => PerKw(120_000),
         _ => PerKw(0),
     }
 }
 
-fn standby_days(minutes: u16) -> PerKw
-    ensures { λ r. ⌜ r .0 ≡ standby minutes ⌝ }
+fn standby_rate(kind: u8, minutes: u16) -> PerKw
+    ensures { λ r. ⌜ r .0 ≡ standbyRate kind minutes ⌝ }
 {
     let days = minutes / 1440;
-    if days < 7 {
-        return PerKw((days as u64) * 600_000);
+    match kind {
+        COAL => {
+            if days < 7 {
+                PerKw((days as u64) * 600_000)
+            } else {
+                PerKw(7 * 600_000)
+            }
+        }
+        _ => PerKw(0),
     }
-    PerKw(4_200_000)
 }
 
-fn black_start(kind: u8) -> PerKw
-    ensures { λ r. ⌜ r .0 ≡ blackStart kind ⌝ }
+fn black_start_rate(kind: u8) -> PerKw
+    ensures { λ r. ⌜ r .0 ≡ blackStartRate kind ⌝ }
 {
     match kind {
-        3 | 7 => PerKw(600_000),
-        _ => PerKw(1_200_000),
+        COAL => PerKw(1_200_000),
+        GAS => PerKw(1_200_000),
+        HYDRO => PerKw(600_000),
+        WIND => PerKw(1_200_000),
+        PHOTOVOLTAIC => PerKw(1_200_000),
+        SOLAR_THERMAL => PerKw(1_200_000),
+        PUMPED_STORAGE => PerKw(600_000),
+        NEW_STORAGE => PerKw(1_200_000),
+        _ => PerKw(0),
     }
 }
 
-fn available(b: u32) -> PerKw
-    ensures { λ r. ⌜ r .0 ≡ availability b ⌝ }
+fn availability_rate(kind: u8, b: u32) -> PerKw
+    ensures { λ r. ⌜ r .0 ≡ availabilityRate kind b ⌝ }
 {
-    match b {
-        0..=9799 => PerKw(0),
-        _ => PerKw(((b - 9800) / 100) as u64 * 600_000),
+    if has_availability(kind) {
+        let percents = percents_above(9800, b);
+        return PerKw((percents as u64) * 600_000);
     }
+    PerKw(0)
 }
 
-fn sun_contribution(b: u32) -> PerKw
-    ensures { λ r. ⌜ r .0 ≡ sunContribution b ⌝ }
+fn contribution_rate(kind: u8, b: u32) -> PerKw
+    ensures { λ r. ⌜ r .0 ≡ contributionRate kind b ⌝ }
 {
-    match b {
-        0..=8999 => PerKw(0),
-        _ => PerKw(((b - 9000) / 100) as u64 * 120_000),
-    }
-}
-
-// Wind and photovoltaic have an arm each: `4 | 5` would be read as a range.
-fn contributed(kind: u8, b: u32) -> PerKw
-    ensures { λ r. ⌜ r .0 ≡ contribution kind b ⌝ }
-{
+    let thermal = (b as u64) * 180;
+    let water = (b as u64) * 30;
+    let percents = percents_above(9000, b);
+    let sky = (percents as u64) * 120_000;
     match kind {
-        4 => sun_contribution(b),
-        5 => sun_contribution(b),
-        3 | 7 => PerKw((b as u64) * 30),
-        _ => PerKw((b as u64) * 180),
+        COAL => PerKw(thermal),
+        GAS => PerKw(thermal),
+        HYDRO => PerKw(water),
+        WIND => PerKw(sky),
+        PHOTOVOLTAIC => PerKw(sky),
+        SOLAR_THERMAL => PerKw(thermal),
+        PUMPED_STORAGE => PerKw(water),
+        NEW_STORAGE => PerKw(thermal),
+        _ => PerKw(0),
     }
 }
 
@@ -88,8 +134,17 @@ fn event_band(b: u32, c: u32) -> PerKw
     }
 }
 
-fn avc_minutes(minutes: u16, b: u32, c: u32) -> PerKw
-    ensures { λ r. ⌜ r .0 ≡ avc minutes b c ⌝ }
+fn event_rate(kind: u8, b: u32, c: u32) -> PerKw
+    ensures { λ r. ⌜ r .0 ≡ eventRate kind b c ⌝ }
+{
+    if is_by_rate(kind) {
+        return event_band(b, c);
+    }
+    PerKw(0)
+}
+
+fn avc_rate(minutes: u16, b: u32, c: u32) -> PerKw
+    ensures { λ r. ⌜ r .0 ≡ avcRate minutes b c ⌝ }
 {
     if (9800 <= c) & (9900 <= b) {
         return PerKw(((b - 9900) as u64) * (minutes as u64));
@@ -97,34 +152,34 @@ fn avc_minutes(minutes: u16, b: u32, c: u32) -> PerKw
     PerKw(0)
 }
 
-// Service 8 is here the rate of wind and photovoltaic.
 fn rate_of(kind: u8, x: Call) -> PerKw
     ensures { λ r. ⌜ r .0 ≡ rateOf kind x ⌝ }
 {
     let service = x.service;
     match service {
-        3 => start_stop(kind, x.length),
-        4 => standby_days(x.length),
-        5 => black_start(kind),
-        6 => available(x.b),
-        7 => contributed(kind, x.b),
-        8 => event_band(x.b, x.c),
-        9 => avc_minutes(x.length, x.b, x.c),
-        10 => PerKw(2_400_000),
+        START_STOP => start_stop_rate(kind, x.length),
+        STANDBY => standby_rate(kind, x.length),
+        BLACK_START => black_start_rate(kind),
+        AGC_AVAILABILITY => availability_rate(kind, x.b),
+        AGC_CONTRIBUTION => contribution_rate(kind, x.b),
+        FREQUENCY_EVENT => event_rate(kind, x.b, x.c),
+        AVC => avc_rate(x.length, x.b, x.c),
+        STABILITY_TRIP => PerKw(2_400_000),
         _ => PerKw(0),
     }
 }
 
 // The pay of a record by its rate. The ceiling of black start is one of the whole pay, not of the rate.
 pub fn rated_pay(member: Member, x: Call) -> Grains
-    requires { ⌜ (member .rated .0 ≤ 4000000) × (x .b ≤ 10000) × (x .length ≤ 44640) ⌝ }
+    requires { ⌜ member .rated .0 ≤ mostRated ⌝ }
+    requires { ⌜ x .length ≤ 44640 ⌝ }
+    requires { ⌜ ((x .service ≡ frequencyEvent → ⊥) → x .b ≤ 10000) ⌝ }
     ensures { λ r. ⌜ r .0 ≡ ratedPay member x ⌝ }
 {
     let rate = rate_of(member.kind, x);
-    let each = rate.0;
-    let whole = (member.rated.0 as u64) * each;
-    if (x.service == 5) & (1_800_000_000_000 < whole) {
-        return Grains(1_800_000_000_000);
+    let whole = (member.rated.0 as u64) * rate.0;
+    if (x.service == BLACK_START) & (MOST_BLACK_START < whole) {
+        return Grains(MOST_BLACK_START);
     }
     Grains(whole)
 }

@@ -1,11 +1,17 @@
 // Services 1 and 2, deep peaking and reserve: a minute, a run of quarter hours, a window.
 ghost use mathlib.Core.Path.{_≡_};
-ghost use Prim.Native.Nat.{_+_, _/_, _≤_};
+ghost use Prim.Native.Nat.{_+_, _*_, _/_, _≤_};
 ghost use lib.ListN.{length};
+ghost use Rattle.pay.specs.Member.{mostRated};
 ghost use Rattle.pay.specs.Sum.{total};
-ghost use Rattle.pay.specs.Window.{lackingTo, coalBand, coalMinute, windowPay};
-ghost use Rattle.pay.specs.Inner.{lackingAt, coalAt};
+ghost use Rattle.pay.specs.Window.{lacking, coalBand, coalMinute, windowPay};
+ghost use Rattle.pay.specs.Inner.{Run, lackingAt, coalAt};
 use crate::Member;
+use crate::kind::COAL;
+use crate::kind::GAS;
+use crate::kind::HYDRO;
+use call::service::DEEP_PEAK;
+use call::service::RESERVE;
 use units::Grains;
 use units::Kw;
 use units::TenthKwMin;
@@ -16,11 +22,11 @@ pub struct PerTenth(pub u64);
 // A level of output, in tenths of a kW.
 pub struct Level(pub u32);
 
-// What a minute at output p lacks up to a level; `full` is the lowest output that lacks nothing. In 32 bits, so that the sum
-// below goes four quarter hours at a time.
+// What a minute at output p lacks up to a level; `full` is the lowest output that lacks nothing. For speed in 32 bits, so that the
+// sum below goes four quarter hours at a time.
 fn lacking(level: Level, full: Kw, p: Kw) -> TenthKwMin
     requires { ⌜ full .0 ≡ (level .0 + 9) / 10 ⌝ }
-    ensures { λ r. ⌜ r .0 ≡ lackingTo (level .0) (p .0) ⌝ }
+    ensures { λ r. ⌜ r .0 ≡ lacking (level .0) (p .0) ⌝ }
 {
     let top = level.0;
     let at = p.0;
@@ -33,8 +39,9 @@ fn lacking(level: Level, full: Kw, p: Kw) -> TenthKwMin
 
 // A minute of each of so many quarter hours, in all.
 fn run_lacking(level: Level, series: &[u32], from: usize, count: usize) -> TenthKwMin
-    requires { ⌜ (level .0 ≤ 28000000) × (count ≤ 4369) × (from + count ≤ length (now series)) ⌝ }
-    ensures { λ r. ⌜ r .0 ≡ total (lackingAt (level .0) (now (series .entry))) from count ⌝ }
+    requires { ⌜ level .0 ≤ 28000000 ⌝ }
+    requires { ⌜ Run (now series) from count ⌝ }
+    ensures { λ r. ⌜ (r .0 ≡ total (lackingAt (level .0) (now (series .entry))) from count) × (r .0 ≤ 122332000000) ⌝ }
 {
     let full = Kw((level.0 + 9) / 10);
     let mut sum: u64 = 0;
@@ -74,10 +81,11 @@ fn coal_minute(rated: Kw, top: Kw, p: Kw) -> Grains
     Grains(0)
 }
 
-// A minute of each of so many quarter hours, in all.
+// 2, coal: a run of quarter hours, 15 minutes each.
 fn run_coal(rated: Kw, top: Kw, series: &[u32], from: usize, count: usize) -> Grains
-    requires { ⌜ (top .0 ≤ 4000000) × (count ≤ 4369) × (from + count ≤ length (now series)) ⌝ }
-    ensures { λ r. ⌜ r .0 ≡ total (coalAt (rated .0) (top .0) (now (series .entry))) from count ⌝ }
+    requires { ⌜ top .0 ≤ mostRated ⌝ }
+    requires { ⌜ Run (now series) from count ⌝ }
+    ensures { λ r. ⌜ r .0 ≡ total (coalAt (rated .0) (top .0) (now (series .entry))) from count * 15 ⌝ }
 {
     let mut sum: u64 = 0;
     let mut k: usize = 0;
@@ -86,11 +94,36 @@ fn run_coal(rated: Kw, top: Kw, series: &[u32], from: usize, count: usize) -> Gr
         sum += g.0;
         k += 1;
     }
-    Grains(sum)
+    Grains(sum * 15)
 }
 
-// The window's quarter hours, each 15 minutes at its mean output. Service and kind are asked once, and what is the same for
-// every minute multiplies the sum.
+// 1: a run of quarter hours, 15 minutes each, 3,000 grains a tenth. What is the same for every minute multiplies the sum: for speed.
+fn run_deep_peak(rated: Kw, series: &[u32], from: usize, count: usize) -> Grains
+    requires { ⌜ rated .0 ≤ mostRated ⌝ }
+    requires { ⌜ Run (now series) from count ⌝ }
+    ensures { λ r. ⌜ r .0 ≡ total (lackingAt (5 * rated .0) (now (series .entry))) from count * 3000 * 15 ⌝ }
+{
+    let half = 5 * rated.0;
+    let short = run_lacking(Level(half), series, from, count);
+    let minute = short.0 * 3_000;
+    let quarter = minute * 15;
+    Grains(quarter)
+}
+
+// 2, gas and hydro: a run of quarter hours, 15 minutes each, 10 grains a tenth.
+fn run_gas_hydro(rated: Kw, series: &[u32], from: usize, count: usize) -> Grains
+    requires { ⌜ rated .0 ≤ mostRated ⌝ }
+    requires { ⌜ Run (now series) from count ⌝ }
+    ensures { λ r. ⌜ r .0 ≡ total (lackingAt (7 * rated .0) (now (series .entry))) from count * 10 * 15 ⌝ }
+{
+    let edge = 7 * rated.0;
+    let short = run_lacking(Level(edge), series, from, count);
+    let minute = short.0 * 10;
+    let quarter = minute * 15;
+    Grains(quarter)
+}
+
+// The window's quarter hours. Service and kind are asked once, and not in each of them: for speed.
 pub fn window_pay(
     member: Member,
     service: u8,
@@ -99,26 +132,30 @@ pub fn window_pay(
     start: u16,
     minutes: u16,
 ) -> Grains
-    requires { ⌜ (member .rated .0 ≤ 4000000) × (top .0 ≤ 4000000) × (start / 15 + minutes / 15 ≤ length (now series)) ⌝ }
+    requires { ⌜ member .rated .0 ≤ mostRated ⌝ }
+    requires { ⌜ top .0 ≤ mostRated ⌝ }
+    requires { ⌜ start / 15 + minutes / 15 ≤ length (now series) ⌝ }
     ensures { λ r. ⌜ r .0 ≡ windowPay member service (top .0) (now (series .entry)) start minutes ⌝ }
 {
     let from = (start / 15) as usize;
     let count = (minutes / 15) as usize;
+    let kind = member.kind;
     let rated = member.rated;
-    let n = rated.0;
-    if service == 1 {
-        let half = 5 * n;
-        let short = run_lacking(Level(half), series, from, count);
-        let deep = short.0 * 45_000;
-        return Grains(deep);
+    match service {
+        DEEP_PEAK => {
+            match kind {
+                COAL => run_deep_peak(rated, series, from, count),
+                _ => Grains(0),
+            }
+        }
+        RESERVE => {
+            match kind {
+                COAL => run_coal(rated, top, series, from, count),
+                GAS => run_gas_hydro(rated, series, from, count),
+                HYDRO => run_gas_hydro(rated, series, from, count),
+                _ => Grains(0),
+            }
+        }
+        _ => Grains(0),
     }
-    if member.kind == 1 {
-        let sum = run_coal(rated, top, series, from, count);
-        let coal = sum.0 * 15;
-        return Grains(coal);
-    }
-    let edge = 7 * n;
-    let short = run_lacking(Level(edge), series, from, count);
-    let water = short.0 * 150;
-    Grains(water)
 }

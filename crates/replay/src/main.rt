@@ -2,9 +2,13 @@
 // the first entry. The three books are joined in every order and grouping, and each time the same book is printed, the stop withdrawn.
 use book::Header;
 use book::call_of;
-use book::write::Written;
 use book::write::write_one;
+use call::CONTESTED;
 use call::Call;
+use call::LIVE;
+use call::WITHDRAWN;
+use call::service::START_STOP;
+use join::Joined;
 use libc::STDOUT_FILENO;
 ghost use Prim.Native.Nat.{_<_};
 
@@ -20,8 +24,8 @@ fn march() -> Header {
 fn stop(revision: u32, minutes: u16) -> Call {
     Call {
         participant: 3,
-        service: 3,
-        state: 0,
+        service: START_STOP,
+        state: LIVE,
         number: 9,
         revision,
         start: 600,
@@ -53,16 +57,16 @@ fn print_bytes(s: &[u8]) {
 
 fn print_state(state: u8) {
     match state {
-        0 => io::write_all(STDOUT_FILENO, b" live\n"),
-        1 => io::write_all(STDOUT_FILENO, b" contested\n"),
-        2 => io::write_all(STDOUT_FILENO, b" withdrawn\n"),
+        LIVE => io::write_all(STDOUT_FILENO, b" live\n"),
+        CONTESTED => io::write_all(STDOUT_FILENO, b" contested\n"),
+        WITHDRAWN => io::write_all(STDOUT_FILENO, b" withdrawn\n"),
         _ => io::write_all(STDOUT_FILENO, b" unknown\n"),
     }
     ;
 }
 
 // A book of one record, and the state of that record; or the refusal's number.
-fn show(w: Written, out: &[u8]) {
+fn show(w: Joined, out: &[u8]) {
     let n = w.length;
     if w.number != 0 {
         io::write_all(STDOUT_FILENO, b"refused ");

@@ -7,7 +7,7 @@ use native.Mathlib.Omega.{arith}
 use lib.Dec.{leb}
 use lib.ListN.{getD}
 use borrow.Author.Tests.{leb-true, leb-false, le-leb, lt-leb}
-use Rattle.row.specs.Numbers.{held}
+use Rattle.row.specs.Numbers.{hold}
 
 -- a cap above a limit moves no number across it
 pub capped : (x cap most : ℕ) → most < cap → leb (min x cap) most ≡ leb x most
@@ -17,14 +17,14 @@ capped x cap most h = go (leb x most) refl
     go true e = le-leb (min x cap) most (omega (arith, leb-true x most e))
     go false e = lt-leb (min x cap) most (omega (arith, leb-false x most e))
 
-pub at-least-one : (x : ℕ) → leb 1 (held x) ≡ leb 1 x
+pub at-least-one : (x : ℕ) → leb 1 (hold x) ≡ leb 1 x
 at-least-one x = go (leb 1 x) refl
   where
-    go : (t : Bool) → leb 1 x ≡ t → leb 1 (held x) ≡ t
-    go true e = le-leb 1 (held x) (omega (arith, leb-true 1 x e))
-    go false e = lt-leb 1 (held x) (omega (arith, leb-false 1 x e))
+    go : (t : Bool) → leb 1 x ≡ t → leb 1 (hold x) ≡ t
+    go true e = le-leb 1 (hold x) (omega (arith, leb-true 1 x e))
+    go false e = lt-leb 1 (hold x) (omega (arith, leb-false 1 x e))
 
-pub held-at : (ns : List ℕ) (i : ℕ) → getD (map held ns) i 0 ≡ held (getD ns i 0)
+pub held-at : (ns : List ℕ) (i : ℕ) → getD (map hold ns) i 0 ≡ hold (getD ns i 0)
 held-at [] i = refl
 held-at (n ∷ ns) zero = refl
 held-at (n ∷ ns) (suc i) = held-at ns i

@@ -8,7 +8,7 @@ use lib.ListN.{length, drop, getD}
 use lib.Seq.{drop-cons}
 use borrow.Author.Tests.{ne-eqb, eq-eqb}
 use Rattle.row.specs.Numbers.{onto, linesOf}
-use Rattle.row.specs.Judging.{leftFrom}
+use Rattle.row.specs.Inner.{leftFrom}
 
 -- the next byte
 pub next-byte : (text : List ℕ) (i : ℕ) → i < length text → drop i text ≡ getD text i 0 ∷ drop (i + 1) text

@@ -2,26 +2,26 @@
 use mathlib.Core.Path.{_≡_, refl, ap, sym, _∙_}
 use mathlib.Core.Bool.{Bool, true, false, cond, not, _&&_, _||_}
 use mathlib.Core.List.{List, [], _∷_, _++_, map}
-use Prim.Native.Nat.{ℕ, suc, _+_, _*_, _-_, _≤_, _<_}
+use Prim.Native.Nat.{ℕ, suc, _+_, _-_, _≤_, _<_}
 use native.Mathlib.Nat.{zero-add}
 use native.Mathlib.Numerals.{add-one}
 use native.Mathlib.Omega.{arith}
 use lib.Dec.{ltb, eqb, eqb·suc-suc}
-use lib.ListN.{take, set, length}
+use lib.ListN.{take, set, length, replicate, getD}
 use lib.Seq.{take-suc-set, append-snoc}
 use borrow.Author.Tests.{lt-ltb, ne-eqb, eq-eqb, eqb-true}
 use Rattle.le.proofs.Tests.{each}
 use Rattle.row.specs.declared.Row.{Row}
-use Rattle.row.specs.Numbers.{onto, partsOf, isDigit, digits, some, numbers, value, numbersIn, ceiling, held, numbersOf}
-use Rattle.row.specs.Meaning.{begun, isRow, rowAt, rowParts, rowNumbers, Fresh, Follows}
+use Rattle.row.specs.Numbers.{onto, partsOf, isDigit, digits, some, numbers, value, numbersIn, ceiling, hold, numbersOf}
+use Rattle.row.specs.Meaning.{mostColumns, rowIsBegun, isRow, rowAt, rowParts, rowNumbers, RowFresh, RowFollows}
 use Rattle.row.proofs.Texts.{and-false, or-true, by-parts, grows}
 
 -- A number past every limit is told alike, whatever digits follow
 
-held-past : (n : ℕ) → ceiling ≤ n → held n ≡ ceiling
+held-past : (n : ℕ) → ceiling ≤ n → hold n ≡ ceiling
 held-past n h = omega arith
 
-held-more : (v b : ℕ) (p : List ℕ) → ceiling ≤ v → held (value v p) ≡ held (value v (b ∷ p))
+pub held-more : (v b : ℕ) (p : List ℕ) → ceiling ≤ v → hold (value v p) ≡ hold (value v (b ∷ p))
 held-more v b p h =
     held-past (value v p) (omega (arith, grows v p)) ∙ sym (held-past (value v (b ∷ p)) (omega (arith, grows v (b ∷ p))))
 
@@ -64,12 +64,12 @@ module _ (separator last : ℕ) (row : Row) where
 
 module _ (separator last : ℕ) (row : Row) where
   -- a byte that leaves its line no numbers spoils the row
-  pub by-spoiling : (r : Row) (b : ℕ) → r .bad ≡ true → ((rest : List ℕ) → rowNumbers separator last row (b ∷ rest) ≡ []) → Follows separator last row b r
+  pub by-spoiling : (r : Row) (b : ℕ) → r .bad ≡ true → ((rest : List ℕ) → rowNumbers separator last row (b ∷ rest) ≡ []) → RowFollows separator last row b r
   by-spoiling r b h none = record { begun = rw h; line = λ rest. bad-row separator last r h rest ∙ sym (none rest) }
 
   -- a byte of the open number
-  by-onto : (r : Row) (b : ℕ) → (b ≡ separator → ⊥) → begun r ≡ true → ((p : List ℕ) (ps : List (List ℕ)) → rowAt last r p ps ≡ rowAt last row (b ∷ p) ps)
-      → Follows separator last row b r
+  by-onto : (r : Row) (b : ℕ) → (b ≡ separator → ⊥) → rowIsBegun r ≡ true → ((p : List ℕ) (ps : List (List ℕ)) → rowAt last r p ps ≡ rowAt last row (b ∷ p) ps)
+      → RowFollows separator last row b r
   unfolding rowNumbers
   by-onto r b ne is h =
       record {
@@ -81,22 +81,18 @@ module _ (separator last : ℕ) (row : Row) where
   is-grown true at = refl
   is-grown false at = refl
 
-  module _ (b : ℕ) (ne : b ≡ separator → ⊥) (d : isDigit b ≡ true) where
-    -- a digit
-    pub by-digit : (w : ℕ) → w ≡ b - 48 → Follows separator last row b (record { bad = row .bad; digit = true; at = row .at; value = row .value * 10 + w; ended = row .ended })
-    by-digit w e = by-onto _ b ne (is-grown (row .bad) (row .at)) (λ p ps. simp (d, or-true, e))
-
-    -- a digit behind a number that is past every limit
-    pub by-more : ceiling ≤ row .value → Follows separator last row b (record { bad = row .bad; digit = true; at = row .at; value = row .value; ended = row .ended })
-    by-more h =
-        by-onto _ b ne (is-grown (row .bad) (row .at))
-        (λ p ps. simp (d, or-true) (λ i. cond (not (row .bad) && digits p && true && numbers ps && eqb (row .at + length ps) last)
-        (take (row .at) (row .ended) ++ held-more (row .value) b p h i ∷ map held (map (value 0) ps)) []))
+  -- a digit
+  pub by-digit : (b v : ℕ) → (b ≡ separator → ⊥) → isDigit b ≡ true → ((rest : List ℕ) → hold (value v rest) ≡ hold (value (row .value) (b ∷ rest)))
+      → RowFollows separator last row b (record { bad = row .bad; digit = true; at = row .at; value = v; ended = row .ended })
+  by-digit b v ne d h =
+      by-onto _ b ne (is-grown (row .bad) (row .at))
+      (λ p ps. simp (d, or-true) (λ i. cond (not (row .bad) && digits p && true && numbers ps && eqb (row .at + length ps) last)
+      (take (row .at) (row .ended) ++ h p i ∷ map hold (map (value 0) ps)) []))
 
 -- A separator behind a number that others follow
 
 abbrev parted : Row → Row
-parted row = record { bad = row .bad; digit = false; at = row .at + 1; value = 0; ended = set (row .ended) (row .at) (held (row .value)) }
+parted row = record { bad = row .bad; digit = false; at = row .at + 1; value = 0; ended = set (row .ended) (row .at) (hold (row .value)) }
 
 regroup : (a b c d : Bool) → (a && b && c && d) ≡ (a && true && true && (b && c && d))
 regroup true true c d = refl
@@ -109,13 +105,13 @@ module _ (last : ℕ) (row : Row) (digit : row .digit ≡ true) (room : row .at 
       let one : row .at + 1 + length ps ≡ row .at + suc (length ps) = omega arith in
       let test : isRow last (parted row) p ps ≡ isRow last row [] (p ∷ ps) =
       rw (digit, one) (ap (λ (t : Bool). t && eqb (row .at + suc (length ps)) last) (regroup (not (row .bad)) (digits p) (some p) (numbers ps))) in
-      let behind = map held (value 0 p ∷ map (value 0) ps) in
-      let all : take (row .at + 1) (set (row .ended) (row .at) (held (row .value))) ++ behind ≡ take (row .at) (row .ended) ++ held (row .value) ∷ behind =
-      rw (add-one, take-suc-set (row .ended) (row .at) (held (row .value)) room) (append-snoc (take (row .at) (row .ended)) (held (row .value)) behind) in
+      let behind = map hold (value 0 p ∷ map (value 0) ps) in
+      let all : take (row .at + 1) (set (row .ended) (row .at) (hold (row .value))) ++ behind ≡ take (row .at) (row .ended) ++ hold (row .value) ∷ behind =
+      rw (add-one, take-suc-set (row .ended) (row .at) (hold (row .value)) room) (append-snoc (take (row .at) (row .ended)) (hold (row .value)) behind) in
       λ i. cond (test i) (all i) []
 
-  pub by-separator : (v : ℕ) → v ≡ held (row .value) → (separator : ℕ)
-      → Follows separator last row separator (record { bad = row .bad; digit = false; at = row .at + 1; value = 0; ended = set (row .ended) (row .at) v })
+  pub by-separator : (v : ℕ) → v ≡ hold (row .value) → (separator : ℕ)
+      → RowFollows separator last row separator (record { bad = row .bad; digit = false; at = row .at + 1; value = 0; ended = set (row .ended) (row .at) v })
   unfolding rowNumbers
   by-separator v e separator =
       rw e
@@ -127,31 +123,31 @@ module _ (last : ℕ) (row : Row) (digit : row .digit ≡ true) (room : row .at 
 -- The start of a line
 
 abbrev startRow : Row
-startRow = record { bad = false; digit = false; at = 0; value = 0; ended = 0 ∷ 0 ∷ 0 ∷ 0 ∷ 0 ∷ [] }
+startRow = record { bad = false; digit = false; at = 0; value = 0; ended = replicate (mostColumns - 1) 0 }
 
-start-at : (last : ℕ) (p : List ℕ) (ps : List (List ℕ)) → rowAt last startRow p ps ≡ map held (numbersIn (suc last) (p ∷ ps))
+start-at : (last : ℕ) (p : List ℕ) (ps : List (List ℕ)) → rowAt last startRow p ps ≡ map hold (numbersIn (suc last) (p ∷ ps))
 unfolding numbersIn
 start-at last p ps =
     let many : eqb (0 + length ps) last ≡ eqb (suc (length ps)) (suc last) = rw zero-add (sym (eqb·suc-suc (length ps) last)) in
     rw many (go (numbers (p ∷ ps) && eqb (suc (length ps)) (suc last)) (map (value 0) (p ∷ ps)))
   where
-    go : (t : Bool) (ns : List ℕ) → cond t (map held ns) [] ≡ map held (cond t ns [])
+    go : (t : Bool) (ns : List ℕ) → cond t (map hold ns) [] ≡ map hold (cond t ns [])
     go true ns = refl
     go false ns = refl
 
-pub start-fresh : (row : Row) → row ≡ startRow → Fresh row
+pub start-fresh : (row : Row) → row ≡ startRow → RowFresh row
 unfolding rowNumbers numbersOf
 start-fresh row e =
     record {
-      unread = ap (λ (r : Row). begun r) e;
+      unread = ap (λ (r : Row). rowIsBegun r) e;
       line = λ separator last rest. ap (λ (r : Row). rowNumbers separator last r rest) e
-          ∙ by-parts separator (λ ps. rowParts last startRow ps ≡ map held (numbersIn (suc last) ps)) (start-at last) rest;
+          ∙ by-parts separator (λ ps. rowParts last startRow ps ≡ map hold (numbersIn (suc last) ps)) (start-at last) rest;
     }
 
 -- The end of a line
 
 -- a line that ends has the numbers that ended, and the open one
-pub end-row : (separator last : ℕ) (row : Row) → rowNumbers separator last row [] ≡ cond (isRow last row [] []) (take (row .at) (row .ended) ++ held (row .value) ∷ []) []
+pub end-row : (separator last : ℕ) (row : Row) → rowNumbers separator last row [] ≡ cond (isRow last row [] []) (take (row .at) (row .ended) ++ hold (row .value) ∷ []) []
 unfolding rowNumbers
 end-row separator last row = refl
 
@@ -171,10 +167,20 @@ whole-at last row h =
     eqb-true (row .at) last (p .1 .1 .0)
 
 -- where it has its numbers, these are they
-pub whole-row : (separator last : ℕ) (row : Row) (v : ℕ) → isRow last row [] [] ≡ true → v ≡ held (row .value)
+pub whole-row : (separator last : ℕ) (row : Row) (v : ℕ) → isRow last row [] [] ≡ true → v ≡ hold (row .value)
     → rowNumbers separator last row [] ≡ take last (row .ended) ++ v ∷ []
 whole-row separator last row v h e = end-row separator last row ∙ rw (h, whole-at last row h, e)
 
 -- otherwise there are none
 pub none-row : (separator last : ℕ) (row : Row) → isRow last row [] [] ≡ false → rowNumbers separator last row [] ≡ []
 none-row separator last row h = end-row separator last row ∙ rw h
+
+-- The first numbers
+
+pub first-five : (ns : List ℕ) → 5 ≤ length ns → getD ns 0 0 ∷ getD ns 1 0 ∷ getD ns 2 0 ∷ getD ns 3 0 ∷ getD ns 4 0 ∷ [] ≡ take 5 ns
+first-five (a ∷ b ∷ c ∷ d ∷ e ∷ ns) h = refl
+first-five [] h = absurd (omega arith)
+first-five (a ∷ []) h = absurd (omega arith)
+first-five (a ∷ b ∷ []) h = absurd (omega arith)
+first-five (a ∷ b ∷ c ∷ []) h = absurd (omega arith)
+first-five (a ∷ b ∷ c ∷ d ∷ []) h = absurd (omega arith)

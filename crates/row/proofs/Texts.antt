@@ -4,10 +4,10 @@ use mathlib.Core.Bool.{Bool, true, false, cond, _&&_, _||_}
 use mathlib.Core.List.{List, [], _∷_, _++_}
 use Prim.Native.Nat.{ℕ, _+_, _*_, _-_, _≤_, _<_}
 use native.Mathlib.Omega.{arith}
-use lib.Dec.{eqb}
-use borrow.Author.Tests.{ne-eqb, eq-eqb, le-leb, lt-leb}
+use lib.Dec.{leb, eqb}
+use borrow.Author.Tests.{ne-eqb, eq-eqb, leb-true}
 use Rattle.le.proofs.Tests.{each}
-use Rattle.row.specs.Numbers.{onto, linesOf, partsOf, isDigit, digits, some, isNumber, value}
+use Rattle.row.specs.Numbers.{onto, linesOf, partsOf, digitByte, isDigit, digits, some, isNumber, value}
 
 -- Tests
 
@@ -59,14 +59,9 @@ module _ (separator : ℕ) where
 
 -- Numbers
 
-pub is-digit : (b : ℕ) → 48 ≤ b → b ≤ 57 → isDigit b ≡ true
-is-digit b h k = simp (le-leb 48 b h, le-leb b 57 k)
-
-pub under-digit : (b : ℕ) → b < 48 → isDigit b ≡ false
-under-digit b h = simp (lt-leb 48 b h)
-
-pub over-digit : (b : ℕ) → 57 < b → isDigit b ≡ false
-over-digit b h = simp (lt-leb b 57 h, and-false)
+-- a digit is no line feed, no blank, no comma
+pub digit-is-not : (b c : ℕ) → isDigit b ≡ true → c < digitByte 0 → b ≡ c → ⊥
+digit-is-not b c h k e = omega (arith, leb-true (digitByte 0) b (each (leb (digitByte 0) b) (leb b (digitByte 9) ∷ []) h .0), e)
 
 -- A zero in front changes no number.
 pub zero-first : (p : List ℕ) → isNumber p ≡ true → (isNumber (48 ∷ p) ≡ true) × (value 0 (48 ∷ p) ≡ value 0 p)

@@ -1,42 +1,41 @@
--- Lines of a text judged in turn, whatever a line says: a sharing line, a register's entry. Assumes nothing.
-use mathlib.Core.Bool.{Bool, cond, _&&_}
-use mathlib.Core.List.{List, [], _∷_, map}
-use Prim.Native.Nat.{ℕ, _+_}
+-- Lines of a text judged in turn, whatever a line says: a sharing line, a register's entry. Over the whole text; how it is read is not
+-- spoken of. Assumes nothing.
+use mathlib.Core.Bool.{Bool, cond}
+use mathlib.Core.List.{List, [], _∷_, _++_}
+use Prim.Native.Nat.{ℕ, suc, min, _-_}
 use lib.Dec.{ltb}
-use lib.ListN.{set}
+use lib.ListN.{length, replicate}
 
--- How lines are judged: whether one is sound after a number, its own number, how many there may be, and a line that is never sound. Then
--- the answers: the refusal of the line at a place, and so many lines taken.
+-- How lines are judged: whether one is sound after the number of the line before it, its own number, how many there may be, and a line of
+-- zeros. Then how the answer is told: number, place, how many lines there are, and the lines.
 pub record Judge (A R : Type 0) : Type 0 where
   pub sound : ℕ → A → Bool
   pub number : A → ℕ
   pub most : ℕ
   pub blank : A
-  pub refused : ℕ → R
-  pub taken : ℕ → List A → R
+  pub answer : ℕ → ℕ → ℕ → List A → R
 
--- a line that is not sound after no number is as bad as a blank one
-unfoldable pub fairBy : {A R : Type 0} → Judge A R → A → A
-fairBy j a = cond (j .sound 0 a) a (j .blank)
+-- the lines, and lines of zeros behind them, up to as many as there may be
+unfoldable pub filledUp : {A R : Type 0} → Judge A R → List A → List A
+filledUp j xs = xs ++ replicate (j .most - length xs) (j .blank)
 
--- n lines stand in `all` already, the last of number `before`; those that are left are judged in turn
-abbrev pub judgeFrom : {A R : Type 0} → Judge A R → ℕ → List A → ℕ → List A → R
-judgeFrom j before all n [] = j .taken n all
-judgeFrom j before all n (a ∷ xs) =
-    cond (j .sound before a && ltb n (j .most)) (judgeFrom j (j .number a) (set all n a) (n + 1) xs) (j .refused n)
+-- 10 at a line, otherwise zeros
+abbrev pub refusedAt : {A R : Type 0} → Judge A R → ℕ → R
+refusedAt j place = j .answer 10 place 0 (filledUp j [])
 
--- the lines judged so far: whether one was refused, the number of the last sound one (else 0), how many were sound, and those lines
-pub record Standing (A : Type 0) : Type 0 where
-  pub refused : Bool
-  pub before : ℕ
-  pub count : ℕ
-  pub all : List A
+-- all the lines, and how many there are
+abbrev pub allTaken : {A R : Type 0} → Judge A R → List A → R
+allTaken j xs = j .answer 0 0 (length xs) (filledUp j xs)
 
--- the answer, if these lines are left: a refusal stays at its place
-unfoldable pub outcomeOf : {A R : Type 0} → Judge A R → Standing A → List A → R
-outcomeOf j s xs = cond (s .refused) (j .refused (s .count)) (judgeFrom j (s .before) (s .all) (s .count) xs)
+-- the place of the first line that is not sound after the number before it, or the number of lines where all are
+abbrev pub firstUnsound : {A R : Type 0} → Judge A R → ℕ → List A → ℕ
+firstUnsound j before [] = 0
+firstUnsound j before (a ∷ xs) = cond (j .sound before a) (suc (firstUnsound j (j .number a) xs)) 0
 
--- what the lines that are left say: the one that is being read, by what is left of it, and whole lines behind it
-abbrev pub leftFrom : {A : Type 0} → Bool → (List ℕ → A) → (List ℕ → A) → List (List ℕ) → List A
-leftFrom begun this whole [] = cond begun (this [] ∷ []) []
-leftFrom begun this whole (l ∷ ls) = this l ∷ map whole ls
+-- the place of the first bad line: the first that is not sound, or the first behind as many as there may be
+abbrev pub firstBad : {A R : Type 0} → Judge A R → List A → ℕ
+firstBad j xs = min (firstUnsound j 0 xs) (j .most)
+
+-- LINES ARE JUDGED IN TURN: the first bad one is refused, with 10 at its place; where there is none all are taken
+unfoldable pub judged : {A R : Type 0} → Judge A R → List A → R
+judged j xs = cond (ltb (firstBad j xs) (length xs)) (refusedAt j (firstBad j xs)) (allTaken j xs)

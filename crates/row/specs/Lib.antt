@@ -1,3 +1,4 @@
 pub mod Numbers
-pub mod Meaning
 pub mod Judging
+pub mod Meaning
+pub mod Inner

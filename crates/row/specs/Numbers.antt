@@ -30,8 +30,11 @@ partsOf separator (b ∷ bs) = cond (eqb b separator) ([] ∷ partsOf separator 
 -- Numbers
 
 -- the bytes 48 to 57 are the digits 0 to 9
+abbrev pub digitByte : ℕ → ℕ
+digitByte n = 48 + n
+
 abbrev pub isDigit : ℕ → Bool
-isDigit b = leb 48 b && leb b 57
+isDigit b = leb (digitByte 0) b && leb b (digitByte 9)
 
 -- every byte is a digit
 abbrev pub digits : List ℕ → Bool
@@ -55,7 +58,7 @@ numbers (p ∷ ps) = isNumber p && numbers ps
 -- what digits are worth behind digits that are worth v
 abbrev pub value : ℕ → List ℕ → ℕ
 value v [] = v
-value v (b ∷ bs) = value (v * 10 + (b - 48)) bs
+value v (b ∷ bs) = value (v * 10 + (b - digitByte 0)) bs
 
 -- the numbers of so many parts, as they stand; none where the parts are more or fewer, or one of them is no decimal number
 unfoldable pub numbersIn : ℕ → List (List ℕ) → List ℕ
@@ -68,9 +71,9 @@ abbrev pub ceiling : ℕ
 ceiling = 1000000000000
 
 -- a number past every limit is told as 10^12: it is past them either way
-abbrev pub held : ℕ → ℕ
-held n = min n ceiling
+abbrev pub hold : ℕ → ℕ
+hold n = min n ceiling
 
 -- the numbers of a line of so many, each held
 unfoldable pub numbersOf : ℕ → ℕ → List ℕ → List ℕ
-numbersOf separator columns line = map held (numbersIn columns (partsOf separator line))
+numbersOf separator columns line = map hold (numbersIn columns (partsOf separator line))

@@ -11,7 +11,7 @@ use borrow.Author.Tests.{eqb-true, eq-eqb, leb-true, le-leb}
 use Rattle.le.proofs.Tests.{each}
 use Rattle.call.specs.declared.Call.{Call}
 use Rattle.rule.specs.declared.Decision.{Decision}
-use Rattle.rule.specs.Standing.{sameCall, decision}
+use Rattle.rule.specs.Standing.{sameCall, decide}
 
 leZ-both : (a b : ℤ) → leZ a b ≡ true → leZ b a ≡ true → a ≡ b
 leZ-both (pos m) (pos n) e f = ap pos (omega (arith, leb-true m n e, leb-true n m f))
@@ -57,5 +57,5 @@ unfolding sameCall
 eq-same x y e = rw (← e) (simp (eqb-own, leZ-own))
 
 -- `decide`: two answers that its contract allows are one
-pub decide-determined : (x y : Call) (d e : Decision) → d ≡ decision x y → e ≡ decision x y → d ≡ e
+pub decide-determined : (x y : Call) (d e : Decision) → d ≡ decide x y → e ≡ decide x y → d ≡ e
 decide-determined x y d e p q = p ∙ sym q

@@ -1,134 +1,69 @@
--- `joinCalls`, key by key. Assumes nothing.
-use mathlib.Core.Path.{_≡_, refl, sym, _∙_}
-use mathlib.Core.Logic.{inl, inr, ⊎-elim}
-use mathlib.Core.List.{List, [], _∷_, List·Memᴰ as In, List·Memᴰ·cases-cons as in-cons, List·Memᴰ·not-nil as in-nil}
+-- The join of two lists, key by key: what a key finds in it, that its keys rise, and how many they are. Assumes nothing.
+use mathlib.Core.Path.{_≡_, refl, sym, _∙_, ap}
+use mathlib.Core.Logic.{_⊎_, inl, inr, ⊎-elim}
+use mathlib.Core.List.{List, [], _∷_, List·Memᴰ as In, List·Memᴰ·head as here, List·Memᴰ·tail as there, List·Memᴰ·cases-cons as in-cons, List·Memᴰ·eq-of-singleton as eq-of-one}
 use mathlib.Core.Option.{Option, none, some}
-use Prim.Native.Nat.{ℕ, suc, _≤_, _<_}
+use Prim.Native.Nat.{ℕ}
 use native.Mathlib.Omega.{arith}
-use native.Mathlib.Decide.{ℕ-discrete}
 use lib.ListN.{length}
-use borrow.Author.Tests.{lt-ltb, le-ltb}
 use Rattle.call.specs.declared.Call.{Call}
-use Rattle.call.specs.Key.{keyOf}
-use Rattle.call.specs.Service.{Within}
-use Rattle.book.specs.Sound.{AllWithin, Rises}
+use Rattle.call.specs.Key.{callKey}
+use Rattle.book.specs.Sound.{Rises}
 use Rattle.rule.specs.Standing.{standing}
-use Rattle.rule.specs.Joined.{joinFrom, joinCalls}
-use Rattle.rule.specs.Whole.{recordOf}
-use Rattle.rule.proofs.Keyed.{Three, three, weaken, find-hit, find-miss, find-below}
-use Rattle.rule.proofs.Lattice.{stand-key, stand-within}
+use Rattle.rule.specs.Keys.{recordOf, differentKeys, recordsAt}
+use Rattle.rule.specs.Joined.{joinedAt, joinedFor, joinCalls}
+use Rattle.rule.proofs.Keyed.{find-in}
+use Rattle.rule.proofs.Lattice.{stand-key}
+use Rattle.rule.proofs.Different.{Keyed, Has, different-rise, in-different, different-in, at-find, at-rises, at-length}
 
-pub within-in : (m : ℕ) (cs : List Call) (c : Call) → AllWithin m cs → In c cs → Within m c
-within-in m [] c w i = absurd (in-nil i)
-within-in m (d ∷ cs) c w i = ⊎-elim (λ (e : c ≡ d). rw e (w .0)) (λ j. within-in m cs c (w .1) j) (in-cons i)
+module _ (xs ys : List Call) where
+  -- the joined record of a key is of that key
+  joined-keyed : Keyed (joinedFor xs ys)
+  unfolding joinedFor joinedAt
+  joined-keyed k c h = go (recordOf k xs) (recordOf k ys) refl refl h
+    where
+      go : (o p : Option Call) → recordOf k xs ≡ o → recordOf k ys ≡ p → joinedAt o p ≡ some c → callKey c ≡ k
+      go none none e f h = let z : _≡_ {A = ℕ} 0 1 = cc in absurd (omega arith)
+      go (some x) none e f h = find-in k xs c (e ∙ h) .1
+      go none (some y) e f h = find-in k ys c (f ∙ h) .1
+      go (some x) (some y) e f h =
+          let g : standing x y ≡ c = cc in
+          let l = find-in k xs x e .1 in
+          ap callKey (sym g) ∙ stand-key x y (l ∙ sym (find-in k ys y f .1)) ∙ l
 
--- the joins' equations
-pub join-nil : (xs : List Call) → joinCalls xs [] ≡ xs
-unfolding joinCalls joinFrom
-join-nil [] = refl
-join-nil (x ∷ xs) = refl
+  -- each of the different keys has one, and no other key
+  joined-some : (k : ℕ) → In k (differentKeys (xs ∷ ys ∷ [])) → (c : Call) × (joinedFor xs ys k ≡ some c)
+  unfolding joinedFor joinedAt
+  joined-some k i = go (recordOf k xs) (recordOf k ys) refl refl (different-in (xs ∷ ys ∷ []) k i)
+    where
+      go : (o p : Option Call) → recordOf k xs ≡ o → recordOf k ys ≡ p → (b : List Call) × In b (xs ∷ ys ∷ []) × Has k b → (c : Call) × (joinedAt o p ≡ some c)
+      go (some x) (some y) e f h = (standing x y, refl)
+      go (some x) none e f h = (x, refl)
+      go none (some y) e f h = (y, refl)
+      go none none e f h =
+          absurd (⊎-elim (λ (g : h .0 ≡ xs). empty (ap (recordOf k) g ∙ e)) (λ j. empty (ap (recordOf k) (eq-of-one j) ∙ f)) (in-cons (h .1)))
+        where
+          empty : recordOf k (h .0) ≡ none → ⊥
+          empty g = let l = h .2 .1 in let z : _≡_ {A = ℕ} 0 1 = cc in omega arith
 
-module _ (x : Call) (xs : List Call) (y : Call) (ys : List Call) where
-  pub join-lt : keyOf x < keyOf y → joinCalls (x ∷ xs) (y ∷ ys) ≡ x ∷ joinCalls xs (y ∷ ys)
-  unfolding joinCalls joinFrom
-  join-lt h = simp (lt-ltb (keyOf x) (keyOf y) h)
+  or-none : (k : ℕ) → (joinedFor xs ys k ≡ none) ⊎ In k (differentKeys (xs ∷ ys ∷ []))
+  unfolding joinedFor joinedAt
+  or-none k = go (recordOf k xs) (recordOf k ys) refl refl
+    where
+      go : (o p : Option Call) → recordOf k xs ≡ o → recordOf k ys ≡ p → (joinedAt o p ≡ none) ⊎ In k (differentKeys (xs ∷ ys ∷ []))
+      go none none e f = inl refl
+      go (some x) p e f = inr (in-different (xs ∷ ys ∷ []) xs k (here refl) (x, e))
+      go none (some y) e f = inr (in-different (xs ∷ ys ∷ []) ys k (there (here refl)) (y, f))
 
-  pub join-gt : keyOf y < keyOf x → joinCalls (x ∷ xs) (y ∷ ys) ≡ y ∷ joinCalls (x ∷ xs) ys
-  unfolding joinCalls joinFrom
-  join-gt h = simp (lt-ltb (keyOf y) (keyOf x) h, le-ltb (keyOf x) (keyOf y) (omega arith))
+  pub join-find : (k : ℕ) → recordOf k (joinCalls xs ys) ≡ joinedAt (recordOf k xs) (recordOf k ys)
+  unfolding joinCalls joinedFor
+  join-find k = at-find (joinedFor xs ys) joined-keyed k (differentKeys (xs ∷ ys ∷ [])) (or-none k)
 
-  pub join-eq : keyOf x ≡ keyOf y → joinCalls (x ∷ xs) (y ∷ ys) ≡ standing x y ∷ joinCalls xs ys
-  unfolding joinCalls joinFrom
-  join-eq h = simp (le-ltb (keyOf y) (keyOf x) (omega arith), le-ltb (keyOf x) (keyOf y) (omega arith))
+  pub join-rises : Rises 0 (joinCalls xs ys)
+  unfolding joinCalls
+  join-rises = at-rises (joinedFor xs ys) joined-keyed 0 (differentKeys (xs ∷ ys ∷ [])) (different-rise (xs ∷ ys ∷ []))
 
--- the same as a relation, to recurse on
-pub data Joins : List Call → List Call → List Call → Type 0 where
-  left : {ys : List Call} → Joins [] ys ys
-  right : {x : Call} {xs : List Call} → Joins (x ∷ xs) [] (x ∷ xs)
-  lower : {x y : Call} {xs ys zs : List Call} → keyOf x < keyOf y → Joins xs (y ∷ ys) zs → Joins (x ∷ xs) (y ∷ ys) (x ∷ zs)
-  upper : {x y : Call} {xs ys zs : List Call} → keyOf y < keyOf x → Joins (x ∷ xs) ys zs → Joins (x ∷ xs) (y ∷ ys) (y ∷ zs)
-  both : {x y : Call} {xs ys zs : List Call} → keyOf x ≡ keyOf y → Joins xs ys zs → Joins (x ∷ xs) (y ∷ ys) (standing x y ∷ zs)
-
-weaves : (x : Call) (xs : List Call) → ((ys : List Call) → Joins xs ys (joinCalls xs ys)) → (ys : List Call) → Joins (x ∷ xs) ys (joinCalls (x ∷ xs) ys)
-weaves x xs ih [] = rw (join-nil (x ∷ xs)) right
-weaves x xs ih (y ∷ ys) = go (three (keyOf x) (keyOf y)) (weaves x xs ih ys)
-  where
-    go : Three (keyOf x) (keyOf y) → Joins (x ∷ xs) ys (joinCalls (x ∷ xs) ys) → Joins (x ∷ xs) (y ∷ ys) (joinCalls (x ∷ xs) (y ∷ ys))
-    go (inl h) i = rw (join-lt x xs y ys h) (lower h (ih (y ∷ ys)))
-    go (inr (inl h)) i = rw (join-eq x xs y ys h) (both h (ih ys))
-    go (inr (inr h)) i = rw (join-gt x xs y ys h) (upper h i)
-
-pub joins : (xs ys : List Call) → Joins xs ys (joinCalls xs ys)
-unfolding joinCalls
-joins [] ys = left
-joins (x ∷ xs) ys = weaves x xs (joins xs) ys
-
--- rising, sound, and at least as long as either
-pub joins-rises : (m n : ℕ) {xs ys zs : List Call} → Joins xs ys zs → AllWithin m xs → AllWithin m ys → Rises n xs → Rises n ys → Rises n zs
-joins-rises m n left v w r s = s
-joins-rises m n right v w r s = r
-joins-rises m n (lower {x = x} h j) v w r s = (r .0, joins-rises m (suc (keyOf x)) j (v .1) w (r .1) (h, s .1))
-joins-rises m n (upper {y = y} h j) v w r s = (s .0, joins-rises m (suc (keyOf y)) j v (w .1) (h, r .1) (s .1))
-joins-rises m n (both {x = x} {y = y} {ys = ys} {zs = zs} h j) v w r s =
-    let e = stand-key x y (v .0) (w .0) h in
-    let low = r .0 in (
-      omega arith,
-      weaken (suc (keyOf (standing x y))) (suc (keyOf x)) zs (omega arith)
-          (joins-rises m (suc (keyOf x)) j (v .1) (w .1) (r .1) (weaken (suc (keyOf x)) (suc (keyOf y)) ys (omega arith) (s .1))),
-    )
-
-pub joins-within : (m : ℕ) {xs ys zs : List Call} → Joins xs ys zs → AllWithin m xs → AllWithin m ys → AllWithin m zs
-joins-within m left v w = w
-joins-within m right v w = v
-joins-within m (lower h j) v w = (v .0, joins-within m j (v .1) w)
-joins-within m (upper h j) v w = (w .0, joins-within m j v (w .1))
-joins-within m (both {x = x} {y = y} h j) v w = (stand-within x y (v .0) (w .0) h, joins-within m j (v .1) (w .1))
-
-pub joins-long : {xs ys zs : List Call} → Joins xs ys zs → (length xs ≤ length zs) × (length ys ≤ length zs)
-joins-long left = omega arith
-joins-long right = omega arith
-joins-long (lower h j) = let i = joins-long j in omega arith
-joins-long (upper h j) = let i = joins-long j in omega arith
-joins-long (both h j) = let i = joins-long j in omega arith
-
--- one key in a join; a list may have no record of it
-unfoldable pub standOf : Option Call → Option Call → Option Call
-standOf none o = o
-standOf (some x) none = some x
-standOf (some x) (some y) = some (standing x y)
-
-stand-none : (o : Option Call) → standOf o none ≡ o
-unfolding standOf
-stand-none none = refl
-stand-none (some x) = refl
-
-pub joins-find : (m k n : ℕ) {xs ys zs : List Call} → Joins xs ys zs → AllWithin m xs → AllWithin m ys → Rises n xs → Rises n ys
-    → recordOf k zs ≡ standOf (recordOf k xs) (recordOf k ys)
-unfolding standOf recordOf
-joins-find m k n left v w r s = refl
-joins-find m k n (right {x = x} {xs = xs}) v w r s = sym (stand-none (recordOf k (x ∷ xs)))
-joins-find m k n (lower {x = x} {y = y} {xs = xs} {ys = ys} {zs = zs} h j) v w r s =
-    go (joins-find m k (suc (keyOf x)) j (v .1) w (r .1) (h, s .1)) (ℕ-discrete (keyOf x) k)
-  where
-    go : recordOf k zs ≡ standOf (recordOf k xs) (recordOf k (y ∷ ys)) → Dec (keyOf x ≡ k)
-        → recordOf k (x ∷ zs) ≡ standOf (recordOf k (x ∷ xs)) (recordOf k (y ∷ ys))
-    go ih (yes e) = cc (find-hit k x zs e, find-hit k x xs e, find-below (keyOf y) k (y ∷ ys) (omega arith, s .1) (omega arith))
-    go ih (no e) = cc (find-miss k x zs e, find-miss k x xs e)
-joins-find m k n (upper {x = x} {y = y} {xs = xs} {ys = ys} {zs = zs} h j) v w r s =
-    go (joins-find m k (suc (keyOf y)) j v (w .1) (h, r .1) (s .1)) (ℕ-discrete (keyOf y) k)
-  where
-    go : recordOf k zs ≡ standOf (recordOf k (x ∷ xs)) (recordOf k ys) → Dec (keyOf y ≡ k)
-        → recordOf k (y ∷ zs) ≡ standOf (recordOf k (x ∷ xs)) (recordOf k (y ∷ ys))
-    go ih (yes e) = cc (find-hit k y zs e, find-hit k y ys e, find-below (keyOf x) k (x ∷ xs) (omega arith, r .1) (omega arith))
-    go ih (no e) = cc (find-miss k y zs e, find-miss k y ys e)
-joins-find m k n (both {x = x} {y = y} {xs = xs} {ys = ys} {zs = zs} h j) v w r s =
-    go (joins-find m k (suc (keyOf x)) j (v .1) (w .1) (r .1) (weaken (suc (keyOf x)) (suc (keyOf y)) ys (omega arith) (s .1))) (ℕ-discrete (keyOf x) k)
-  where
-    key : keyOf (standing x y) ≡ keyOf x
-    key = stand-key x y (v .0) (w .0) h
-
-    go : recordOf k zs ≡ standOf (recordOf k xs) (recordOf k ys) → Dec (keyOf x ≡ k)
-        → recordOf k (standing x y ∷ zs) ≡ standOf (recordOf k (x ∷ xs)) (recordOf k (y ∷ ys))
-    go ih (yes e) = cc (find-hit k (standing x y) zs (key ∙ e), find-hit k x xs e, find-hit k y ys (sym h ∙ e))
-    go ih (no e) =
-        cc (find-miss k (standing x y) zs (λ f. e (sym key ∙ f)), find-miss k x xs e, find-miss k y ys (λ f. e (h ∙ f)))
+  -- as many records as the lists have different keys
+  pub join-length : length (joinCalls xs ys) ≡ length (differentKeys (xs ∷ ys ∷ []))
+  unfolding joinCalls
+  join-length = at-length (joinedFor xs ys) (differentKeys (xs ∷ ys ∷ [])) joined-some

@@ -8,9 +8,10 @@ use native.Mathlib.Omega.{arith}
 use native.Mathlib.Decide.{decLt, ℕ-discrete}
 use borrow.Author.Tests.{eq-eqb, ne-eqb}
 use Rattle.call.specs.declared.Call.{Call}
-use Rattle.call.specs.Key.{keyOf}
-use Rattle.book.specs.Sound.{Rises}
-use Rattle.rule.specs.Whole.{recordOf}
+use Rattle.call.specs.Key.{callKey}
+use Rattle.call.specs.Service.{CallWithin}
+use Rattle.book.specs.Sound.{CallsWithin, Rises}
+use Rattle.rule.specs.Keys.{recordOf}
 
 -- less, equal or greater
 abbrev pub Three : ℕ → ℕ → Type 0
@@ -68,53 +69,57 @@ module _ {A : Type 0} (key : A → ℕ) where
 
 -- Calls
 
-pub rising : (n : ℕ) (cs : List Call) → Rises n cs → Rising keyOf n cs
+pub rising : (n : ℕ) (cs : List Call) → Rises n cs → Rising callKey n cs
 rising n [] r = tt
-rising n (c ∷ cs) r = (r .0, rising (suc (keyOf c)) cs (r .1))
+rising n (c ∷ cs) r = (r .0, rising (suc (callKey c)) cs (r .1))
 
 pub weaken : (m n : ℕ) (cs : List Call) → m ≤ n → Rises n cs → Rises m cs
 weaken m n [] h r = tt
 weaken m n (c ∷ cs) h r = (let q = r .0 in omega arith, r .1)
 
-pub call-above : (n : ℕ) (cs : List Call) (c : Call) → Rises n cs → In c cs → n ≤ keyOf c
-call-above n cs c r i = in-above keyOf n cs c (rising n cs r) i
+pub call-above : (n : ℕ) (cs : List Call) (c : Call) → Rises n cs → In c cs → n ≤ callKey c
+call-above n cs c r i = in-above callKey n cs c (rising n cs r) i
 
-pub find-hit : (k : ℕ) (c : Call) (cs : List Call) → keyOf c ≡ k → recordOf k (c ∷ cs) ≡ some c
-unfolding recordOf
-find-hit k c cs e = simp (eq-eqb (keyOf c) k e)
+pub within-in : (m : ℕ) (cs : List Call) (c : Call) → CallsWithin m cs → In c cs → CallWithin m c
+within-in m [] c w i = absurd (in-nil i)
+within-in m (d ∷ cs) c w i = ⊎-elim (λ (e : c ≡ d). rw e (w .0)) (λ j. within-in m cs c (w .1) j) (in-cons i)
 
-pub find-miss : (k : ℕ) (c : Call) (cs : List Call) → (keyOf c ≡ k → ⊥) → recordOf k (c ∷ cs) ≡ recordOf k cs
+pub find-hit : (k : ℕ) (c : Call) (cs : List Call) → callKey c ≡ k → recordOf k (c ∷ cs) ≡ some c
 unfolding recordOf
-find-miss k c cs e = simp (ne-eqb (keyOf c) k e)
+find-hit k c cs e = simp (eq-eqb (callKey c) k e)
+
+pub find-miss : (k : ℕ) (c : Call) (cs : List Call) → (callKey c ≡ k → ⊥) → recordOf k (c ∷ cs) ≡ recordOf k cs
+unfolding recordOf
+find-miss k c cs e = simp (ne-eqb (callKey c) k e)
 
 pub find-below : (n k : ℕ) (cs : List Call) → Rises n cs → k < n → recordOf k cs ≡ none
 unfolding recordOf
 find-below n k [] r h = refl
 find-below n k (c ∷ cs) r h =
     let q = r .0 in
-    find-miss k c cs (λ e. omega arith) ∙ find-below (suc (keyOf c)) k cs (r .1) (omega arith)
+    find-miss k c cs (λ e. omega arith) ∙ find-below (suc (callKey c)) k cs (r .1) (omega arith)
 
-pub in-find : (n : ℕ) (cs : List Call) (c : Call) → Rises n cs → In c cs → recordOf (keyOf c) cs ≡ some c
+pub in-find : (n : ℕ) (cs : List Call) (c : Call) → Rises n cs → In c cs → recordOf (callKey c) cs ≡ some c
 in-find n [] c r m = absurd (in-nil m)
 in-find n (d ∷ cs) c r m =
-    ⊎-elim (λ (e : c ≡ d). find-hit (keyOf c) d cs (ap keyOf (sym e)) ∙ ap some (sym e))
+    ⊎-elim (λ (e : c ≡ d). find-hit (callKey c) d cs (ap callKey (sym e)) ∙ ap some (sym e))
     (λ i.
-    let h = call-above (suc (keyOf d)) cs c (r .1) i in
-    find-miss (keyOf c) d cs (λ e. omega arith) ∙ in-find (suc (keyOf d)) cs c (r .1) i) (in-cons m)
+    let h = call-above (suc (callKey d)) cs c (r .1) i in
+    find-miss (callKey c) d cs (λ e. omega arith) ∙ in-find (suc (callKey d)) cs c (r .1) i) (in-cons m)
 
-pub find-in : (k : ℕ) (cs : List Call) (c : Call) → recordOf k cs ≡ some c → In c cs × (keyOf c ≡ k)
+pub find-in : (k : ℕ) (cs : List Call) (c : Call) → recordOf k cs ≡ some c → In c cs × (callKey c ≡ k)
 unfolding recordOf
 find-in k [] c e = let z : _≡_ {A = ℕ} 0 1 = cc in absurd (omega arith)
-find-in k (d ∷ cs) c e = go (find-in k cs c) (ℕ-discrete (keyOf d) k)
+find-in k (d ∷ cs) c e = go (find-in k cs c) (ℕ-discrete (callKey d) k)
   where
-    go : (recordOf k cs ≡ some c → In c cs × (keyOf c ≡ k)) → Dec (keyOf d ≡ k) → In c (d ∷ cs) × (keyOf c ≡ k)
-    go ih (yes p) = let h : c ≡ d = cc (find-hit k d cs p) in (here h, ap keyOf h ∙ p)
+    go : (recordOf k cs ≡ some c → In c cs × (callKey c ≡ k)) → Dec (callKey d ≡ k) → In c (d ∷ cs) × (callKey c ≡ k)
+    go ih (yes p) = let h : c ≡ d = cc (find-hit k d cs p) in (here h, ap callKey h ∙ p)
     go ih (no p) = let h = ih (sym (find-miss k d cs p) ∙ e) in (there (h .0), h .1)
 
 moved : (n : ℕ) (xs ys : List Call) → Rises n xs → ((k : ℕ) → recordOf k xs ≡ recordOf k ys) → (c : Call) → In c xs → In c ys
-moved n xs ys r h c i = find-in (keyOf c) ys c (sym (h (keyOf c)) ∙ in-find n xs c r i) .0
+moved n xs ys r h c i = find-in (callKey c) ys c (sym (h (callKey c)) ∙ in-find n xs c r i) .0
 
 -- two rising lists in which every key finds the same are one list
 pub ext-find : (n m : ℕ) (xs ys : List Call) → Rises n xs → Rises m ys → ((k : ℕ) → recordOf k xs ≡ recordOf k ys) → xs ≡ ys
 ext-find n m xs ys r s h =
-    ext-in keyOf n m xs ys (rising n xs r) (rising m ys s) (λ c. (moved n xs ys r h c, moved m ys xs s (λ k. sym (h k)) c))
+    ext-in callKey n m xs ys (rising n xs r) (rising m ys s) (λ c. (moved n xs ys r h c, moved m ys xs s (λ k. sym (h k)) c))

@@ -7,11 +7,13 @@ use Prim.Native.Nat.{ℕ, _≤_, _<_, _+_}
 use native.Mathlib.Omega.{arith}
 use borrow.Author.Tests.{lt-ltb, le-ltb, eqb-true, eqb-false}
 use Rattle.call.specs.declared.Call.{Call}
-use Rattle.call.specs.Key.{keyOf}
-use Rattle.call.specs.Revising.{contested, withdrawn, struckOf, contestedOf, withdrawnOf}
-use Rattle.call.specs.Service.{Within, Stated, is-live, is-contested, is-withdrawn, Blank}
+use Rattle.call.specs.Key.{callKey}
+use Rattle.call.specs.Revising.{contested, withdrawn, callStruck, callContested, callWithdrawn}
+use Rattle.call.specs.Service.{CallWithin, Stated, is-live, is-contested, is-withdrawn, Blank}
 use Rattle.call.proofs.Keys.{key-same}
-use Rattle.rule.specs.Standing.{sameCall, isContested, isWithdrawn, decision, given, standing}
+use Rattle.rule.specs.declared.Decision.{Decision}
+use Rattle.rule.specs.declared.Decision.the-variants.{First, Second, Struck}
+use Rattle.rule.specs.Standing.{sameCall, isContested, isWithdrawn, decide, given, standing}
 use Rattle.rule.proofs.Equality.{same-eq, eq-same}
 use Rattle.rule.proofs.Keyed.{Three, three}
 
@@ -29,34 +31,34 @@ stateIf true = withdrawn
 stateIf false = contested
 
 unfoldable pub blank : Call → Call
-blank c = struckOf (stateIf (isWithdrawn c)) c
+blank c = callStruck (stateIf (isWithdrawn c)) c
 
 -- a test, as a number's fact
 pub data Is (c : Call) : Type 0 where
-  gone : isWithdrawn c ≡ true → c .state ≡ 2 → rank c ≡ 4294967296 + c .revision → blank c ≡ withdrawnOf c → Is c
-  stays : isWithdrawn c ≡ false → (c .state ≡ 2 → ⊥) → rank c ≡ c .revision → blank c ≡ contestedOf c → Is c
+  gone : isWithdrawn c ≡ true → c .state ≡ 2 → rank c ≡ 4294967296 + c .revision → blank c ≡ callWithdrawn c → Is c
+  stays : isWithdrawn c ≡ false → (c .state ≡ 2 → ⊥) → rank c ≡ c .revision → blank c ≡ callContested c → Is c
 
 pub is : (c : Call) → Is c
 unfolding rank blank rankIf stateIf
 is c = go (isWithdrawn c) refl
   where
     go : (b : Bool) → isWithdrawn c ≡ b → Is c
-    go true e = gone e (eqb-true _ _ e) (ap (λ (b : Bool). rankIf b (c .revision)) e) (ap (λ (b : Bool). struckOf (stateIf b) c) e)
-    go false e = stays e (eqb-false _ _ e) (ap (λ (b : Bool). rankIf b (c .revision)) e) (ap (λ (b : Bool). struckOf (stateIf b) c) e)
+    go true e = gone e (eqb-true _ _ e) (ap (λ (b : Bool). rankIf b (c .revision)) e) (ap (λ (b : Bool). callStruck (stateIf b) c) e)
+    go false e = stays e (eqb-false _ _ e) (ap (λ (b : Bool). rankIf b (c .revision)) e) (ap (λ (b : Bool). callStruck (stateIf b) c) e)
 
-rank-withdrawn : (c : Call) → rank (withdrawnOf c) ≡ 4294967296 + c .revision
+rank-withdrawn : (c : Call) → rank (callWithdrawn c) ≡ 4294967296 + c .revision
 unfolding rank rankIf
 rank-withdrawn c = refl
 
-rank-contested : (c : Call) → rank (contestedOf c) ≡ c .revision
+rank-contested : (c : Call) → rank (callContested c) ≡ c .revision
 unfolding rank rankIf
 rank-contested c = refl
 
-blank-withdrawn : (c : Call) → blank (withdrawnOf c) ≡ withdrawnOf c
+blank-withdrawn : (c : Call) → blank (callWithdrawn c) ≡ callWithdrawn c
 unfolding blank stateIf
 blank-withdrawn c = refl
 
-blank-contested : (c : Call) → blank (contestedOf c) ≡ contestedOf c
+blank-contested : (c : Call) → blank (callContested c) ≡ callContested c
 unfolding blank stateIf
 blank-contested c = refl
 
@@ -107,10 +109,10 @@ below-anti x y (inr (inr p)) (inr (inr q)) = q ∙ ap blank p ∙ blank-blank x 
 -- Records of sound books
 
 -- a contested or withdrawn record has nothing in it
-pub struck-own : {m : ℕ} (c : Call) → Within m c → 1 ≤ c .state → c ≡ struckOf (c .state) c
+pub struck-own : {m : ℕ} (c : Call) → CallWithin m c → 1 ≤ c .state → c ≡ callStruck (c .state) c
 struck-own {m} c p h = go (p .content)
   where
-    emptied : Blank c → c ≡ struckOf (c .state) c
+    emptied : Blank c → c ≡ callStruck (c .state) c
     emptied b =
         λ i. record {
           participant = c .participant;
@@ -125,24 +127,24 @@ struck-own {m} c p h = go (p .content)
           c = b .no-c i;
         }
 
-    go : Stated m c → c ≡ struckOf (c .state) c
+    go : Stated m c → c ≡ callStruck (c .state) c
     go (is-live s f r) = absurd (omega arith)
     go (is-contested s b) = emptied b
     go (is-withdrawn s b) = emptied b
 
-pub own-withdrawn : {m : ℕ} (c : Call) → Within m c → c .state ≡ withdrawn → c ≡ withdrawnOf c
-own-withdrawn c p e = struck-own c p (omega arith) ∙ ap (λ (s : ℕ). struckOf s c) e
+pub own-withdrawn : {m : ℕ} (c : Call) → CallWithin m c → c .state ≡ withdrawn → c ≡ callWithdrawn c
+own-withdrawn c p e = struck-own c p (omega arith) ∙ ap (λ (s : ℕ). callStruck s c) e
 
-pub own-contested : {m : ℕ} (c : Call) → Within m c → c .state ≡ contested → c ≡ contestedOf c
-own-contested c p e = struck-own c p (omega arith) ∙ ap (λ (s : ℕ). struckOf s c) e
+pub own-contested : {m : ℕ} (c : Call) → CallWithin m c → c .state ≡ contested → c ≡ callContested c
+own-contested c p e = struck-own c p (omega arith) ∙ ap (λ (s : ℕ). callStruck s c) e
 
 -- records of one key, struck at one revision, are one
-pub one-struck : {m : ℕ} (x y : Call) (s : ℕ) → Within m x → Within m y → keyOf x ≡ keyOf y → x .revision ≡ y .revision → struckOf s x ≡ struckOf s y
+pub one-struck : {m : ℕ} (x y : Call) (s : ℕ) → CallWithin m x → CallWithin m y → callKey x ≡ callKey y → x .revision ≡ y .revision → callStruck s x ≡ callStruck s y
 one-struck x y s p q k e =
     let h = key-same x y (p .number) (q .number) k in
-    λ i. record { participant = h .0 i; service = 0; state = s; number = h .1 i; revision = e i; start = 0; length = 0; a = struckOf s x .a; b = 0; c = 0 }
+    λ i. record { participant = h .0 i; service = 0; state = s; number = h .1 i; revision = e i; start = 0; length = 0; a = callStruck s x .a; b = 0; c = 0 }
 
-pub level : {m : ℕ} (x y : Call) → Within m x → Within m y → keyOf x ≡ keyOf y → rank x ≡ rank y → blank x ≡ blank y
+pub level : {m : ℕ} (x y : Call) → CallWithin m x → CallWithin m y → callKey x ≡ callKey y → rank x ≡ rank y → blank x ≡ blank y
 level x y p q k r = go (is x) (is y)
   where
     go : Is x → Is y → blank x ≡ blank y
@@ -152,7 +154,7 @@ level x y p q k r = go (is x) (is y)
     go (stays _ _ rx bx) (stays _ _ ry by) = bx ∙ one-struck x y contested p q k (omega arith) ∙ sym by
 
 -- a withdrawn record is its own blank
-pub own-blank : {m : ℕ} (x : Call) → Within m x → x .state ≡ withdrawn → x ≡ blank x
+pub own-blank : {m : ℕ} (x : Call) → CallWithin m x → x .state ≡ withdrawn → x ≡ blank x
 own-blank x p e = go (is x)
   where
     go : Is x → x ≡ blank x
@@ -166,11 +168,21 @@ pub data Stood (x y : Call) : Type 0 where
   equal : x ≡ y → standing x y ≡ x → Stood x y
   clash : rank x ≡ rank y → (x ≡ y → ⊥) → standing x y ≡ blank x → Stood x y
 
-module _ {m : ℕ} (x y : Call) (p : Within m x) (q : Within m y) (k : keyOf x ≡ keyOf y) where
+-- the record that stands has the same key
+pub stand-key : (x y : Call) → callKey x ≡ callKey y → callKey (standing x y) ≡ callKey x
+unfolding standing given
+stand-key x y k = go (decide x y)
+  where
+    go : (d : Decision) → callKey (given d x y) ≡ callKey x
+    go First = refl
+    go Second = sym k
+    go Struck = refl
+
+module _ {m : ℕ} (x y : Call) (p : CallWithin m x) (q : CallWithin m y) (k : callKey x ≡ callKey y) where
   -- at one revision, neither withdrawn
   module _ (tx : isWithdrawn x ≡ false) (ty : isWithdrawn y ≡ false) (h : x .revision ≡ y .revision) where
-    unequal : sameCall x y ≡ false → (c d : Bool) → isContested x ≡ c → isContested y ≡ d → standing x y ≡ contestedOf x
-    unfolding standing decision given
+    unequal : sameCall x y ≡ false → (c d : Bool) → isContested x ≡ c → isContested y ≡ d → standing x y ≡ callContested x
+    unfolding standing decide given
     unequal e true d f g =
         simp (tx, ty, le-ltb (x .revision) (y .revision) (omega arith), le-ltb (y .revision) (x .revision) (omega arith), e, f) (own-contested x p (eqb-true _ _ f))
     unequal e false true f g =
@@ -180,15 +192,15 @@ module _ {m : ℕ} (x y : Call) (p : Within m x) (q : Within m y) (k : keyOf x �
         simp (tx, ty, le-ltb (x .revision) (y .revision) (omega arith), le-ltb (y .revision) (x .revision) (omega arith), e, f, g)
 
     same-stands : sameCall x y ≡ true → standing x y ≡ x
-    unfolding standing decision given
+    unfolding standing decide given
     same-stands e = simp (tx, ty, le-ltb (x .revision) (y .revision) (omega arith), le-ltb (y .revision) (x .revision) (omega arith), e)
 
-    alike : rank x ≡ rank y → blank x ≡ contestedOf x → (b : Bool) → sameCall x y ≡ b → Stood x y
+    alike : rank x ≡ rank y → blank x ≡ callContested x → (b : Bool) → sameCall x y ≡ b → Stood x y
     alike r bx true e = equal (same-eq x y e) (same-stands e)
     alike r bx false e = clash r (λ (d : x ≡ y). true≢false (sym (eq-same x y d) ∙ e)) (unequal e _ _ refl refl ∙ sym bx)
 
   -- at equal revision unequal records, a contested one against a live one included, become contested at that revision
-  pub unequal-contested : isWithdrawn x ≡ false → isWithdrawn y ≡ false → x .revision ≡ y .revision → (x ≡ y → ⊥) → standing x y ≡ contestedOf x
+  pub unequal-contested : isWithdrawn x ≡ false → isWithdrawn y ≡ false → x .revision ≡ y .revision → (x ≡ y → ⊥) → standing x y ≡ callContested x
   unequal-contested tx ty h n = unequal tx ty h (go (sameCall x y) refl) _ _ refl refl
     where
       go : (b : Bool) → sameCall x y ≡ b → sameCall x y ≡ false
@@ -196,7 +208,7 @@ module _ {m : ℕ} (x y : Call) (p : Within m x) (q : Within m y) (k : keyOf x �
       go false e = e
 
   pub stood : Stood x y
-  unfolding standing decision given
+  unfolding standing decide given
   stood = go (is x) (is y) (three (x .revision) (y .revision))
     where
       go : Is x → Is y → Three (x .revision) (y .revision) → Stood x y
@@ -246,34 +258,24 @@ module _ {m : ℕ} (x y : Call) (p : Within m x) (q : Within m y) (k : keyOf x �
       go (equal h e) = rw e bx
       go (clash h n e) = rw e (apart h n bx by)
 
-  -- the record that stands is sound, and of the same key
-  pub stand-key : keyOf (standing x y) ≡ keyOf x
-  unfolding blank
-  stand-key = go stood
-    where
-      go : Stood x y → keyOf (standing x y) ≡ keyOf x
-      go (second h e) = rw e (sym k)
-      go (first h e) = rw e
-      go (equal h e) = rw e
-      go (clash h n e) = ap keyOf e
-
-  struck-within : (s : ℕ) → Stated m (struckOf s x) → Within m (struckOf s x)
+  -- the record that stands is sound
+  struck-within : (s : ℕ) → Stated m (callStruck s x) → CallWithin m (callStruck s x)
   struck-within s c = record { participant = p .participant; number = p .number; revision = p .revision; content = c }
 
-  empty : (s : ℕ) → Blank (struckOf s x)
+  empty : (s : ℕ) → Blank (callStruck s x)
   empty s = record { service = refl; time = record { no-start = refl; no-length = refl }; no-a = refl; no-b = refl; no-c = refl }
 
-  blank-within : Within m (blank x)
+  blank-within : CallWithin m (blank x)
   blank-within = go (is x)
     where
-      go : Is x → Within m (blank x)
+      go : Is x → CallWithin m (blank x)
       go (gone t s r b) = rw b (struck-within withdrawn (is-withdrawn refl (empty withdrawn)))
       go (stays t s r b) = rw b (struck-within contested (is-contested refl (empty contested)))
 
-  pub stand-within : Within m (standing x y)
+  pub stand-within : CallWithin m (standing x y)
   stand-within = go stood
     where
-      go : Stood x y → Within m (standing x y)
+      go : Stood x y → CallWithin m (standing x y)
       go (second h e) = rw e q
       go (first h e) = rw e p
       go (equal h e) = rw e p

@@ -1,7 +1,10 @@
 pub mod Equality
+pub mod Equal
 pub mod Keyed
 pub mod Lattice
+pub mod Different
 pub mod Joins
+pub mod Merging
 pub mod Bounds
 pub mod Ruling
 pub mod Orders

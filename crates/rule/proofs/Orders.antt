@@ -7,13 +7,13 @@ use mathlib.Core.Option.{Option, none, some}
 use Prim.Native.Nat.{ℕ, _≤_}
 use native.Mathlib.Omega.{arith}
 use Rattle.call.specs.declared.Call.{Call}
-use Rattle.call.specs.Service.{Within}
+use Rattle.call.specs.Service.{CallWithin}
 use Rattle.rule.specs.Standing.{isWithdrawn}
 use Rattle.rule.specs.Joined.{joinCalls}
-use Rattle.rule.specs.Whole.{recordOf, ruleOver, Tree, leaf, node, leaves, joined}
-use Rattle.rule.proofs.Keyed.{find-in}
+use Rattle.rule.specs.Keys.{recordOf}
+use Rattle.rule.specs.Whole.{ruleOver, Tree, leaf, node, leaves, joined}
+use Rattle.rule.proofs.Keyed.{find-in, within-in}
 use Rattle.rule.proofs.Lattice.{below-rank, rank}
-use Rattle.rule.proofs.Joins.{within-in}
 use Rattle.rule.proofs.Bounds.{Under, Calls, Sounds, least-one, tree-sound, tree-least, trees-agree}
 use Rattle.rule.proofs.Ruling.{rule-least, gone-rank, here-rank}
 
@@ -47,7 +47,7 @@ stays-withdrawn m t bs o s b i k w e g = go (recordOf k (joined t)) refl
     under : Under (some w) (recordOf k (joined t))
     under = subst (λ (p : Option Call). Under p (recordOf k (joined t))) e (tree-least m k t sounds .above b (o .all b i))
 
-    high : (r : Call) → Within m r → rank w ≤ rank r → (c : Bool) → isWithdrawn r ≡ c → isWithdrawn r ≡ true
+    high : (r : Call) → CallWithin m r → rank w ≤ rank r → (c : Bool) → isWithdrawn r ≡ c → isWithdrawn r ≡ true
     high r p h true q = q
     high r p h false q = absurd (omega (arith, gone-rank w g, here-rank r (λ v. true≢false (sym v ∙ q)) .0, p .revision .1))
 

@@ -11,16 +11,17 @@ use lib.Dec.{eqb}
 use lib.IntN.{pos}
 use borrow.Author.Tests.{eq-eqb, eqb-true}
 use Rattle.call.specs.declared.Call.{Call}
-use Rattle.call.specs.Key.{keyOf}
-use Rattle.call.specs.Revising.{withdrawn, contestedOf, withdrawnOf}
-use Rattle.call.specs.Service.{Within}
+use Rattle.call.specs.Key.{callKey}
+use Rattle.call.specs.Revising.{withdrawn, callContested, callWithdrawn}
+use Rattle.call.specs.Service.{CallWithin}
 use Rattle.call.proofs.Keys.{key-same}
 use Rattle.rule.specs.Standing.{sameCall, isWithdrawn, standing}
-use Rattle.rule.specs.Whole.{recordOf, also, recordsOf, those, all, highest, withdrawnAt, ruling, ruleFor, ruleOver}
+use Rattle.rule.specs.Keys.{recordOf, also}
+use Rattle.rule.specs.Whole.{recordsOf, those, all, highest, withdrawnAt, ruling, ruleFor, ruleOver}
 use Rattle.rule.proofs.Equality.{same-eq, eq-same}
 use Rattle.rule.proofs.Keyed.{Three, three, find-in}
 use Rattle.rule.proofs.Lattice.{Below, rank, blank, Is, gone, stays, is, own-blank, own-withdrawn, level, rank-blank, Stood, second, first, equal, clash, stood, stand-least}
-use Rattle.rule.proofs.Joins.{within-in}
+use Rattle.rule.proofs.Keyed.{within-in}
 use Rattle.rule.proofs.Bounds.{Under, Sounds, Least}
 
 -- lists that pass a test
@@ -130,15 +131,15 @@ gone-rank c t = go (is c)
     go (gone _ _ r _) = r
     go (stays _ n _ _) = absurd (n (eqb-true _ _ t))
 
-pub here-rank : (c : Call) → (isWithdrawn c ≡ true → ⊥) → (rank c ≡ c .revision) × (blank c ≡ contestedOf c)
+pub here-rank : (c : Call) → (isWithdrawn c ≡ true → ⊥) → (rank c ≡ c .revision) × (blank c ≡ callContested c)
 here-rank c t = go (is c)
   where
-    go : Is c → (rank c ≡ c .revision) × (blank c ≡ contestedOf c)
+    go : Is c → (rank c ≡ c .revision) × (blank c ≡ callContested c)
     go (gone u _ _ _) = absurd (t u)
     go (stays _ _ r b) = (r, b)
 
 -- the call of w withdrawn at the revision of d, of the same key
-one-withdrawn : {m : ℕ} (w d : Call) (r : ℕ) → Within m w → Within m d → keyOf w ≡ keyOf d → d .revision ≡ r → withdrawnAt r w ≡ withdrawnOf d
+one-withdrawn : {m : ℕ} (w d : Call) (r : ℕ) → CallWithin m w → CallWithin m d → callKey w ≡ callKey d → d .revision ≡ r → withdrawnAt r w ≡ callWithdrawn d
 unfolding withdrawnAt
 one-withdrawn w d r p q k e =
     let h = key-same w d (p .number) (q .number) k in
@@ -150,8 +151,8 @@ kept p cs rs e c i = those-in p cs c (subst (λ (l : List Call). In c l) (sym e)
 keeps : (p : Call → Bool) (cs rs : List Call) → those p cs ≡ rs → (c : Call) → In c cs → p c ≡ true → In c rs
 keeps p cs rs e c i t = subst (λ (l : List Call). In c l) e (in-those p cs c i t)
 
-module _ (m k : ℕ) (cs : List Call) (good : (c : Call) → In c cs → Within m c × (keyOf c ≡ k)) where
-  one : (c d : Call) → In c cs → In d cs → keyOf c ≡ keyOf d
+module _ (m k : ℕ) (cs : List Call) (good : (c : Call) → In c cs → CallWithin m c × (callKey c ≡ k)) where
+  one : (c d : Call) → In c cs → In d cs → callKey c ≡ callKey d
   one c d i j = good c i .1 ∙ sym (good d j .1)
 
   -- where a record is withdrawn
@@ -175,7 +176,7 @@ module _ (m k : ℕ) (cs : List Call) (good : (c : Call) → In c cs → Within 
 
   -- where none is
   module _ (e : those isWithdrawn cs ≡ []) where
-    none-gone : (c : Call) → In c cs → (rank c ≡ c .revision) × (blank c ≡ contestedOf c)
+    none-gone : (c : Call) → In c cs → (rank c ≡ c .revision) × (blank c ≡ callContested c)
     none-gone c i = here-rank c (λ t. in-nil (keeps isWithdrawn cs [] e c i t))
 
     rule-none : those (λ c. eqb (c .revision) (highest cs)) cs ≡ [] → Over cs none
@@ -206,7 +207,7 @@ module _ (m k : ℕ) (cs : List Call) (good : (c : Call) → In c cs → Within 
               let found = keeps (λ c. eqb (c .revision) (highest cs)) cs (t ∷ ts) f c i (eq-eqb _ _ (sym (none-gone c i .0) ∙ r ∙ rank-t)) in
               ⊎-elim (λ (h : c ≡ t). h) (λ j. sym (same-eq t c (all-in (sameCall t) ts a c j))) (in-cons found)
 
-      rule-clash : all (sameCall t) ts ≡ false → Over cs (some (contestedOf t))
+      rule-clash : all (sameCall t) ts ≡ false → Over cs (some (callContested t))
       rule-clash a =
           rw (sym (none-gone t t-in .1))
           (record {
@@ -237,7 +238,7 @@ module _ (m k : ℕ) (cs : List Call) (good : (c : Call) → In c cs → Within 
   decided [] [] e f = rule-none e f
   decided [] (t ∷ ts) e f = go (all (sameCall t) ts) refl
     where
-      go : (b : Bool) → all (sameCall t) ts ≡ b → Over cs (some (cond b t (contestedOf t)))
+      go : (b : Bool) → all (sameCall t) ts ≡ b → Over cs (some (cond b t (callContested t)))
       go true a = rule-alike e t ts f a
       go false a = rule-clash e t ts f a
 
@@ -250,7 +251,7 @@ pub rule-least : (m : ℕ) (bs : List (List Call)) (k : ℕ) → Sounds m bs →
 unfolding ruleOver
 rule-least m bs k s = record { above = λ b i. up b i (recordOf k b) refl; least = λ z u. over .least z (λ c i. down z u c (records-in k bs c i)) }
   where
-    good : (c : Call) → In c (recordsOf k bs) → Within m c × (keyOf c ≡ k)
+    good : (c : Call) → In c (recordsOf k bs) → CallWithin m c × (callKey c ≡ k)
     good c i =
         let h = records-in k bs c i in
         let f = find-in k (h .0) c (h .2) in

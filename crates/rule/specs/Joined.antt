@@ -1,20 +1,22 @@
--- Joining two lists of calls whose keys rise. Assumes nothing.
-use mathlib.Core.Bool.{cond}
+-- Joining two lists of calls, key by key. Assumes nothing.
 use mathlib.Core.List.{List, [], _∷_}
-use lib.Dec.{ltb}
+use mathlib.Core.Option.{Option, none, some}
+use Prim.Native.Nat.{ℕ}
 use Rattle.call.specs.declared.Call.{Call}
-use Rattle.call.specs.Key.{keyOf}
 use Rattle.rule.specs.Standing.{standing}
+use Rattle.rule.specs.Keys.{recordOf, differentKeys, recordsAt}
 
--- x and what follows it against the second list; `rest` joins what follows x
-unfoldable pub joinFrom : Call → List Call → (List Call → List Call) → List Call → List Call
-joinFrom x xs rest [] = x ∷ xs
-joinFrom x xs rest (y ∷ ys) =
-    cond (ltb (keyOf x) (keyOf y)) (x ∷ rest (y ∷ ys))
-    (cond (ltb (keyOf y) (keyOf x)) (y ∷ joinFrom x xs rest ys)
-    (standing x y ∷ rest ys))
+-- of what two lists have for a key: a key in one only keeps its record; in both, the one that stands
+unfoldable pub joinedAt : Option Call → Option Call → Option Call
+joinedAt none none = none
+joinedAt (some x) none = some x
+joinedAt none (some y) = some y
+joinedAt (some x) (some y) = some (standing x y)
 
--- a key in one list only keeps its record; in both, the one that stands
+-- the joined record of a key
+unfoldable pub joinedFor : List Call → List Call → ℕ → Option Call
+joinedFor xs ys k = joinedAt (recordOf k xs) (recordOf k ys)
+
+-- for each of the different keys of the two lists, rising, its joined record
 unfoldable pub joinCalls : List Call → List Call → List Call
-joinCalls [] ys = ys
-joinCalls (x ∷ xs) ys = joinFrom x xs (joinCalls xs) ys
+joinCalls xs ys = recordsAt (joinedFor xs ys) (differentKeys (xs ∷ ys ∷ []))

@@ -1,3 +1,5 @@
 pub mod Standing
+pub mod Keys
 pub mod Joined
 pub mod Whole
+pub mod Inner

@@ -3,7 +3,7 @@ use mathlib.Core.Bool.{Bool, cond, not, _&&_, _||_}
 use lib.Dec.{ltb, eqb}
 use lib.Signed.{leZ}
 use Rattle.call.specs.declared.Call.{Call}
-use Rattle.call.specs.Revising.{contested, withdrawn, contestedOf}
+use Rattle.call.specs.Revising.{contested, withdrawn, callContested}
 use Rattle.rule.specs.declared.Decision.{Decision}
 use Rattle.rule.specs.declared.Decision.the-variants.{First, Second, Struck}
 
@@ -30,8 +30,8 @@ isWithdrawn c = eqb (c .state) withdrawn
 
 -- withdrawn beats live and contested whatever the revisions; of two withdrawn, and otherwise, the higher revision stands;
 -- at equal revision equal records stay, and of unequal ones a contested one stands; two live ones are struck
-unfoldable pub decision : Call → Call → Decision
-decision x y =
+unfoldable pub decide : Call → Call → Decision
+decide x y =
     cond (isWithdrawn x && not (isWithdrawn y)) First
     (cond (not (isWithdrawn x) && isWithdrawn y) Second
     (cond (ltb (y .revision) (x .revision)) First
@@ -40,12 +40,12 @@ decision x y =
     (cond (isContested y) Second
     Struck)))))
 
--- the record that a decision gives: the first book's, the second's, or a contested one at that revision
+-- the record that a decide gives: the first book's, the second's, or a contested one at that revision
 unfoldable pub given : Decision → Call → Call → Call
 given First x y = x
 given Second x y = y
-given Struck x y = contestedOf x
+given Struck x y = callContested x
 
 -- the record that stands, of two of one key
 unfoldable pub standing : Call → Call → Call
-standing x y = given (decision x y) x y
+standing x y = given (decide x y) x y

@@ -3,23 +3,13 @@ use mathlib.Core.Bool.{Bool, true, cond, _&&_}
 use mathlib.Core.List.{List, [], _∷_, _++_}
 use mathlib.Core.Option.{Option, none, some}
 use Prim.Native.Nat.{ℕ, max}
-use lib.Dec.{ltb, eqb}
+use lib.Dec.{eqb}
 use lib.IntN.{pos}
 use Rattle.call.specs.declared.Call.{Call}
-use Rattle.call.specs.Key.{keyOf}
-use Rattle.call.specs.Revising.{withdrawn, contestedOf}
+use Rattle.call.specs.Revising.{withdrawn, callContested}
 use Rattle.rule.specs.Standing.{sameCall, isWithdrawn}
+use Rattle.rule.specs.Keys.{recordOf, also, differentKeys, recordsAt}
 use Rattle.rule.specs.Joined.{joinCalls}
-
--- the record that a book has for a key
-unfoldable pub recordOf : ℕ → List Call → Option Call
-recordOf k [] = none
-recordOf k (c ∷ cs) = cond (eqb (keyOf c) k) (some c) (recordOf k cs)
-
--- a record, where there is one, in front of others
-unfoldable pub also : Option Call → List Call → List Call
-also none cs = cs
-also (some c) cs = c ∷ cs
 
 -- the records that the books have for a key
 unfoldable pub recordsOf : ℕ → List (List Call) → List Call
@@ -60,7 +50,7 @@ withdrawnAt revision c =
 unfoldable pub ruling : List Call → List Call → Option Call
 ruling (w ∷ ws) ts = some (withdrawnAt (highest (w ∷ ws)) w)
 ruling [] [] = none
-ruling [] (t ∷ ts) = some (cond (all (sameCall t) ts) t (contestedOf t))
+ruling [] (t ∷ ts) = some (cond (all (sameCall t) ts) t (callContested t))
 
 unfoldable pub ruleFor : List Call → Option Call
 ruleFor cs = ruling (those isWithdrawn cs) (those (λ c. eqb (c .revision) (highest cs)) cs)
@@ -68,24 +58,6 @@ ruleFor cs = ruling (those isWithdrawn cs) (those (λ c. eqb (c .revision) (high
 -- the record of a key, over a whole list of books
 unfoldable pub ruleOver : List (List Call) → ℕ → Option Call
 ruleOver bs k = ruleFor (recordsOf k bs)
-
--- a key put among rising keys, once
-unfoldable pub put : ℕ → List ℕ → List ℕ
-put k [] = k ∷ []
-put k (j ∷ js) = cond (ltb k j) (k ∷ j ∷ js) (cond (ltb j k) (j ∷ put k js) (j ∷ js))
-
-unfoldable pub putAll : List Call → List ℕ → List ℕ
-putAll [] js = js
-putAll (c ∷ cs) js = put (keyOf c) (putAll cs js)
-
--- the different keys of the books, rising
-unfoldable pub differentKeys : List (List Call) → List ℕ
-differentKeys [] = []
-differentKeys (b ∷ bs) = putAll b (differentKeys bs)
-
-unfoldable pub recordsAt : (ℕ → Option Call) → List ℕ → List Call
-recordsAt f [] = []
-recordsAt f (k ∷ ks) = also (f k) (recordsAt f ks)
 
 -- the rule's record at each of the different keys
 unfoldable pub ruleCalls : List (List Call) → List Call

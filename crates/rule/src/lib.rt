@@ -1,7 +1,16 @@
-// The rule for one key: which of two records stands.
-use call::Call;
+// The rule for one key: which of two records stands, each in the 32 bytes from a place on.
+use call::CONTESTED;
+use call::WITHDRAWN;
+use call::layout::revision_at;
+use call::layout::state_at;
+use le::u64_at;
 ghost use mathlib.Core.Path.{_≡_};
-ghost use Rattle.rule.specs.Standing.{sameCall, decision};
+ghost use Prim.Native.Nat.{_+_, _≤_};
+ghost use lib.Dec.{eqb};
+ghost use lib.ListN.{length};
+ghost use Rattle.le.specs.Le.{leAt};
+ghost use Rattle.call.specs.Layout.{callAt};
+ghost use Rattle.rule.specs.Standing.{sameCall, decide};
 
 // What becomes of a key that both books have: the first book's record stands, or the second's, or neither,
 // and the record is struck: contested at that revision.
@@ -11,43 +20,63 @@ pub enum Decision {
     Struck,
 }
 
-fn same(x: Call, y: Call) -> bool
-    ensures { λ r. ⌜ r ≡ sameCall x y ⌝ }
+fn same_word_at(first: &[u8], a: usize, second: &[u8], b: usize) -> bool
+    requires { ⌜ a + 8 ≤ length (now first) ⌝ }
+    requires { ⌜ b + 8 ≤ length (now second) ⌝ }
+    ensures { λ r. ⌜ r ≡ eqb (leAt (now (first .entry)) a 8) (leAt (now (second .entry)) b 8) ⌝ }
 {
-    (x.participant == y.participant)
-        & (x.service == y.service)
-        & (x.state == y.state)
-        & (x.number == y.number)
-        & (x.revision == y.revision)
-        & (x.start == y.start)
-        & (x.length == y.length)
-        & (x.a <= y.a)
-        & (y.a <= x.a)
-        & (x.b == y.b)
-        & (x.c == y.c)
+    let x = u64_at(first, a);
+    let y = u64_at(second, b);
+    x == y
 }
 
-// Of two records of one key. A withdrawn one beats any other; then the higher revision stands.
-pub fn decide(x: Call, y: Call) -> Decision
-    ensures { λ r. ⌜ r ≡ decision x y ⌝ }
+// Whether two records of one revision are equal: all their bytes but those of the revision, and the last four. Eight bytes at a
+// time, since a join asks it of every key at one revision.
+fn same_call_at(first: &[u8], a: usize, second: &[u8], b: usize) -> bool
+    requires { ⌜ a + 32 ≤ length (now first) ⌝ }
+    requires { ⌜ b + 32 ≤ length (now second) ⌝ }
+    requires { ⌜ callAt (now first) a .revision ≡ callAt (now second) b .revision ⌝ }
+    ensures { λ r. ⌜ r ≡ sameCall (callAt (now (first .entry)) a) (callAt (now (second .entry)) b) ⌝ }
 {
-    let alike = same(x, y);
-    if (x.state == 2) & (y.state != 2) {
+    if !same_word_at(first, a, second, b) {
+        return false;
+    }
+    if !same_word_at(first, a + 12, second, b + 12) {
+        return false;
+    }
+    same_word_at(first, a + 20, second, b + 20)
+}
+
+// Of two records of one key. A withdrawn one beats any other; then the higher revision stands. It reads only what it needs, and
+// compares the records whole only at one revision.
+pub fn decide_at(first: &[u8], a: usize, second: &[u8], b: usize) -> Decision
+    requires { ⌜ a + 32 ≤ length (now first) ⌝ }
+    requires { ⌜ b + 32 ≤ length (now second) ⌝ }
+    ensures { λ r. ⌜ r ≡ decide (callAt (now (first .entry)) a) (callAt (now (second .entry)) b) ⌝ }
+{
+    let x = state_at(first, a);
+    let y = state_at(second, b);
+    if (x == WITHDRAWN) & (y != WITHDRAWN) {
         return Decision::First;
     }
-    if (x.state != 2) & (y.state == 2) {
+    if (x != WITHDRAWN) & (y == WITHDRAWN) {
         return Decision::Second;
     }
-    if y.revision < x.revision {
+    let r = revision_at(first, a);
+    let s = revision_at(second, b);
+    if s < r {
         return Decision::First;
     }
-    if x.revision < y.revision {
+    if r < s {
         return Decision::Second;
     }
-    if alike | (x.state == 1) {
+    if x == CONTESTED {
         return Decision::First;
     }
-    if y.state == 1 {
+    if same_call_at(first, a, second, b) {
+        return Decision::First;
+    }
+    if y == CONTESTED {
         return Decision::Second;
     }
     Decision::Struck

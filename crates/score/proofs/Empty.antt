@@ -6,18 +6,19 @@ use native.Mathlib.Omega.{arith}
 use lib.Dec.{lit≤}
 use lib.ListN.{length, getD, replicate, length-replicate, getD-replicate}
 use Rattle.units.specs.Month.{quartersOf}
-use Rattle.units.specs.Money.{fenOf}
+use Rattle.units.specs.Money.{grainsToFen}
 use Rattle.call.specs.declared.Call.{Call}
 use Rattle.book.specs.declared.Header.{Header}
-use Rattle.book.specs.Book.{headerOf, countOf, callOf, callsOf, bookBytes}
+use Rattle.book.specs.Book.{version, headerAt, countAt, recordAt, callsOf, bookBytes}
 use Rattle.book.specs.Sound.{Heading, Sound}
 use Rattle.book.proofs.Exact.{sound-accepted, reads-back}
 use Rattle.book.proofs.Records.{length-calls}
 use Rattle.pay.specs.declared.Member.{Member}
 use Rattle.pay.specs.Sum.{total, totalZ}
 use Rattle.pay.specs.Event.{clamp, energyPay}
+use Rattle.score.specs.Series.{mostOutput}
 use Rattle.score.specs.Scoring.{monthGrains, scoring}
-use Rattle.score.specs.Outcomes.{Line, Ready, Outcome, scored}
+use Rattle.score.specs.Outcomes.{MemberWithin, Ready, scored}
 use Rattle.score.proofs.Exact.{outcome-exact}
 
 no-grains : (m : Member) (series : List ℕ) (book : ℕ → Call) → monthGrains m series book 0 ≡ 0
@@ -28,9 +29,9 @@ no-grains m series book = refl
 abbrev pub still : ℕ → List ℕ
 still n = replicate n 0
 
-module _ (m : Member) (line : Line m) (h : Header) (heading : Heading h) where
+module _ (m : Member) (line : MemberWithin m) (h : Header) (heading : Heading h) where
   abbrev pub empty : List ℕ
-  empty = bookBytes h []
+  empty = bookBytes version h []
 
   abbrev pub quarters : ℕ
   quarters = quartersOf (h .year) (h .month)
@@ -38,14 +39,14 @@ module _ (m : Member) (line : Line m) (h : Header) (heading : Heading h) where
   is-sound : Sound empty
   is-sound = record { header = h; calls = []; heading = heading; few = lit≤ tt; within = tt; rising = tt; bytes = refl }
 
-  reads : (headerOf empty ≡ h) × (callsOf empty ≡ [])
+  reads : (headerAt empty ≡ h) × (callsOf empty ≡ [])
   reads = reads-back h [] heading (lit≤ tt) tt
 
-  none : countOf empty ≡ 0
+  none : countAt empty ≡ 0
   unfolding callsOf
-  none = sym (length-calls empty (countOf empty) 0) ∙ ap length (reads .1)
+  none = sym (length-calls empty (countAt empty) 0) ∙ ap length (reads .1)
 
-  small : (j : ℕ) → j < length (still quarters) → getD (still quarters) j 0 ≤ 5000000
+  small : (j : ℕ) → j < length (still quarters) → getD (still quarters) j 0 ≤ mostOutput
   small j l =
       let n : length (still quarters) ≡ quarters = length-replicate quarters 0 in
       let e : getD (still quarters) j 0 ≡ 0 = getD-replicate quarters j 0 0 (omega (arith, n)) in
@@ -60,7 +61,8 @@ module _ (m : Member) (line : Line m) (h : Header) (heading : Heading h) where
       }
 
   -- no call, a series of zeros: accepted, 0 grains and 0 fen
-  pub empty-month : scoring m empty (still quarters) ≡ record { number = 0; place = 0; grains = record { 0 = 0 }; fen = record { 0 = fenOf 0 } }
+  pub empty-month : scoring m empty (still quarters) ≡ record { number = 0; place = 0; grains = record { 0 = 0 }; fen = record { 0 = grainsToFen 0 } }
   empty-month =
       sym (outcome-exact m empty (still quarters) _ .1
-      (scored 0 refl ready (λ k l. absurd (omega (arith, none))) (sym (ap (monthGrains m (still quarters) (callOf empty)) none ∙ no-grains m (still quarters) (callOf empty)))))
+      (scored 0 refl ready (λ k l. absurd (omega (arith, none)))
+      (sym (ap (monthGrains m (still quarters) (recordAt empty)) none ∙ no-grains m (still quarters) (recordAt empty)))))

@@ -8,59 +8,59 @@ use native.Mathlib.Decide.{decLe}
 use native.Mathlib.Omega.{arith}
 use lib.Dec.{eqb, ltb}
 use borrow.Author.Tests.{eq-eqb, ne-eqb, lt-ltb, le-ltb, ltb-true, ltb-false, eqb-true, eqb-false}
-use Rattle.score.specs.First.{firstBad, anyBelow}
+use Rattle.score.specs.First.{firstNonzero, anyBelow}
 
 module _ (v : ℕ → ℕ) where
   -- none so far, one more that is good, and the first that is not
-  pub first-none : firstBad v 0 ≡ 0
-  unfolding firstBad
+  pub first-none : firstNonzero v 0 ≡ 0
+  unfolding firstNonzero
   first-none = refl
 
-  pub first-more : (n : ℕ) → firstBad v n ≡ n → v n ≡ 0 → firstBad v (n + 1) ≡ n + 1
-  unfolding firstBad
+  pub first-more : (n : ℕ) → firstNonzero v n ≡ n → v n ≡ 0 → firstNonzero v (n + 1) ≡ n + 1
+  unfolding firstNonzero
   first-more n p q = rw add-one (simp (p, le-ltb n n (le-refl n), eq-eqb _ _ q))
 
-  pub first-hit : (i n : ℕ) → i < n → firstBad v i ≡ i → (v i ≡ 0 → ⊥) → firstBad v n ≡ i
-  unfolding firstBad
+  pub first-hit : (i n : ℕ) → i < n → firstNonzero v i ≡ i → (v i ≡ 0 → ⊥) → firstNonzero v n ≡ i
+  unfolding firstNonzero
   first-hit i zero h p q = absurd (not-suc-le-zero h)
   first-hit i (suc n) h p q = go (decLe n i) (λ l. first-hit i n l p q)
     where
-      go : Dec (n ≤ i) → (i < n → firstBad v n ≡ i) → firstBad v (suc n) ≡ i
+      go : Dec (n ≤ i) → (i < n → firstNonzero v n ≡ i) → firstNonzero v (suc n) ≡ i
       go (yes l) ih = let e : n ≡ i = omega arith in rw e (simp (p, le-ltb i i (le-refl i), ne-eqb _ _ q))
       go (no l) ih = simp (ih (omega arith), lt-ltb i n (omega arith))
 
-  pub first-le : (n : ℕ) → firstBad v n ≤ n
-  unfolding firstBad
+  pub first-le : (n : ℕ) → firstNonzero v n ≤ n
+  unfolding firstNonzero
   first-le zero = omega arith
-  first-le (suc n) = go (ltb (firstBad v n) n) (eqb (v n) 0) (first-le n)
+  first-le (suc n) = go (ltb (firstNonzero v n) n) (eqb (v n) 0) (first-le n)
     where
-      go : (t u : Bool) → firstBad v n ≤ n → cond t (firstBad v n) (cond u (suc n) n) ≤ suc n
+      go : (t u : Bool) → firstNonzero v n ≤ n → cond t (firstNonzero v n) (cond u (suc n) n) ≤ suc n
       go true u h = omega arith
       go false true h = omega arith
       go false false h = omega arith
 
   -- the first is bad
-  pub first-bad : (n : ℕ) → firstBad v n < n → v (firstBad v n) ≡ 0 → ⊥
-  unfolding firstBad
+  pub first-bad : (n : ℕ) → firstNonzero v n < n → v (firstNonzero v n) ≡ 0 → ⊥
+  unfolding firstNonzero
   first-bad zero l e = not-suc-le-zero l
-  first-bad (suc n) l e = go (ltb (firstBad v n) n) refl (eqb (v n) 0) refl (first-bad n) l e
+  first-bad (suc n) l e = go (ltb (firstNonzero v n) n) refl (eqb (v n) 0) refl (first-bad n) l e
     where
-      go : (t : Bool) → ltb (firstBad v n) n ≡ t → (u : Bool) → eqb (v n) 0 ≡ u → (firstBad v n < n → v (firstBad v n) ≡ 0 → ⊥)
-          → cond t (firstBad v n) (cond u (suc n) n) < suc n → v (cond t (firstBad v n) (cond u (suc n) n)) ≡ 0 → ⊥
+      go : (t : Bool) → ltb (firstNonzero v n) n ≡ t → (u : Bool) → eqb (v n) 0 ≡ u → (firstNonzero v n < n → v (firstNonzero v n) ≡ 0 → ⊥)
+          → cond t (firstNonzero v n) (cond u (suc n) n) < suc n → v (cond t (firstNonzero v n) (cond u (suc n) n)) ≡ 0 → ⊥
       go true p u q ih l e = ih (ltb-true _ _ p) e
       go false p true q ih l e = omega arith
       go false p false q ih l e = eqb-false _ _ q e
 
   -- and none before it is
-  pub first-before : (n i : ℕ) → i < firstBad v n → v i ≡ 0
-  unfolding firstBad
+  pub first-before : (n i : ℕ) → i < firstNonzero v n → v i ≡ 0
+  unfolding firstNonzero
   first-before zero i l = absurd (not-suc-le-zero l)
-  first-before (suc n) i l = go (ltb (firstBad v n) n) refl (eqb (v n) 0) refl (first-before n i) l
+  first-before (suc n) i l = go (ltb (firstNonzero v n) n) refl (eqb (v n) 0) refl (first-before n i) l
     where
-      full : ltb (firstBad v n) n ≡ false → firstBad v n ≡ n
-      full p = omega (arith, ltb-false (firstBad v n) n p, first-le n)
+      full : ltb (firstNonzero v n) n ≡ false → firstNonzero v n ≡ n
+      full p = omega (arith, ltb-false (firstNonzero v n) n p, first-le n)
 
-      go : (t : Bool) → ltb (firstBad v n) n ≡ t → (u : Bool) → eqb (v n) 0 ≡ u → (i < firstBad v n → v i ≡ 0) → i < cond t (firstBad v n) (cond u (suc n) n) → v i ≡ 0
+      go : (t : Bool) → ltb (firstNonzero v n) n ≡ t → (u : Bool) → eqb (v n) 0 ≡ u → (i < firstNonzero v n → v i ≡ 0) → i < cond t (firstNonzero v n) (cond u (suc n) n) → v i ≡ 0
       go true p u q ih l = ih l
       go false p false q ih l = ih (omega (arith, full p))
       go false p true q ih l = last (decLe n i)
@@ -70,17 +70,17 @@ module _ (v : ℕ → ℕ) where
           last (no m) = ih (omega (arith, full p))
 
   -- where none is found, each is good; and the other way round
-  pub first-all : (n : ℕ) → firstBad v n ≡ n → (i : ℕ) → i < n → v i ≡ 0
+  pub first-all : (n : ℕ) → firstNonzero v n ≡ n → (i : ℕ) → i < n → v i ≡ 0
   first-all n h i l = first-before n i (omega arith)
 
-  pub first-of-all : (n : ℕ) → ((i : ℕ) → i < n → v i ≡ 0) → firstBad v n ≡ n
+  pub first-of-all : (n : ℕ) → ((i : ℕ) → i < n → v i ≡ 0) → firstNonzero v n ≡ n
   first-of-all zero h = first-none
   first-of-all (suc n) h =
       let e : suc n ≡ n + 1 = omega arith in
       rw e (first-more n (first-of-all n (λ i l. h i (omega arith))) (h n (omega arith)))
 
-  pub first-again : (n : ℕ) → firstBad v (firstBad v n) ≡ firstBad v n
-  first-again n = first-of-all (firstBad v n) (first-before n)
+  pub first-again : (n : ℕ) → firstNonzero v (firstNonzero v n) ≡ firstNonzero v n
+  first-again n = first-of-all (firstNonzero v n) (first-before n)
 
 or-true : (t : Bool) → (t || true) ≡ true
 or-true true = refl

@@ -8,7 +8,7 @@ use native.Mathlib.Omega.{arith}
 use lib.IntN.{ℤ, pos, +ℤ-idr}
 use Rattle.pay.specs.Sum.{total, totalZ}
 use Rattle.pay.proofs.Sums.{total-none, total-suc, total0-suc, total-same, total-zero, total-split, totalZ-none, totalZ-suc, totalZ-zero}
-use Rattle.score.specs.First.{firstBad, anyBelow}
+use Rattle.score.specs.First.{firstNonzero, anyBelow}
 use Rattle.score.proofs.First.{first-hit, first-bad, first-before, first-all, first-of-all, any-none, any-suc}
 
 -- g is what f has from s on, n of it, and f has nothing else below count
@@ -56,14 +56,15 @@ module _ (v u : ℕ → ℕ) (s n count : ℕ) (d : Part v u 0 s n count) where
       go (no x) = d .low j (omega arith)
 
   -- one that is bad is bad at its place from s on
-  pub part-hit : firstBad u n < n → (firstBad v count ≡ s + firstBad u n) × (firstBad v (s + firstBad u n) ≡ s + firstBad u n) × (v (s + firstBad u n) ≡ u (firstBad u n))
+  pub part-hit : firstNonzero u n < n
+      → (firstNonzero v count ≡ s + firstNonzero u n) × (firstNonzero v (s + firstNonzero u n) ≡ s + firstNonzero u n) × (v (s + firstNonzero u n) ≡ u (firstNonzero u n))
   part-hit l =
-      let f = firstBad u n in
-      let b : firstBad v (s + f) ≡ s + f = first-of-all v (s + f) (zero-below f (omega arith) (first-before u n)) in
+      let f = firstNonzero u n in
+      let b : firstNonzero v (s + f) ≡ s + f = first-of-all v (s + f) (zero-below f (omega arith) (first-before u n)) in
       let e : v (s + f) ≡ u f = d .part f l in
       (first-hit v (s + f) count (omega (arith, d .fits)) b (λ z. first-bad u n l (sym e ∙ z)), b, e)
 
-  pub part-none : firstBad u n ≡ n → firstBad v count ≡ count
+  pub part-none : firstNonzero u n ≡ n → firstNonzero v count ≡ count
   part-none h = first-of-all v count (λ j l. go j l (decLe (s + n) j))
     where
       go : (j : ℕ) → j < count → Dec (s + n ≤ j) → v j ≡ 0

@@ -4,9 +4,9 @@ use Prim.Native.Nat.{ℕ, zero, suc}
 use lib.Dec.{eqb, ltb}
 
 -- the first number below n at which v is not 0, or n
-unfoldable pub firstBad : (ℕ → ℕ) → ℕ → ℕ
-firstBad v zero = 0
-firstBad v (suc n) = cond (ltb (firstBad v n) n) (firstBad v n) (cond (eqb (v n) 0) (suc n) n)
+unfoldable pub firstNonzero : (ℕ → ℕ) → ℕ → ℕ
+firstNonzero v zero = 0
+firstNonzero v (suc n) = cond (ltb (firstNonzero v n) n) (firstNonzero v n) (cond (eqb (v n) 0) (suc n) n)
 
 -- f holds at some number below n
 unfoldable pub anyBelow : (ℕ → Bool) → ℕ → Bool

@@ -2,6 +2,6 @@ pub mod First
 pub mod Series
 pub mod Refusing
 pub mod Scoring
-pub mod Turning
+pub mod Inner
 pub mod Own
 pub mod Outcomes

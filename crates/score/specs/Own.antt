@@ -5,18 +5,18 @@ use mathlib.Core.List.{List}
 use Prim.Native.Nat.{ℕ, _+_, _-_, _<_}
 use lib.Dec.{eqb, leb}
 use Rattle.call.specs.declared.Call.{Call}
-use Rattle.book.specs.Book.{headerOf, countOf, callOf}
+use Rattle.book.specs.Book.{headerAt, countAt, recordAt}
 use Rattle.score.specs.declared.answer.Score.{Score}
-use Rattle.score.specs.First.{firstBad}
-use Rattle.score.specs.Refusing.{ownAt}
+use Rattle.score.specs.First.{firstNonzero}
+use Rattle.score.specs.Refusing.{firstOwn}
 
--- the index of the member's first record, or the count
-unfoldable pub firstOwn : ℕ → List ℕ → ℕ
-firstOwn number b = firstBad (ownAt number (callOf b)) (countOf b)
+-- where the member's records begin in a book, or the count
+unfoldable pub ownStart : ℕ → List ℕ → ℕ
+ownStart number b = firstOwn number (recordAt b) (countAt b)
 
 -- the member's record k, counted from the first
 unfoldable pub ownCall : ℕ → List ℕ → ℕ → Call
-ownCall number b k = callOf b (firstOwn number b + k)
+ownCall number b k = recordAt b (ownStart number b + k)
 
 -- 0 at a record of the member, 1 at others'
 unfoldable pub otherAt : ℕ → (ℕ → Call) → ℕ → ℕ
@@ -24,12 +24,12 @@ otherAt number book i = cond (eqb (book i .participant) number) 0 1
 
 -- how many records of the member follow each other from the first on
 unfoldable pub ownCount : ℕ → List ℕ → ℕ
-ownCount number b = firstBad (otherAt number (ownCall number b)) (countOf b - firstOwn number b)
+ownCount number b = firstNonzero (otherAt number (ownCall number b)) (countAt b - ownStart number b)
 
 -- two books of one month agree on a member's records
 pub record Agree (number : ℕ) (b b′ : List ℕ) : Type 0 where
-  pub year : headerOf b .year ≡ headerOf b′ .year
-  pub month : headerOf b .month ≡ headerOf b′ .month
+  pub year : headerAt b .year ≡ headerAt b′ .year
+  pub month : headerAt b .month ≡ headerAt b′ .month
   pub count : ownCount number b ≡ ownCount number b′
   pub calls : (k : ℕ) → k < ownCount number b → ownCall number b k ≡ ownCall number b′ k
 

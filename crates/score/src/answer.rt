@@ -1,6 +1,6 @@
 // What scoring answers.
 ghost use mathlib.Core.Path.{_≡_};
-ghost use Rattle.score.specs.Scoring.{refused, told};
+ghost use Rattle.score.specs.Scoring.{inFen};
 use units::Fen;
 use units::Grains;
 
@@ -12,29 +12,18 @@ pub struct Score {
     pub fen: Fen,
 }
 
-// What the member's records give: the month's grains, or the first refusal's number and record.
-pub enum Scored {
+// A member's month before it is money: its grains, to which others may be added, or the refusal's number and place.
+pub enum Earned {
     Accepted(Grains),
     Refused(u32, usize),
 }
 
-pub fn refuse(number: u32, place: usize) -> Score
-    ensures { λ r. ⌜ r ≡ refused number place ⌝ }
-{
-    Score {
-        number,
-        place,
-        grains: Grains(0),
-        fen: Fen(0),
-    }
-}
-
 // The month's grains become fen here, once.
-pub fn tell(scored: Scored) -> Score
-    ensures { λ r. ⌜ r ≡ told scored ⌝ }
+pub fn in_fen(earned: Earned) -> Score
+    ensures { λ r. ⌜ r ≡ inFen earned ⌝ }
 {
-    match scored {
-        Scored::Accepted(g) => {
+    match earned {
+        Earned::Accepted(g) => {
             let fen = g.to_fen();
             Score {
                 number: 0,
@@ -43,6 +32,11 @@ pub fn tell(scored: Scored) -> Score
                 fen,
             }
         }
-        Scored::Refused(number, place) => refuse(number, place),
+        Earned::Refused(number, place) => Score {
+            number,
+            place,
+            grains: Grains(0),
+            fen: Fen(0),
+        },
     }
 }

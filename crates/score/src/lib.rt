@@ -1,51 +1,64 @@
 // A member's month, scored: the register line, the book, the series, then the member's records in turn.
 ghost use mathlib.Core.Path.{_≡_};
 ghost use mathlib.Core.Bool.{true};
-ghost use Rattle.pay.specs.Member.{soundLine};
-ghost use Rattle.book.specs.Check.{checkOf, accepted};
-ghost use Rattle.score.specs.Scoring.{scoring, soundScoring};
+ghost use Rattle.pay.specs.Member.{memberIsSound};
+ghost use Rattle.book.specs.Check.{check, accepted};
+ghost use Rattle.score.specs.Scoring.{soundEarned, grainsEarned, scoring};
+use crate::answer::Earned;
 use crate::answer::Score;
-use crate::answer::refuse;
-use crate::answer::tell;
-use crate::month::score_records;
+use crate::answer::in_fen;
+use crate::month::records_earned;
 use crate::series::series_fault;
 use book::check;
 use book::count_at;
 use book::header_at;
 use pay::Member;
-use units::month::quarters;
+use pay::open::Month;
+use units::month::quarters_of;
 
 pub mod answer;
 pub mod month;
 pub mod refusal;
 pub mod series;
 
-// Scoring over a sound book, for a sound register line.
-fn score_sound(member: Member, b: &[u8], series: &[u32]) -> Score
-    requires { ⌜ (soundLine member ≡ true) × (checkOf (now b) ≡ accepted) ⌝ }
-    ensures { λ r. ⌜ r ≡ soundScoring member (now (b .entry)) (now (series .entry)) ⌝ }
+// The grains of a sound register line over a sound book.
+fn sound_earned(member: Member, b: &[u8], series: &[u32]) -> Earned
+    requires { ⌜ memberIsSound member ≡ true ⌝ }
+    requires { ⌜ check (now b) ≡ accepted ⌝ }
+    ensures { λ r. ⌜ r ≡ soundEarned member (now (b .entry)) (now (series .entry)) ⌝ }
 {
     let h = header_at(b);
-    let fault = series_fault(series, quarters(h.year, h.month) as usize);
+    let fault = series_fault(series, quarters_of(h.year, h.month) as usize);
     let number = fault.number;
     if number != 0 {
-        return refuse(number, fault.place);
+        return Earned::Refused(number, fault.place);
     }
+    let month = Month {
+        year: h.year,
+        month: h.month,
+    };
     let n = count_at(b);
-    tell(score_records(member, b, n, series))
+    records_earned(month, member, b, n, series)
+}
+
+// The grains of one member's month, or a refusal's number and place.
+pub fn grains_earned(member: Member, b: &[u8], series: &[u32]) -> Earned
+    ensures { λ r. ⌜ r ≡ grainsEarned member (now (b .entry)) (now (series .entry)) ⌝ }
+{
+    if !member.is_sound() {
+        return Earned::Refused(10, 0);
+    }
+    let fault = check(b);
+    let number = fault.number;
+    if number != 0 {
+        return Earned::Refused(number, fault.place);
+    }
+    sound_earned(member, b, series)
 }
 
 // The score of one member: a refusal's number and place, or the month's grains and fen.
 pub fn score(member: Member, b: &[u8], series: &[u32]) -> Score
     ensures { λ r. ⌜ r ≡ scoring member (now (b .entry)) (now (series .entry)) ⌝ }
 {
-    if !member.is_sound() {
-        return refuse(10, 0);
-    }
-    let fault = check(b);
-    let number = fault.number;
-    if number != 0 {
-        return refuse(number, fault.place);
-    }
-    score_sound(member, b, series)
+    in_fen(grains_earned(member, b, series))
 }

@@ -2,19 +2,24 @@
 ghost use mathlib.Core.Path.{_≡_};
 ghost use mathlib.Core.Bool.{false};
 ghost use lib.ListN.{length};
-ghost use Rattle.score.specs.First.{firstBad};
-ghost use Rattle.score.specs.Series.{tooMuch, seriesFault};
+ghost use Rattle.score.specs.Series.{firstTooMuch, seriesFault};
 use book::Verdict;
 use book::refused;
 
-// Whether any value is above the limit. It looks at all of them, several at a time: a series is mostly good.
+// The largest output, in kW.
+pub const MOST_OUTPUT: u32 = 5_000_000;
+
+// The place of a series that has not the month's length.
+const LENGTH_PLACE: usize = 65535;
+
+// Whether any value is above the limit. For speed it looks at all of them, several at a time: a series is mostly good.
 fn any_too_much(series: &[u32]) -> bool
-    ensures { λ r. ⌜ (r ≡ false → firstBad (tooMuch (now (series .entry))) (length (now (series .entry))) ≡ length (now (series .entry))) ⌝ }
+    ensures { λ r. ⌜ (r ≡ false → firstTooMuch (now (series .entry)) ≡ length (now (series .entry))) ⌝ }
 {
     let mut any = false;
     let mut i = 0;
     while i < series.len() {
-        any = any | (5_000_000 < series[i]);
+        any = any | (MOST_OUTPUT < series[i]);
         i += 1;
     }
     any
@@ -22,11 +27,11 @@ fn any_too_much(series: &[u32]) -> bool
 
 // The lowest index of a value above the limit, or the length.
 fn first_too_much(series: &[u32]) -> usize
-    ensures { λ r. ⌜ r ≡ firstBad (tooMuch (now (series .entry))) (length (now (series .entry))) ⌝ }
+    ensures { λ r. ⌜ r ≡ firstTooMuch (now (series .entry)) ⌝ }
 {
     let mut i = 0;
     while i < series.len() {
-        if 5_000_000 < series[i] {
+        if MOST_OUTPUT < series[i] {
             return i;
         }
         i += 1;
@@ -34,12 +39,12 @@ fn first_too_much(series: &[u32]) -> usize
     i
 }
 
-// 11, the length at place 65,535, then the lowest bad index; or zeros.
+// 11, the length, then the lowest bad index; or zeros.
 pub fn series_fault(series: &[u32], quarters: usize) -> Verdict
     ensures { λ r. ⌜ r ≡ seriesFault (now (series .entry)) quarters ⌝ }
 {
     if series.len() != quarters {
-        return refused(11, 65535);
+        return refused(11, LENGTH_PLACE);
     }
     if !any_too_much(series) {
         return refused(0, 0);

@@ -16,21 +16,21 @@ use Rattle.apportion.proofs.Loops.{over, over-step}
 use Rattle.share.specs.declared.Line.{Line}
 use Rattle.share.specs.declared.Shared.{Shared}
 use Rattle.share.specs.declared.Answer.{Answer}
-use Rattle.share.specs.Sharing.{Part, Outcome, sharing}
-use Rattle.share.specs.Forms.{blank, fill, filled, cleared, arrayOf, sharedArray, answerIn, kept, Lent}
+use Rattle.share.specs.Sharing.{Part, SharingOutcome, sharing}
+use Rattle.share.specs.Forms.{blankLine, fillIn, filled, cleared, arrayOf, sharedArray, answerIn, keptOf, Lent, clear}
 use Rattle.share.proofs.Lines.{length-filled}
 use Rattle.share.proofs.Counted.{same-sharing}
-use Rattle.share.proofs.Outcomes.{taken, none-given, each-given, at-most-64}
+use Rattle.share.proofs.Outcomes.{taken-list, none-given, each-given}
 
--- 64 lines, of which the first i are the first of ys, and the rest are blank
+-- 64 lines, of which the first i are the first of ys, and the rest are blankLine
 unfoldable pub gathered : List Line → ℕ → List Line
-gathered ys zero = replicate 64 blank
-gathered ys (suc i) = set (gathered ys i) i (getD ys i blank)
+gathered ys zero = replicate 64 blankLine
+gathered ys (suc i) = set (gathered ys i) i (getD ys i blankLine)
 
 -- ys, with the first j of ls in the place of its first j
 unfoldable pub scattered : List Line → List Line → ℕ → List Line
 scattered ys ls zero = ys
-scattered ys ls (suc j) = set (scattered ys ls j) j (getD ls j blank)
+scattered ys ls (suc j) = set (scattered ys ls j) j (getD ls j blankLine)
 
 -- what the array form makes of the lines ys
 abbrev pub formOf : List Line → Shared
@@ -39,13 +39,13 @@ formOf ys = sharedArray (gathered ys (min (length ys) 64)) (length ys)
 -- what the walk shows: the lines zs that are left of ys, and the answer r
 pub record Filled (ys zs : List Line) (r : Answer) : Type 0 where
   pub answer : r ≡ answerIn (formOf ys)
-  pub lines : zs ≡ scattered ys (formOf ys .lines) (kept (formOf ys) (length ys))
+  pub lines : zs ≡ scattered ys (formOf ys .lines) (keptOf (formOf ys) (length ys))
 
-pub gathered-none : (ys : List Line) → replicate 64 blank ≡ gathered ys 0
+pub gathered-none : (ys : List Line) → replicate 64 blankLine ≡ gathered ys 0
 unfolding gathered
 gathered-none ys = refl
 
-pub gathered-more : (ys : List Line) (i : ℕ) → set (gathered ys i) i (getD ys i blank) ≡ gathered ys (suc i)
+pub gathered-more : (ys : List Line) (i : ℕ) → set (gathered ys i) i (getD ys i blankLine) ≡ gathered ys (suc i)
 unfolding gathered
 gathered-more ys i = refl
 
@@ -53,33 +53,33 @@ pub scattered-none : (ys ls : List Line) → ys ≡ scattered ys ls 0
 unfolding scattered
 scattered-none ys ls = refl
 
-pub scattered-more : (ys ls : List Line) (j : ℕ) → set (scattered ys ls j) j (getD ls j blank) ≡ scattered ys ls (suc j)
+pub scattered-more : (ys ls : List Line) (j : ℕ) → set (scattered ys ls j) j (getD ls j blankLine) ≡ scattered ys ls (suc j)
 unfolding scattered
 scattered-more ys ls j = refl
 
 pub length-scattered : (ys ls : List Line) (j : ℕ) → length (scattered ys ls j) ≡ length ys
 unfolding scattered
 length-scattered ys ls zero = refl
-length-scattered ys ls (suc j) = length-set (scattered ys ls j) j (getD ls j blank) ∙ length-scattered ys ls j
+length-scattered ys ls (suc j) = length-set (scattered ys ls j) j (getD ls j blankLine) ∙ length-scattered ys ls j
 
 length-gathered : (ys : List Line) (i : ℕ) → length (gathered ys i) ≡ 64
 unfolding gathered
 length-gathered ys zero = refl
-length-gathered ys (suc i) = length-set (gathered ys i) i (getD ys i blank) ∙ length-gathered ys i
+length-gathered ys (suc i) = length-set (gathered ys i) i (getD ys i blankLine) ∙ length-gathered ys i
 
 -- what was gathered is the front of ys
-gathered-is : (ys : List Line) (i : ℕ) → i ≤ 64 → i ≤ length ys → gathered ys i ≡ over (replicate 64 blank) ys i
+gathered-is : (ys : List Line) (i : ℕ) → i ≤ 64 → i ≤ length ys → gathered ys i ≡ over (replicate 64 blankLine) ys i
 unfolding gathered
 gathered-is ys zero h k = refl
 gathered-is ys (suc i) h k =
-    over-step (replicate 64 blank) ys (gathered ys i) i blank (getD ys i blank) (gathered-is ys i (omega arith) (omega arith)) (omega arith) (omega arith) refl
-    ∙ ap (over (replicate 64 blank) ys) (add-one i)
+    over-step (replicate 64 blankLine) ys (gathered ys i) i blankLine (getD ys i blankLine) (gathered-is ys i (omega arith) (omega arith)) (omega arith) (omega arith) refl
+    ∙ ap (over (replicate 64 blankLine) ys) (add-one i)
 
 scattered-is : (ys ls : List Line) (j : ℕ) → j ≤ length ys → j ≤ length ls → scattered ys ls j ≡ over ys ls j
 unfolding scattered
 scattered-is ys ls zero h k = refl
 scattered-is ys ls (suc j) h k =
-    over-step ys ls (scattered ys ls j) j blank (getD ls j blank) (scattered-is ys ls j (omega arith) (omega arith)) (omega arith) (omega arith) refl
+    over-step ys ls (scattered ys ls j) j blankLine (getD ls j blankLine) (scattered-is ys ls j (omega arith) (omega arith)) (omega arith) (omega arith) refl
     ∙ ap (over ys ls) (add-one j)
 
 held : (ys : List Line) → take (length ys) (gathered ys (min (length ys) 64)) ≡ take 64 ys
@@ -93,7 +93,7 @@ held ys = go (decLe (length ys) 64)
         let e : min (length ys) 64 ≡ length ys = omega arith in
         rw e
         (ap (take (length ys)) (gathered-is ys (length ys) h (omega arith))
-        ∙ take-at (take (length ys) ys) (drop (length ys) (replicate 64 blank)) (length ys) (length-take-le (length ys) ys (omega arith))
+        ∙ take-at (take (length ys) ys) (drop (length ys) (replicate 64 blankLine)) (length ys) (length-take-le (length ys) ys (omega arith))
         ∙ take-all (length ys) ys (omega arith) ∙ sym (take-all 64 ys h))
     go (no f) =
         let e : min (length ys) 64 ≡ 64 = omega arith in
@@ -104,32 +104,32 @@ held ys = go (decLe (length ys) 64)
 form-is : (ys : List Line) → formOf ys ≡ arrayOf (gathered ys (min (length ys) 64)) (sharing ys)
 unfolding sharedArray
 form-is ys =
-    ap (λ (o : Outcome). arrayOf (gathered ys (min (length ys) 64)) o) (same-sharing ys (gathered ys (min (length ys) 64)) (length-gathered ys (min (length ys) 64)) (held ys))
+    ap (λ (o : SharingOutcome). arrayOf (gathered ys (min (length ys) 64)) o) (same-sharing ys (gathered ys (min (length ys) 64)) (held ys))
 
 -- no more than 64 lines are taken over
-pub kept-few : (ys : List Line) → kept (formOf ys) (length ys) ≤ 64
+pub kept-few : (ys : List Line) → keptOf (formOf ys) (length ys) ≤ 64
 kept-few ys = go (ℕ-discrete (sharing ys .number) 0)
   where
     n : formOf ys .number ≡ sharing ys .number
     n = ap (λ (s : Shared). s .number) (form-is ys)
 
     go : Dec (sharing ys .number ≡ 0) → cond (eqb (formOf ys .number) 0) (length ys) 0 ≤ 64
-    go (yes e) = rw (eq-eqb (formOf ys .number) 0 (n ∙ e)) (at-most-64 ys (taken ys e))
+    go (yes e) = rw (eq-eqb (formOf ys .number) 0 (n ∙ e)) (taken-list ys e .few)
     go (no f) = rw (ne-eqb (formOf ys .number) 0 (λ z. f (sym n ∙ z))) (omega arith)
 
-take-map : (n : ℕ) (xs : List Line) → take n (map (λ l. cleared l) xs) ≡ map (λ l. cleared l) (take n xs)
+take-map : (n : ℕ) (xs : List Line) → take n (clear xs) ≡ clear (take n xs)
 take-map zero xs = refl
 take-map (suc n) [] = refl
 take-map (suc n) (x ∷ xs) = ap (λ (l : List Line). cleared x ∷ l) (take-map n xs)
 
-fill-take : (n : ℕ) (ps : List Part) (ls : List Line) → take n (fill ps ls) ≡ fill ps (take n ls)
+fill-take : (n : ℕ) (ps : List Part) (ls : List Line) → take n (fillIn ps ls) ≡ fillIn ps (take n ls)
 fill-take n [] ls = refl
 fill-take zero (p ∷ ps) [] = refl
 fill-take zero (p ∷ ps) (l ∷ ls) = refl
 fill-take (suc n) (p ∷ ps) [] = refl
 fill-take (suc n) (p ∷ ps) (l ∷ ls) = ap (λ (x : List Line). filled l p ∷ x) (fill-take n ps ls)
 
-fill-cleared : (ps : List Part) (ls : List Line) → length ps ≡ length ls → fill ps (map (λ l. cleared l) ls) ≡ fill ps ls
+fill-cleared : (ps : List Part) (ls : List Line) → length ps ≡ length ls → fillIn ps (clear ls) ≡ fillIn ps ls
 fill-cleared [] [] h = refl
 fill-cleared [] (l ∷ ls) h = absurd (omega arith)
 fill-cleared (p ∷ ps) [] h = refl
@@ -145,21 +145,21 @@ lent ys zs r f = record { says = f .answer ∙ ap answerIn (form-is ys); lines =
     n : formOf ys .number ≡ sharing ys .number
     n = ap (λ (s : Shared). s .number) (form-is ys)
 
-    go : Dec (sharing ys .number ≡ 0) → scattered ys (formOf ys .lines) (cond (eqb (formOf ys .number) 0) (length ys) 0) ≡ fill (sharing ys .parts) ys
+    go : Dec (sharing ys .number ≡ 0) → scattered ys (formOf ys .lines) (cond (eqb (formOf ys .number) 0) (length ys) 0) ≡ fillIn (sharing ys .parts) ys
     go (yes e) =
-        let t = taken ys e in
-        let few = at-most-64 ys t in
+        let t = taken-list ys e in
+        let few = t .few in
         let ps = sharing ys .parts in
         let g = gathered ys (min (length ys) 64) in
         let ll : length (formOf ys .lines) ≡ 64 = ap (λ (s : Shared). length (s .lines)) (form-is ys) ∙ length-filled ps g ∙ length-gathered ys (min (length ys) 64) in
         rw (eq-eqb (formOf ys .number) 0 (n ∙ e))
         (scattered-is ys (formOf ys .lines) (length ys) (omega arith) (omega arith)
         ∙ ap (λ (d : List Line). take (length ys) (formOf ys .lines) ++ d) (drop-of-length-le ys {i = length ys} (omega arith)) ∙ append-nil (take (length ys) (formOf ys .lines))
-        ∙ ap (λ (s : Shared). take (length ys) (s .lines)) (form-is ys) ∙ fill-take (length ys) ps (map (λ l. cleared l) g)
-        ∙ ap (fill ps) (take-map (length ys) g ∙ ap (map (λ l. cleared l)) (held ys ∙ take-all 64 ys few)) ∙ fill-cleared ps ys (each-given ys t))
+        ∙ ap (λ (s : Shared). take (length ys) (s .lines)) (form-is ys) ∙ fill-take (length ys) ps (clear g)
+        ∙ ap (fillIn ps) (take-map (length ys) g ∙ ap clear (held ys ∙ take-all 64 ys few)) ∙ fill-cleared ps ys (each-given _ _ ys t))
     go (no f) =
         rw (ne-eqb (formOf ys .number) 0 (λ z. f (sym n ∙ z)))
-        (sym (scattered-none ys (formOf ys .lines)) ∙ sym (ap (λ (ps : List Part). fill ps ys) (none-given ys (omega arith))))
+        (sym (scattered-none ys (formOf ys .lines)) ∙ sym (ap (λ (ps : List Part). fillIn ps ys) (none-given _ _ ys (omega arith))))
 
 pub falls : {X : Type 0} (f : X → ℕ) → WellFounded (λ (x y : X). f x < f y)
 falls f = record { apply = λ x. InvImage·accessible f (Nat·lt-wfRel .wf .apply (f x)) }

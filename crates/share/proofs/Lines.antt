@@ -9,26 +9,26 @@ use lib.IntN.{ℤ}
 use lib.ListN.{length, getD, take, drop, length-map}
 use lib.Seq.{length-take-le, getD-take}
 use Rattle.share.specs.declared.Line.{Line}
-use Rattle.share.specs.Sharing.{Part, partOf, partsBy, soundLine, firstBad, weightOf, weightsBy}
-use Rattle.share.specs.Forms.{filled, fill, cleared}
-use Rattle.share.specs.Limits.{Within, AllWithin}
+use Rattle.share.specs.Sharing.{Part, partOf, partsBy, lineIsSound, firstBadLine, weightOf, weightsOf}
+use Rattle.share.specs.Forms.{filled, fillIn, cleared, clear}
+use Rattle.share.specs.Limits.{LineWithin, LinesWithin}
 use Rattle.share.proofs.Lists.{getD-mapped}
 
-pub bad-step : (before : ℕ) (l : Line) (ls : List Line) → soundLine before l ≡ true → firstBad before (l ∷ ls) ≡ suc (firstBad (l .number) ls)
+pub bad-step : (before : ℕ) (l : Line) (ls : List Line) → lineIsSound before l ≡ true → firstBadLine before (l ∷ ls) ≡ suc (firstBadLine (l .number) ls)
 bad-step before l ls e = rw e
 
-pub bad-here : (before : ℕ) (l : Line) (ls : List Line) → soundLine before l ≡ false → firstBad before (l ∷ ls) ≡ 0
+pub bad-here : (before : ℕ) (l : Line) (ls : List Line) → lineIsSound before l ≡ false → firstBadLine before (l ∷ ls) ≡ 0
 bad-here before l ls e = rw e
 
 -- a line of the first n, as the array has it
-pub within-at : (xs : List Line) (n i : ℕ) (d : Line) → AllWithin (take n xs) → i < n → n ≤ length xs → Within (getD xs i d)
+pub within-at : (xs : List Line) (n i : ℕ) (d : Line) → LinesWithin (take n xs) → i < n → n ≤ length xs → LineWithin (getD xs i d)
 within-at xs n i d all h k = rw (getD-take n xs i d h) at (all i d (rw (length-take-le n xs k) h))
 
-pub length-weights : (isBelow : Bool) (xs : List Line) (n : ℕ) → n ≤ length xs → length (weightsBy isBelow (take n xs)) ≡ n
+pub length-weights : (isBelow : Bool) (xs : List Line) (n : ℕ) → n ≤ length xs → length (weightsOf isBelow (take n xs)) ≡ n
 length-weights isBelow xs n k = length-map (take n xs) _ ∙ length-take-le n xs k
 
 pub weight-of : (isBelow : Bool) (xs : List Line) (n i : ℕ) (d : Line) → i < n → n ≤ length xs
-    → getD (weightsBy isBelow (take n xs)) i 0 ≡ weightOf isBelow (getD xs i d)
+    → getD (weightsOf isBelow (take n xs)) i 0 ≡ weightOf isBelow (getD xs i d)
 weight-of isBelow xs n i d h k =
     getD-mapped (λ l. weightOf isBelow l) (take n xs) i d 0 (rw (length-take-le n xs k) h) ∙ ap (λ (l : Line). weightOf isBelow l) (getD-take n xs i d h)
 
@@ -45,25 +45,25 @@ part-at isBelow (l ∷ ls) (s ∷ ss) zero d p e h = refl
 part-at isBelow (l ∷ ls) (s ∷ ss) (suc i) d p e h = part-at isBelow ls ss i d p (omega arith) (omega arith)
 
 -- filling: as far as there are parts, and no further
-pub length-fill : (ps : List Part) (ls : List Line) → length (fill ps ls) ≡ length ls
+pub length-fill : (ps : List Part) (ls : List Line) → length (fillIn ps ls) ≡ length ls
 length-fill [] ls = refl
 length-fill (p ∷ ps) [] = refl
 length-fill (p ∷ ps) (l ∷ ls) = ap suc (length-fill ps ls)
 
 pub fill-at : (ps : List Part) (ls : List Line) (i : ℕ) (d : Line) (p : Part) → i < length ps → i < length ls
-    → getD (fill ps ls) i d ≡ filled (getD ls i d) (getD ps i p)
+    → getD (fillIn ps ls) i d ≡ filled (getD ls i d) (getD ps i p)
 fill-at [] ls i d p h k = absurd (not-suc-le-zero h)
 fill-at (q ∷ ps) [] i d p h k = absurd (not-suc-le-zero k)
 fill-at (q ∷ ps) (l ∷ ls) zero d p h k = refl
 fill-at (q ∷ ps) (l ∷ ls) (suc i) d p h k = fill-at ps ls i d p (omega arith) (omega arith)
 
-pub fill-behind : (ps : List Part) (ls : List Line) (i : ℕ) → length ps ≤ i → drop i (fill ps ls) ≡ drop i ls
+pub fill-behind : (ps : List Part) (ls : List Line) (i : ℕ) → length ps ≤ i → drop i (fillIn ps ls) ≡ drop i ls
 fill-behind [] ls i h = refl
 fill-behind (q ∷ ps) [] i h = refl
 fill-behind (q ∷ ps) (l ∷ ls) zero h = absurd (omega arith)
 fill-behind (q ∷ ps) (l ∷ ls) (suc i) h = fill-behind ps ls i (omega arith)
 
-pub fill-over : (ps : List Part) (ls : List Line) → take (length ps) (fill ps ls) ++ drop (length ps) ls ≡ fill ps ls
+pub fill-over : (ps : List Part) (ls : List Line) → take (length ps) (fillIn ps ls) ++ drop (length ps) ls ≡ fillIn ps ls
 fill-over [] ls = refl
 fill-over (p ∷ ps) [] = refl
 fill-over (p ∷ ps) (l ∷ ls) = ap (λ (x : List Line). filled l p ∷ x) (fill-over ps ls)
@@ -75,23 +75,23 @@ filled-is isBelow l s x y ex ey = rw (ex, ey)
 
 -- the lines of the array filled in, at a place
 pub filled-at : (isBelow : Bool) (xs : List Line) (ss : List ℕ) (n i : ℕ) (d : Line) → i < n → n ≤ length xs → n ≤ length ss
-    → getD (fill (partsBy isBelow (take n xs) (take n ss)) (map (λ l. cleared l) xs)) i d ≡ filled (getD xs i d) (partOf isBelow (getD xs i d) (getD ss i 0))
+    → getD (fillIn (partsBy isBelow (take n xs) (take n ss)) (clear xs)) i d ≡ filled (getD xs i d) (partOf isBelow (getD xs i d) (getD ss i 0))
 filled-at isBelow xs ss n i d h k m =
     let lx = length-take-le n xs k in
     let ls = length-take-le n ss m in
     let lp = length-parts isBelow (take n xs) (take n ss) (ls ∙ sym lx) in
-    fill-at (partsBy isBelow (take n xs) (take n ss)) (map (λ l. cleared l) xs) i d (partOf isBelow d 0) (omega arith) (rw (length-map xs (λ l. cleared l)) (omega arith))
+    fill-at (partsBy isBelow (take n xs) (take n ss)) (clear xs) i d (partOf isBelow d 0) (omega arith) (rw (length-map xs (λ l. cleared l)) (omega arith))
     ∙ rw (getD-mapped (λ l. cleared l) xs i d d (omega arith), part-at isBelow (take n xs) (take n ss) i d (partOf isBelow d 0) (ls ∙ sym lx) (omega arith), getD-take n xs i d h, getD-take n ss i 0 h)
 
 pub filled-all : (isBelow : Bool) (xs : List Line) (ss : List ℕ) (n : ℕ) → n ≤ length xs → n ≤ length ss
-    → let all = fill (partsBy isBelow (take n xs) (take n ss)) (map (λ l. cleared l) xs) in
-    take n all ++ drop n (map (λ l. cleared l) xs) ≡ all
+    → let all = fillIn (partsBy isBelow (take n xs) (take n ss)) (clear xs) in
+    take n all ++ drop n (clear xs) ≡ all
 filled-all isBelow xs ss n k m =
     let lx = length-take-le n xs k in
     let ls = length-take-le n ss m in
     let ps = partsBy isBelow (take n xs) (take n ss) in
     let lp : length ps ≡ n = length-parts isBelow (take n xs) (take n ss) (ls ∙ sym lx) ∙ lx in
-    subst (λ (j : ℕ). take j (fill ps (map (λ l. cleared l) xs)) ++ drop j (map (λ l. cleared l) xs) ≡ fill ps (map (λ l. cleared l) xs)) lp (fill-over ps (map (λ l. cleared l) xs))
+    subst (λ (j : ℕ). take j (fillIn ps (clear xs)) ++ drop j (clear xs) ≡ fillIn ps (clear xs)) lp (fill-over ps (clear xs))
 
-pub length-filled : (ps : List Part) (xs : List Line) → length (fill ps (map (λ l. cleared l) xs)) ≡ length xs
-length-filled ps xs = length-fill ps (map (λ l. cleared l) xs) ∙ length-map xs (λ l. cleared l)
+pub length-filled : (ps : List Part) (xs : List Line) → length (fillIn ps (clear xs)) ≡ length xs
+length-filled ps xs = length-fill ps (clear xs) ∙ length-map xs (λ l. cleared l)

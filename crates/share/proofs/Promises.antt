@@ -10,22 +10,22 @@ use lib.ListN.{length, getD, length-map, List·getD-map}
 use Rattle.apportion.specs.Apportion.{total, apportion}
 use Rattle.apportion.proofs.Promises.{Shareable, adds-up, less-than-one, nothing}
 use Rattle.share.specs.declared.Line.{Line}
-use Rattle.share.specs.Sharing.{assessmentFen, compensated, assessed, below, gap, weightOf, weights, allWeights, signed, Part, partsBy, parts, Outcome, sharing}
-use Rattle.share.specs.Forms.{blank}
+use Rattle.share.specs.Sharing.{assessmentFen, compensated, assessed, below, gap, weightOf, weights, allWeights, signed, Part, partsBy, parts, SharingOutcome, sharing}
+use Rattle.share.specs.Forms.{blankLine}
 use Rattle.share.proofs.Lists.{getD-mapped}
 use Rattle.share.proofs.Signs.{signed-add, signed-none, signed-near, signed-diff, none-abs, by-parts, opposite}
 use Rattle.share.proofs.Lines.{part-at}
-use Rattle.share.proofs.Outcomes.{taken, long-shares}
+use Rattle.share.proofs.Outcomes.{taken-list, long-shares}
 
 -- the sum of signed numbers
 abbrev pub sumℤ : List ℤ → ℤ
 sumℤ [] = pos 0
 sumℤ (z ∷ zs) = z +ℤ sumℤ zs
 
-abbrev pub shares : Outcome → List ℤ
+abbrev pub shares : SharingOutcome → List ℤ
 shares o = map (λ p. p .share) (o .parts)
 
-abbrev pub amounts : Outcome → List ℤ
+abbrev pub amounts : SharingOutcome → List ℤ
 amounts o = map (λ p. p .amount) (o .parts)
 
 shares-total : (isBelow : Bool) (ls : List Line) (ss : List ℕ) → length ss ≡ length ls → sumℤ (map (λ p. p .share) (partsBy isBelow ls ss)) ≡ signed isBelow (total ss)
@@ -57,18 +57,18 @@ signed-gap ls = signed-diff (assessed ls) (compensated ls)
 module _ (ls : List Line) (none : sharing ls .number ≡ 0) where
   -- R is A − C.
   pub gap-is : sharing ls .gap ≡ gap ls
-  gap-is = ap (λ (o : Outcome). o .gap) (taken ls none .is)
+  gap-is = ap (λ (o : SharingOutcome). o .gap) (taken-list ls none .is)
 
   parts-is : sharing ls .parts ≡ parts ls
-  parts-is = ap (λ (o : Outcome). o .parts) (taken ls none .is)
+  parts-is = ap (λ (o : SharingOutcome). o .parts) (taken-list ls none .is)
 
   -- The shares add up to R.
   pub adds-to-gap : sumℤ (shares (sharing ls)) ≡ gap ls
   unfolding parts
   adds-to-gap =
       ap (λ (ps : List Part). sumℤ (map (λ p. p .share) ps)) parts-is
-      ∙ shares-total (below ls) ls _ (long-shares ls (taken ls none))
-      ∙ ap (λ (n : ℕ). signed (below ls) n) (adds-up (natAbs (gap ls)) (weights ls) (taken ls none .way))
+      ∙ shares-total (below ls) ls _ (long-shares ls)
+      ∙ ap (λ (n : ℕ). signed (below ls) n) (adds-up (natAbs (gap ls)) (weights ls) (taken-list ls none .way))
       ∙ signed-gap ls
 
   -- All amounts add up to zero.
@@ -76,8 +76,8 @@ module _ (ls : List Line) (none : sharing ls .number ≡ 0) where
   unfolding parts gap
   adds-to-zero =
       ap (λ (ps : List Part). sumℤ (map (λ p. p .amount) ps)) parts-is
-      ∙ amounts-total (below ls) ls _ (long-shares ls (taken ls none))
-      ∙ ap (λ (n : ℕ). pos (compensated ls) -ℤ pos (assessed ls) +ℤ signed (below ls) n) (adds-up (natAbs (gap ls)) (weights ls) (taken ls none .way))
+      ∙ amounts-total (below ls) ls _ (long-shares ls)
+      ∙ ap (λ (n : ℕ). pos (compensated ls) -ℤ pos (assessed ls) +ℤ signed (below ls) n) (adds-up (natAbs (gap ls)) (weights ls) (taken-list ls none .way))
       ∙ ap (λ (z : ℤ). pos (compensated ls) -ℤ pos (assessed ls) +ℤ z) (signed-gap ls)
       ∙ opposite (pos (compensated ls)) (pos (assessed ls))
 
@@ -86,7 +86,7 @@ module _ (ls : List Line) (none : sharing ls .number ≡ 0) where
   unfolding parts
   share-is i p h =
       ap (λ (ps : List Part). getD ps i p .share) parts-is
-      ∙ ap (λ (q : Part). q .share) (part-at (below ls) ls (apportion (natAbs (gap ls)) (weights ls)) i blank p (long-shares ls (taken ls none)) h)
+      ∙ ap (λ (q : Part). q .share) (part-at (below ls) ls (apportion (natAbs (gap ls)) (weights ls)) i blankLine p (long-shares ls) h)
 
   -- Where R is 0 no line has a share.
   pub zero-gap : gap ls ≡ pos 0 → (i : ℕ) (p : Part) → i < length ls → getD (sharing ls .parts) i p .share ≡ pos 0
@@ -106,7 +106,7 @@ module _ (ls : List Line) (none : sharing ls .number ≡ 0) where
 
   -- Where the sum of weights is 0, R is 0 with it, and the rule says only that the share is 0.
   pub one-fen-none : (i : ℕ) (p : Part) → allWeights ls ≡ 0 → i < length ls → (gap ls ≡ pos 0) × (getD (sharing ls .parts) i p .share ≡ pos 0)
-  one-fen-none i p z h = go (taken ls none .way)
+  one-fen-none i p z h = go (taken-list ls none .way)
     where
       go : Shareable (natAbs (gap ls)) (weights ls) → (gap ls ≡ pos 0) × (getD (sharing ls .parts) i p .share ≡ pos 0)
       go (inl e) = (none-abs (gap ls) e, zero-gap (none-abs (gap ls) e) i p h)

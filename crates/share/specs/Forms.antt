@@ -1,7 +1,7 @@
 -- The array form and the lent list: each says of its lines what `sharing` says. Assumes nothing.
 use mathlib.Core.Path.{_≡_}
 use mathlib.Core.Bool.{cond}
-use mathlib.Core.List.{List, [], _∷_, _++_, map}
+use mathlib.Core.List.{List, [], _∷_, map}
 use Prim.Native.Nat.{ℕ}
 use lib.Dec.{eqb}
 use lib.IntN.{pos}
@@ -9,7 +9,7 @@ use lib.ListN.{take}
 use Rattle.share.specs.declared.Line.{Line}
 use Rattle.share.specs.declared.Shared.{Shared}
 use Rattle.share.specs.declared.Answer.{Answer}
-use Rattle.share.specs.Sharing.{Part, Outcome, sharing}
+use Rattle.share.specs.Sharing.{Part, firstBadLine, SharingOutcome, sharingRefused, sharingInTurn, sharing}
 
 -- a line with its share and amount filled in
 abbrev pub filled : Line → Part → Line
@@ -25,18 +25,18 @@ filled l p =
     }
 
 -- the lines with their parts filled in, as far as there are parts
-abbrev pub fill : List Part → List Line → List Line
-fill [] ls = ls
-fill (p ∷ ps) [] = []
-fill (p ∷ ps) (l ∷ ls) = filled l p ∷ fill ps ls
+abbrev pub fillIn : List Part → List Line → List Line
+fillIn [] ls = ls
+fillIn (p ∷ ps) [] = []
+fillIn (p ∷ ps) (l ∷ ls) = filled l p ∷ fillIn ps ls
 
 -- share and amount are 0
 abbrev pub cleared : Line → Line
 cleared l = filled l (record { share = pos 0; amount = pos 0 })
 
 -- a line of zeros, which is never sound
-abbrev pub blank : Line
-blank =
+abbrev pub blankLine : Line
+blankLine =
     record {
       number = 0;
       status = 0;
@@ -49,35 +49,43 @@ blank =
 
 -- The array form
 
--- the first `count` lines of the array; a line behind its last one is blank
-abbrev pub counted : List Line → ℕ → List Line
-counted lines count = take count (lines ++ blank ∷ [])
+-- the sharing of the first `count` of 64 lines: a count above 64 is 10 at the first bad of the 64, or at 64 where these are sound
+abbrev pub sharingCounted : List Line → ℕ → SharingOutcome
+sharingCounted lines count = sharingInTurn (firstBadLine 0 (take count lines)) count (take count lines)
+
+-- the lines with share and amount 0
+abbrev pub clear : List Line → List Line
+clear lines = map (λ l. cleared l) lines
 
 -- an outcome with the lines of the array: on a refusal, and beyond the count, share and amount are 0
-abbrev pub arrayOf : List Line → Outcome → Shared
+abbrev pub arrayOf : List Line → SharingOutcome → Shared
 arrayOf lines o =
-    record { number = o .number; place = o .place; gap = record { 0 = o .gap }; lines = fill (o .parts) (map (λ l. cleared l) lines) }
+    record { number = o .number; place = o .place; gap = record { 0 = o .gap }; lines = fillIn (o .parts) (clear lines) }
+
+-- a refusal, with the lines of the array
+abbrev pub refuse : ℕ → ℕ → List Line → Shared
+refuse number place lines = arrayOf lines (sharingRefused number place)
 
 -- the answer of the array form
 unfoldable pub sharedArray : List Line → ℕ → Shared
-sharedArray lines count = arrayOf lines (sharing (counted lines count))
+sharedArray lines count = arrayOf lines (sharingCounted lines count)
 
 -- number, place and R of an array form's answer
 abbrev pub answerIn : Shared → Answer
 answerIn s = record { number = s .number; place = s .place; gap = s .gap }
 
 -- number, place and R of an outcome
-abbrev pub answerOf : Outcome → Answer
+abbrev pub answerOf : SharingOutcome → Answer
 answerOf o = record { number = o .number; place = o .place; gap = record { 0 = o .gap } }
 
 -- The lent list
 
 -- how many lines are taken over from the array form: all, or none where it refused
-abbrev pub kept : Shared → ℕ → ℕ
-kept s count = cond (eqb (s .number) 0) count 0
+abbrev pub keptOf : Shared → ℕ → ℕ
+keptOf s count = cond (eqb (s .number) 0) count 0
 
 -- the lines that were lent, as they were before and are after, and the answer: on a refusal no line changes, else share and
 -- amount alone
 pub record Lent (before after : List Line) (answer : Answer) : Type 0 where
   pub says : answer ≡ answerOf (sharing before)
-  pub lines : after ≡ fill (sharing before .parts) before
+  pub lines : after ≡ fillIn (sharing before .parts) before

@@ -1,23 +1,28 @@
 -- What inner contracts speak of, and no sentence of the paper. Assumes nothing.
 use mathlib.Core.Path.{_≡_}
+use mathlib.Core.Bool.{Bool}
 use mathlib.Core.List.{List}
 use Prim.Native.Nat.{ℕ, _≤_, _<_}
+use lib.IntN.{ℤ, natAbs}
 use lib.ListN.{getD, take}
 use Rattle.share.specs.declared.Line.{Line}
 use Rattle.share.specs.declared.settle.Carried.{Carried}
-use Rattle.share.specs.Sharing.{Outcome, partsBy, mostNumber, mostCompensation}
-use Rattle.share.specs.Limits.{AllWithin}
+use Rattle.share.specs.Sharing.{SharingOutcome, below, gap, partsBy, mostCompensation}
+use Rattle.share.specs.Limits.{CountedWithin}
+
+-- R of lines, without its sign, whether it is below zero, and with it
+abbrev pub GapIs : List Line → ℕ → Bool → ℤ → Type 0
+GapIs ls amount negative whole = (amount ≡ natAbs (gap ls)) × (negative ≡ below ls) × (whole ≡ gap ls)
 
 -- where the first lines of an array are shared: what each carries, without its sign, gives its part
-pub record Given (lines : List Line) (count : ℕ) (o : Outcome) (r : Carried) : Type 0 where
-  pub few : count ≤ mostNumber
-  pub within : AllWithin (take count lines)
+pub record PartsGiven (lines : List Line) (count : ℕ) (o : SharingOutcome) (r : Carried) : Type 0 where
+  pub within : CountedWithin lines count
   pub small : (k : ℕ) → k < count → getD (r .shares .0) k 0 ≤ mostCompensation
   pub parts : partsBy (r .negative) (take count lines) (take count (r .shares .0)) ≡ o .parts
 
 -- an outcome before its parts are filled in
-pub record Carries (lines : List Line) (count : ℕ) (o : Outcome) (r : Carried) : Type 0 where
+pub record Carries (lines : List Line) (count : ℕ) (o : SharingOutcome) (r : Carried) : Type 0 where
   pub number : r .number ≡ o .number
   pub place : r .place ≡ o .place
   pub gap : r .gap .0 ≡ o .gap
-  pub given : o .number ≡ 0 → Given lines count o r
+  pub given : o .number ≡ 0 → PartsGiven lines count o r

@@ -1,16 +1,20 @@
--- Lines within the paper's limits. Assumes nothing.
+-- Lines within the paper's limits, for inner contracts. Assumes nothing.
 use mathlib.Core.List.{List}
 use Prim.Native.Nat.{ℕ, _≤_, _<_}
-use lib.ListN.{length, getD}
+use lib.ListN.{length, getD, take}
 use Rattle.share.specs.declared.Line.{Line}
-use Rattle.share.specs.Sharing.{mostEnergy, mostCompensation, mostAssessment}
+use Rattle.share.specs.Sharing.{mostNumber, mostEnergy, mostCompensation, mostAssessment}
 
 -- what a sound line keeps to, as far as sums need it
-pub record Within (l : Line) : Type 0 where
+pub record LineWithin (l : Line) : Type 0 where
   pub energy : l .energy .0 ≤ mostEnergy
   pub compensation : l .compensation .0 ≤ mostCompensation
   pub assessment : l .assessment .0 ≤ mostAssessment
 
 -- every line of a list does
-abbrev pub AllWithin : List Line → Type 0
-AllWithin ls = (i : ℕ) (d : Line) → i < length ls → Within (getD ls i d)
+abbrev pub LinesWithin : List Line → Type 0
+LinesWithin ls = (i : ℕ) (d : Line) → i < length ls → LineWithin (getD ls i d)
+
+-- the first `count` of 64 lines do
+abbrev pub CountedWithin : List Line → ℕ → Type 0
+CountedWithin lines count = (count ≤ mostNumber) × LinesWithin (take count lines)

@@ -1,10 +1,10 @@
 -- Sharing, as the paper has it, over a list of lines. Assumes nothing.
 use mathlib.Core.Bool.{Bool, true, false, cond, _&&_}
 use mathlib.Core.List.{List, [], _∷_, map}
-use Prim.Native.Nat.{ℕ, suc, _*_}
+use Prim.Native.Nat.{ℕ, suc, _*_, min}
 use lib.Dec.{leb, ltb, eqb}
 use lib.IntN.{ℤ, pos, negℤ, natAbs, _+ℤ_, _-ℤ_}
-use lib.ListN.{length}
+use lib.ListN.{length, take}
 use Rattle.apportion.specs.Apportion.{total, apportion}
 use Rattle.units.specs.Money.{fenPerThousandth}
 use Rattle.share.specs.declared.Line.{Line}
@@ -56,20 +56,20 @@ gap ls = pos (assessed ls) -ℤ pos (compensated ls)
 -- Weights
 
 -- 10 for status 0, 5 for 1, and for 2 12 if A < C, else 10
-abbrev pub factor : Bool → ℕ → ℕ
-factor isBelow status = cond (eqb status 0) 10 (cond (eqb status 1) 5 (cond isBelow 12 10))
+abbrev pub factorOf : Bool → ℕ → ℕ
+factorOf isBelow status = cond (eqb status 0) 10 (cond (eqb status 1) 5 (cond isBelow 12 10))
 
 -- weight is energy times the factor of the status
 abbrev pub weightOf : Bool → Line → ℕ
-weightOf isBelow l = l .energy .0 * factor isBelow (l .status)
+weightOf isBelow l = l .energy .0 * factorOf isBelow (l .status)
 
 -- the weights of the lines, where it is known whether A < C
-abbrev pub weightsBy : Bool → List Line → List ℕ
-weightsBy isBelow ls = map (λ l. weightOf isBelow l) ls
+abbrev pub weightsOf : Bool → List Line → List ℕ
+weightsOf isBelow ls = map (λ l. weightOf isBelow l) ls
 
 -- the weights of the lines
 abbrev pub weights : List Line → List ℕ
-weights ls = weightsBy (below ls) ls
+weights ls = weightsOf (below ls) ls
 
 -- the sum of the weights
 abbrev pub allWeights : List Line → ℕ
@@ -107,42 +107,53 @@ parts ls = partsBy (below ls) ls (apportion (natAbs (gap ls)) (weights ls))
 
 -- Refusals
 
--- a line is sound after the number `before`: numbers rise strictly, and each field is within its limits
-unfoldable pub soundLine : ℕ → Line → Bool
-soundLine before l =
-    ltb before (l .number) && leb (l .number) mostNumber && leb (l .status) mostStatus && leb (l .energy .0) mostEnergy
-    && leb (l .compensation .0) mostCompensation && leb (l .assessment .0) mostAssessment
+-- the five numbers of a line are sound after the number `before`: numbers rise strictly, and each is within its limit
+abbrev pub numbersAreSound : ℕ → ℕ → ℕ → ℕ → ℕ → ℕ → Bool
+numbersAreSound before number status energy compensation assessment =
+    ltb before number && leb number mostNumber && leb status mostStatus && leb energy mostEnergy
+    && leb compensation mostCompensation && leb assessment mostAssessment
+
+-- a line is sound after the number `before`
+unfoldable pub lineIsSound : ℕ → Line → Bool
+lineIsSound before l = numbersAreSound before (l .number) (l .status) (l .energy .0) (l .compensation .0) (l .assessment .0)
 
 -- the place of the first line that is not sound, or the number of lines where all are
-abbrev pub firstBad : ℕ → List Line → ℕ
-firstBad before [] = 0
-firstBad before (l ∷ ls) = cond (soundLine before l) (suc (firstBad (l .number) ls)) 0
+abbrev pub firstBadLine : ℕ → List Line → ℕ
+firstBadLine before [] = 0
+firstBadLine before (l ∷ ls) = cond (lineIsSound before l) (suc (firstBadLine (l .number) ls)) 0
 
 -- R is not 0 and all weights are 0
 abbrev pub weightless : List Line → Bool
 weightless ls = ltb 0 (natAbs (gap ls)) && eqb (allWeights ls) 0
 
 -- number and place of a refusal, or zeros; R; and what each line gets
-pub record Outcome : Type 0 where
+pub record SharingOutcome : Type 0 where
   pub number : ℕ
   pub place : ℕ
   pub gap : ℤ
   pub parts : List Part
 
 -- a refusal gives number and place, otherwise zeros
-abbrev pub refused : ℕ → ℕ → Outcome
-refused number place = record { number = number; place = place; gap = pos 0; parts = [] }
+abbrev pub sharingRefused : ℕ → ℕ → SharingOutcome
+sharingRefused number place = record { number = number; place = place; gap = pos 0; parts = [] }
 
 -- accepted, number and place are 0; sharing gives R
-abbrev pub accepted : List Line → Outcome
-accepted ls = record { number = 0; place = 0; gap = gap ls; parts = parts ls }
+abbrev pub sharingAccepted : List Line → SharingOutcome
+sharingAccepted ls = record { number = 0; place = 0; gap = gap ls; parts = parts ls }
 
 -- where every line is sound: 15 where C is above 10^11, 16 where R is not 0 and all weights are 0
-unfoldable pub settled : List Line → Outcome
+unfoldable pub settled : List Line → SharingOutcome
 settled ls =
-    cond (ltb mostCompensation (compensated ls)) (refused 15 0)
-    (cond (weightless ls) (refused 16 0) (accepted ls))
+    cond (ltb mostCompensation (compensated ls)) (sharingRefused 15 0)
+    (cond (weightless ls) (sharingRefused 16 0) (sharingAccepted ls))
 
--- Sharing: 10 in turn, 15, 16. A 65th line is never sound, since numbers rise strictly up to 64.
-unfoldable pub sharing : List Line → Outcome
-sharing ls = cond (ltb (firstBad 0 ls) (length ls)) (refused 10 (firstBad 0 ls)) (settled ls)
+-- Sharing of so many lines, of whose first 64 the first bad one is at the place `bad`: 10 in turn, 15, 16. A bad line of the first 64 is
+-- refused at its place; where these are sound, more than 64 lines are refused at 64.
+unfoldable pub sharingInTurn : ℕ → ℕ → List Line → SharingOutcome
+sharingInTurn bad count ls =
+    cond (ltb bad (min count mostNumber)) (sharingRefused 10 bad)
+    (cond (ltb mostNumber count) (sharingRefused 10 mostNumber) (settled ls))
+
+-- Sharing of a list of lines
+abbrev pub sharing : List Line → SharingOutcome
+sharing ls = sharingInTurn (firstBadLine 0 (take mostNumber ls)) (length ls) ls

@@ -6,8 +6,9 @@ use Prim.Native.Nat.{ℕ, zero, suc, _≤_, _<_}
 use lib.IntN.{pos}
 use lib.ListN.{length, getD}
 use Rattle.share.specs.declared.Line.{Line}
-use Rattle.share.specs.Sharing.{mostNumber, mostStatus, mostEnergy, mostCompensation, mostAssessment, compensated, gap, allWeights, Outcome, refused, accepted, sharing}
-use Rattle.share.specs.Forms.{blank}
+use Rattle.share.specs.Sharing.{mostNumber, mostStatus, mostEnergy, mostCompensation, mostAssessment}
+use Rattle.share.specs.Sharing.{compensated, gap, allWeights, SharingOutcome, sharingRefused, sharingAccepted}
+use Rattle.share.specs.Forms.{blankLine}
 
 -- numbers 1 to 64 rising strictly, and each field within its limits
 pub record SoundLine (before : ℕ) (l : Line) : Type 0 where
@@ -21,11 +22,11 @@ pub record SoundLine (before : ℕ) (l : Line) : Type 0 where
 -- the number of the line before a place; `first` before the first
 unfoldable pub numberBefore : ℕ → List Line → ℕ → ℕ
 numberBefore first ls zero = first
-numberBefore first ls (suc k) = getD ls k blank .number
+numberBefore first ls (suc k) = getD ls k blankLine .number
 
 -- the line at a place is sound
 abbrev pub SoundAt : List Line → ℕ → Type 0
-SoundAt ls k = SoundLine (numberBefore 0 ls k) (getD ls k blank)
+SoundAt ls k = SoundLine (numberBefore 0 ls k) (getD ls k blankLine)
 
 -- every line is sound
 abbrev pub AllSound : List Line → Type 0
@@ -37,9 +38,12 @@ pub record FirstBad (ls : List Line) (p : ℕ) : Type 0 where
   pub before : (k : ℕ) → k < p → SoundAt ls k
   pub bad : SoundAt ls p → ⊥
 
--- No. 10, 15, 16, and the sharing, each under its condition
-pub data Verdict (ls : List Line) (o : Outcome) : Type 0 where
-  ten : (p : ℕ) → FirstBad ls p → o ≡ refused 10 p → Verdict ls o
-  fifteen : AllSound ls → mostCompensation < compensated ls → o ≡ refused 15 0 → Verdict ls o
-  sixteen : AllSound ls → compensated ls ≤ mostCompensation → gap ls ≢ pos 0 → allWeights ls ≡ 0 → o ≡ refused 16 0 → Verdict ls o
-  shared : AllSound ls → compensated ls ≤ mostCompensation → (gap ls ≡ pos 0) ⊎ (0 < allWeights ls) → o ≡ accepted ls → Verdict ls o
+-- No. 10 at a line, 10 for a 65th line, 15, 16, and the sharing, each under its condition
+pub data SharingVerdict (ls : List Line) (o : SharingOutcome) : Type 0 where
+  ten : (p : ℕ) → p < mostNumber → FirstBad ls p → o ≡ sharingRefused 10 p → SharingVerdict ls o
+  more : mostNumber < length ls → ((k : ℕ) → k < mostNumber → SoundAt ls k) → o ≡ sharingRefused 10 mostNumber → SharingVerdict ls o
+  fifteen : AllSound ls → mostCompensation < compensated ls → o ≡ sharingRefused 15 0 → SharingVerdict ls o
+  sixteen : AllSound ls → compensated ls ≤ mostCompensation → gap ls ≢ pos 0 → allWeights ls ≡ 0
+      → o ≡ sharingRefused 16 0 → SharingVerdict ls o
+  shared : AllSound ls → compensated ls ≤ mostCompensation → (gap ls ≡ pos 0) ⊎ (0 < allWeights ls)
+      → o ≡ sharingAccepted ls → SharingVerdict ls o

@@ -9,10 +9,10 @@ use units::Thousandths;
 ghost use mathlib.Core.Path.{_≡_};
 ghost use Prim.Native.Nat.{_<_, _≤_, min};
 ghost use lib.ListN.{getD, set, replicate};
-ghost use Rattle.share.specs.Forms.{blank, answerIn, kept};
+ghost use Rattle.share.specs.Forms.{blankLine, answerIn, keptOf};
 
 pub fn blank_line() -> Line
-    ensures { λ r. ⌜ r ≡ blank ⌝ }
+    ensures { λ r. ⌜ r ≡ blankLine ⌝ }
 {
     Line {
         number: 0,
@@ -26,7 +26,7 @@ pub fn blank_line() -> Line
 }
 
 pub fn blank_lines() -> [Line; 64]
-    ensures { λ r. ⌜ r ≡ replicate 64 blank ⌝ }
+    ensures { λ r. ⌜ r ≡ replicate 64 blankLine ⌝ }
 {
     let none = blank_line();
     [none; 64]
@@ -49,20 +49,20 @@ pub fn put_line(mut lines: [Line; 64], i: usize, l: Line) -> [Line; 64]
 
 pub fn take_line(s: Shared, i: usize) -> Line
     requires { ⌜ i < 64 ⌝ }
-    ensures { λ r. ⌜ r ≡ getD (s .lines) i blank ⌝ }
+    ensures { λ r. ⌜ r ≡ getD (s .lines) i blankLine ⌝ }
 {
     s.lines[i]
 }
 
 // How many lines are taken over: all, or none where the array form refused.
 pub fn kept_of(s: Shared, count: usize) -> usize
-    ensures { λ r. ⌜ (r ≡ kept s count) × (r ≤ count) ⌝ }
+    ensures { λ r. ⌜ (r ≡ keptOf s count) × (r ≤ count) ⌝ }
 {
     if s.number == 0 { count } else { 0 }
 }
 
 // What an array form's answer says besides its lines.
-pub fn answer_of(s: Shared) -> Answer
+pub fn answer_in(s: Shared) -> Answer
     ensures { λ r. ⌜ r ≡ answerIn s ⌝ }
 {
     let gap = s.gap;

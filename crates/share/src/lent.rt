@@ -1,7 +1,7 @@
 // Lines that the caller lends, filled in by the array form.
 use crate::Answer;
 use crate::Line;
-use crate::array::answer_of;
+use crate::array::answer_in;
 use crate::array::blank_lines;
 use crate::array::kept_of;
 use crate::array::put_line;
@@ -29,5 +29,5 @@ pub fn share_lines(lines: &mut [Line]) -> Answer
         lines[j] = take_line(s, j);
         j += 1;
     }
-    answer_of(s)
+    answer_in(s)
 }

@@ -1,6 +1,7 @@
 // Sharing: the gap between assessments and compensations, carried by the lines by weight.
 pub mod array;
 pub mod lent;
+pub mod limits;
 pub mod settle;
 
 use units::Fen;

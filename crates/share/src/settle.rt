@@ -2,19 +2,22 @@
 use crate::Line;
 use crate::Shared;
 use crate::array::seen;
+use crate::limits::MOST_COMPENSATION;
+use crate::limits::numbers_are_sound;
 use units::Fen;
 use units::SignedFen;
 ghost use mathlib.Core.Path.{_≡_};
-ghost use mathlib.Core.List.{List, map};
+ghost use mathlib.Core.List.{List};
 ghost use Prim.Native.Nat.{ℕ, _+_, _*_, _^_, _<_, _≤_};
 ghost use lib.ListN.{getD, take};
 ghost use lib.IntN.{pos, natAbs, _-ℤ_};
 ghost use Rattle.apportion.specs.Apportion.{total, apportion};
-ghost use Rattle.share.specs.Sharing.{factor, weightOf, weightsBy, compensated, assessed, below, gap, partOf, partsBy, soundLine, firstBad, refused, settled, sharing, mostEnergy, mostCompensation};
 ghost use Rattle.share.specs.declared.Line.{Line};
-ghost use Rattle.share.specs.Limits.{Within, AllWithin};
-ghost use Rattle.share.specs.Forms.{filled, fill, cleared, counted, arrayOf};
-ghost use Rattle.share.specs.Inner.{Carries};
+ghost use Rattle.share.specs.Sharing.{factorOf, weightOf, weightsOf, compensated, assessed, partOf, partsBy};
+ghost use Rattle.share.specs.Sharing.{lineIsSound, firstBadLine, sharingRefused, settled, mostEnergy, mostCompensation};
+ghost use Rattle.share.specs.Forms.{filled, fillIn, clear, refuse, sharingCounted};
+ghost use Rattle.share.specs.Limits.{LineWithin, CountedWithin};
+ghost use Rattle.share.specs.Inner.{GapIs, Carries};
 
 // C and A.
 pub struct Totals {
@@ -36,7 +39,7 @@ pub struct Carried {
 
 // The factor of a status; `negative` says that A < C, so that R is below zero.
 fn factor_of(negative: bool, status: u8) -> u64
-    ensures { λ r. ⌜ r ≡ factor negative status ⌝ }
+    ensures { λ r. ⌜ r ≡ factorOf negative status ⌝ }
     ensures { λ r. ⌜ r ≤ 12 ⌝ }
 {
     if status == 0 {
@@ -50,7 +53,7 @@ fn factor_of(negative: bool, status: u8) -> u64
     }
 }
 
-fn weight(l: Line, negative: bool) -> u64
+fn weight_of(l: Line, negative: bool) -> u64
     requires { ⌜ l .energy .0 ≤ mostEnergy ⌝ }
     ensures { λ r. ⌜ r ≡ weightOf negative l ⌝ }
 {
@@ -58,27 +61,29 @@ fn weight(l: Line, negative: bool) -> u64
 }
 
 // Whether a line is sound after the number `before`.
-fn sound(l: Line, before: u16) -> bool
-    ensures { λ r. ⌜ r ≡ soundLine before l ⌝ }
+fn line_is_sound(l: Line, before: u16) -> bool
+    ensures { λ r. ⌜ r ≡ lineIsSound before l ⌝ }
 {
-    (before < l.number)
-        & (l.number <= 64)
-        & (l.status <= 2)
-        & (l.energy.0 <= 5000000)
-        & (l.compensation.0 <= 100000000000)
-        & (l.assessment.0 <= 10000000)
+    numbers_are_sound(
+        before as u64,
+        l.number as u64,
+        l.status as u64,
+        l.energy.0 as u64,
+        l.compensation.0,
+        l.assessment.0 as u64,
+    )
 }
 
 // The place of the first line that is not sound, or count.
-fn first_bad(lines: [Line; 64], count: usize) -> usize
+fn first_bad_line(lines: [Line; 64], count: usize) -> usize
     requires { ⌜ count ≤ 64 ⌝ }
-    ensures { λ r. ⌜ r ≡ firstBad 0 (take count lines) ⌝ }
+    ensures { λ r. ⌜ r ≡ firstBadLine 0 (take count lines) ⌝ }
 {
     let mut before: u16 = 0;
     let mut i: usize = 0;
     while i < count {
         let l = lines[i];
-        if sound(l, before) {
+        if line_is_sound(l, before) {
             before = l.number;
         } else {
             return i;
@@ -90,7 +95,9 @@ fn first_bad(lines: [Line; 64], count: usize) -> usize
 
 // C and A in one pass.
 fn sums(lines: [Line; 64], count: usize) -> Totals
-    requires { ⌜ (count ≤ 64) × (compensated (take count lines) < 2 ^ 63) × (assessed (take count lines) < 2 ^ 63) ⌝ }
+    requires { ⌜ count ≤ 64 ⌝ }
+    requires { ⌜ compensated (take count lines) < 2 ^ 63 ⌝ }
+    requires { ⌜ assessed (take count lines) < 2 ^ 63 ⌝ }
     ensures { λ r. ⌜ r .compensated .0 ≡ compensated (take count lines) ⌝ }
     ensures { λ r. ⌜ r .assessed .0 ≡ assessed (take count lines) ⌝ }
 {
@@ -112,14 +119,14 @@ fn sums(lines: [Line; 64], count: usize) -> Totals
 
 // The weights of the first lines.
 fn weights_of(lines: [Line; 64], count: usize, negative: bool) -> [u64; 64]
-    requires { ⌜ (count ≤ 64) × AllWithin (take count lines) ⌝ }
-    ensures { λ r. ⌜ take count r ≡ weightsBy negative (take count lines) ⌝ }
+    requires { ⌜ CountedWithin lines count ⌝ }
+    ensures { λ r. ⌜ take count r ≡ weightsOf negative (take count lines) ⌝ }
 {
     let mut ws = [0u64; 64];
     let mut i: usize = 0;
     while i < count {
         let l = lines[i];
-        ws[i] = weight(l, negative);
+        ws[i] = weight_of(l, negative);
         i += 1;
     }
     ws
@@ -127,7 +134,8 @@ fn weights_of(lines: [Line; 64], count: usize, negative: bool) -> [u64; 64]
 
 // The difference of two amounts, with its sign.
 fn difference(a: Fen, b: Fen) -> SignedFen
-    requires { ⌜ (a .0 < 2 ^ 63) × (b .0 < 2 ^ 63) ⌝ }
+    requires { ⌜ a .0 < 2 ^ 63 ⌝ }
+    requires { ⌜ b .0 < 2 ^ 63 ⌝ }
     ensures { λ r. ⌜ r .0 ≡ pos (a .0) -ℤ pos (b .0) ⌝ }
 {
     SignedFen((a.0 as i64) - (b.0 as i64))
@@ -140,39 +148,40 @@ fn apart(a: u64, b: u64) -> Fen
     if a < b { Fen(b - a) } else { Fen(a - b) }
 }
 
-fn with(l: Line, share: SignedFen, amount: SignedFen) -> Line
+fn filled(l: Line, share: SignedFen, amount: SignedFen) -> Line
     ensures { λ r. ⌜ r ≡ filled l (record { share = share .0; amount = amount .0 }) ⌝ }
 {
-    let mut filled = l;
-    filled.share = share;
-    filled.amount = amount;
-    filled
+    let mut done = l;
+    done.share = share;
+    done.amount = amount;
+    done
 }
 
 // A line with its share, with the sign put on, and its amount.
 pub fn finish(l: Line, s: Fen, negative: bool) -> Line
-    requires { ⌜ Within l × (s .0 ≤ mostCompensation) ⌝ }
+    requires { ⌜ LineWithin l ⌝ }
+    requires { ⌜ s .0 ≤ mostCompensation ⌝ }
     ensures { λ r. ⌜ r ≡ filled l (partOf negative l (s .0)) ⌝ }
 {
     let c = l.compensation.0;
     let n = s.0;
     let f = l.assessment.to_fen();
     if negative {
-        with(l, difference(Fen(0), s), difference(Fen(c), Fen(f.0 + n)))
+        filled(l, difference(Fen(0), s), difference(Fen(c), Fen(f.0 + n)))
     } else {
-        with(l, difference(s, Fen(0)), difference(Fen(c + n), f))
+        filled(l, difference(s, Fen(0)), difference(Fen(c + n), f))
     }
 }
 
 // The lines with share and amount 0.
 fn clear(lines: [Line; 64]) -> [Line; 64]
-    ensures { λ r. ⌜ r ≡ map (λ l. cleared l) lines ⌝ }
+    ensures { λ r. ⌜ r ≡ clear lines ⌝ }
 {
     let mut out = lines;
     let mut i: usize = 0;
     while i < 64 {
         let l = lines[i];
-        out[i] = with(l, SignedFen(0), SignedFen(0));
+        out[i] = filled(l, SignedFen(0), SignedFen(0));
         i += 1;
     }
     out
@@ -180,9 +189,9 @@ fn clear(lines: [Line; 64]) -> [Line; 64]
 
 // The first lines with their shares filled in, the others cleared.
 pub fn fill_in(lines: [Line; 64], shares: FenEach, count: usize, negative: bool) -> [Line; 64]
-    requires { ⌜ (count ≤ 64) × AllWithin (take count lines) ⌝ }
+    requires { ⌜ CountedWithin lines count ⌝ }
     requires { ⌜ ((k : ℕ) → k < count → getD (shares .0) k 0 ≤ mostCompensation) ⌝ }
-    ensures { λ r. ⌜ r ≡ fill (partsBy negative (take count lines) (take count (shares .0))) (map (λ l. cleared l) lines) ⌝ }
+    ensures { λ r. ⌜ r ≡ fillIn (partsBy negative (take count lines) (take count (shares .0))) (clear lines) ⌝ }
 {
     let mut out = clear(lines);
     let ss = shares.0;
@@ -198,7 +207,9 @@ pub fn fill_in(lines: [Line; 64], shares: FenEach, count: usize, negative: bool)
 
 // The shares of an amount by the first weights.
 fn shares_of(amount: Fen, weights: [u64; 64], count: usize) -> FenEach
-    requires { ⌜ (count ≤ 64) × (amount .0 < 2 ^ 63) × (total (take count weights) < 2 ^ 62) ⌝ }
+    requires { ⌜ count ≤ 64 ⌝ }
+    requires { ⌜ amount .0 < 2 ^ 63 ⌝ }
+    requires { ⌜ total (take count weights) < 2 ^ 62 ⌝ }
     requires { ⌜ (0 < amount .0 → 0 < total (take count weights)) ⌝ }
     ensures { λ r. ⌜ take count (r .0) ≡ apportion (amount .0) (take count weights) ⌝ }
 {
@@ -212,7 +223,7 @@ fn shares_of(amount: Fen, weights: [u64; 64], count: usize) -> FenEach
 }
 
 pub fn refuse(number: u32, place: usize, lines: [Line; 64]) -> Shared
-    ensures { λ r. ⌜ r ≡ arrayOf lines (refused number place) ⌝ }
+    ensures { λ r. ⌜ r ≡ refuse number place lines ⌝ }
 {
     Shared {
         number,
@@ -224,7 +235,7 @@ pub fn refuse(number: u32, place: usize, lines: [Line; 64]) -> Shared
 
 fn refusal(number: u32, place: usize) -> Carried
     requires { ⌜ 0 < number ⌝ }
-    ensures { λ r. ⌜ ((lines : List Line) (count : ℕ) → Carries lines count (refused number place) r) ⌝ }
+    ensures { λ r. ⌜ ((lines : List Line) (count : ℕ) → Carries lines count (sharingRefused number place) r) ⌝ }
 {
     Carried {
         number,
@@ -237,12 +248,14 @@ fn refusal(number: u32, place: usize) -> Carried
 
 // 16, or the sharing of |R|; `negative` says that R, in `whole`, is below zero.
 fn part(lines: [Line; 64], count: usize, amount: Fen, negative: bool, whole: SignedFen) -> Carried
-    requires { ⌜ (count ≤ 64) × AllWithin (take count lines) × (amount .0 ≤ mostCompensation) × (compensated (take count lines) ≤ mostCompensation) ⌝ }
-    requires { ⌜ (amount .0 ≡ natAbs (gap (take count lines))) × (negative ≡ below (take count lines)) × (whole .0 ≡ gap (take count lines)) ⌝ }
+    requires { ⌜ CountedWithin lines count ⌝ }
+    requires { ⌜ compensated (take count lines) ≤ mostCompensation ⌝ }
+    requires { ⌜ amount .0 ≤ mostCompensation ⌝ }
+    requires { ⌜ GapIs (take count lines) (amount .0) negative (whole .0) ⌝ }
     ensures { λ r. ⌜ Carries lines count (settled (take count lines)) r ⌝ }
 {
     let ws = weights_of(lines, count, negative);
-    let all = apportion::sum_of(&ws[..count]);
+    let all = apportion::total(&ws[..count]);
     if 0 < amount.0 {
         if all == 0 {
             return refusal(16, 0);
@@ -260,12 +273,12 @@ fn part(lines: [Line; 64], count: usize, amount: Fen, negative: bool, whole: Sig
 
 // 15, 16, or the sharing.
 fn settle(lines: [Line; 64], count: usize) -> Carried
-    requires { ⌜ (count ≤ 64) × AllWithin (take count lines) ⌝ }
+    requires { ⌜ CountedWithin lines count ⌝ }
     ensures { λ r. ⌜ Carries lines count (settled (take count lines)) r ⌝ }
 {
     let s = sums(lines, count);
     let c = s.compensated.0;
-    if 100000000000 < c {
+    if MOST_COMPENSATION < c {
         return refusal(15, 0);
     }
     let a = s.assessed.0;
@@ -276,9 +289,9 @@ fn settle(lines: [Line; 64], count: usize) -> Carried
 
 // 10, 15, 16, or the sharing, of the first `count` of 64 lines.
 pub fn outcome(lines: [Line; 64], count: usize) -> Carried
-    ensures { λ r. ⌜ Carries lines count (sharing (counted lines count)) r ⌝ }
+    ensures { λ r. ⌜ Carries lines count (sharingCounted lines count) r ⌝ }
 {
-    let bad = first_bad(lines, seen(count));
+    let bad = first_bad_line(lines, seen(count));
     if bad < count {
         return refusal(10, bad);
     }

@@ -1,4 +1,5 @@
 pub mod Spelling
+pub mod Reading
 pub mod ByteCases
 pub mod Refusals
 pub mod ThreeForms

@@ -1,28 +1,137 @@
 -- Each refusal over bytes is given exactly under its condition. Assumes nothing.
-use mathlib.Core.Path.{_≡_, sym, _∙_}
+use mathlib.Core.Path.{_≡_, refl, sym, ap, _∙_}
+use mathlib.Core.Bool.{Bool, true, false, true≢false}
 use mathlib.Core.List.{List}
-use Prim.Native.Nat.{ℕ, _*_, _/_, _%_, _<_}
+use mathlib.Core.Logic.{_⊎_, _≢_}
+use Prim.Native.Nat.{ℕ, _*_, _%_, _≤_, _<_}
 use native.Mathlib.Decide.{decLt, ℕ-discrete}
 use native.Mathlib.Omega.{arith}
+use lib.Dec.{lit<}
+use lib.IntN.{pos}
 use lib.ListN.{length}
-use Rattle.share.specs.Sharing.{Outcome, sharing}
-use Rattle.share_bytes.specs.Bytes.{linesOf, sharingBytes}
-use Rattle.share_bytes.specs.Verdict.{ByteVerdict, one, asLines, nine, written}
+use Rattle.share.specs.declared.Line.{Line}
+use Rattle.share.specs.Sharing.{mostNumber, mostCompensation, compensated, gap, allWeights, SharingOutcome, sharingRefused, sharingAccepted, sharing}
+use Rattle.share.specs.Verdict.{AllSound, FirstBad, SharingVerdict}
+use Rattle.share.specs.Verdict as lines
+use Rattle.share.proofs.Refusals.{verdict, exact, none-bad}
+use Rattle.share_bytes.specs.Bytes.{lineSize, partSize, fieldsAt, reservedZero, byteCount, byteLines, sharingSpelt, sharingBytes}
+use Rattle.share_bytes.specs.Inner.{lineAt}
+use Rattle.share_bytes.specs.Verdict.{SoundBefore, BytesShareable, ByteVerdict, one, reserved, ten, more, fifteen, sixteen, nine, written}
+use Rattle.share_bytes.proofs.Spelling.{length-lines}
+use Rattle.share_bytes.proofs.Reading.{read, bad-read, same-read, turn-read, zero-read, sound-spelt, sound-read, before-spelt, before-read}
 use Rattle.share_bytes.proofs.ByteCases.{bytes-1, bytes-refused, bytes-9, bytes-on}
+
+module _ (input : List ℕ) where
+  long : length (read input) ≡ byteCount input
+  long = length-lines (lineAt input) 0 (byteCount input)
+
+  zeros : (p : ℕ) → SoundBefore input p → reservedZero input (lineSize * p) ≡ true → (j : ℕ) → j ≤ p → reservedZero input (lineSize * j) ≡ true
+  zeros p s z j i = go (decLt j p)
+    where
+      go : Dec (j < p) → reservedZero input (lineSize * j) ≡ true
+      go (yes l) = s j l .reserved
+      go (no g) = let same : j ≡ p = omega arith in rw same z
+
+  -- where the lines that are read are sound, they are the lines that are spelt
+  spelt : AllSound (read input) → read input ≡ byteLines input
+  spelt a = same-read 0 input 0 (byteCount input) (omega (arith, long, none-bad (read input) a, bad-read 0 input 0 (byteCount input)))
+
+  all-spelt : AllSound (read input) → SoundBefore input (byteCount input)
+  all-spelt a = before-spelt input (byteCount input) (omega arith) (λ k h. a k (omega (arith, long)))
+
+  all-read : SoundBefore input (byteCount input) → AllSound (read input)
+  all-read s k h = before-read input (byteCount input) (omega arith) s k (omega (arith, long))
+
+  module _ (room : ℕ) (whole : length input % lineSize ≡ 0) where
+    refuses : (number place : ℕ) → 0 < number → sharingRefused number place ≡ sharing (read input) → sharingRefused number place ≡ sharingBytes input room
+    refuses number place some e =
+        let s = e ∙ turn-read input in
+        s ∙ bytes-refused input room whole (omega (arith, some, ap (λ (o : SharingOutcome). o .number) s))
+
+    -- what the lines that are read say is what the bytes say
+    from-lines : SharingVerdict (read input) (sharing (read input)) → ByteVerdict input room (sharingBytes input room)
+    from-lines (lines.ten p few f e) = go (reservedZero input (lineSize * p)) refl
+      where
+        there : p < byteCount input
+        there = omega (arith, f .within, long)
+
+        before : SoundBefore input p
+        before = before-spelt input p (omega (arith, there)) (f .before)
+
+        go : (z : Bool) → reservedZero input (lineSize * p) ≡ z → ByteVerdict input room (sharingBytes input room)
+        go false z = reserved whole p few there before z (sym (refuses 10 p (lit< tt) (sym e)))
+        go true z = ten whole p few there before z (λ s. f .bad (sound-read input p there (zeros p before z) s)) (sym (refuses 10 p (lit< tt) (sym e)))
+    from-lines (lines.more m s e) =
+        more whole (omega (arith, long)) (before-spelt input mostNumber (omega (arith, long)) s) (sym (refuses 10 mostNumber (lit< tt) (sym e)))
+    from-lines (lines.fifteen a c e) = fifteen whole (all-spelt a) (rw (← spelt a) c) (sym (refuses 15 0 (lit< tt) (sym e)))
+    from-lines (lines.sixteen a c g w e) =
+        sixteen whole (all-spelt a) (rw (← spelt a) c) (rw (← spelt a) g)
+        (rw (← spelt a) w) (sym (refuses 16 0 (lit< tt) (sym e)))
+    from-lines (lines.shared a c w e) = go (decLt room (partSize * byteCount input))
+      where
+        can : BytesShareable input
+        can =
+            record {
+              sound = all-spelt a;
+              within = rw (← spelt a) c;
+              way = rw (← spelt a) w;
+            }
+
+        is : sharingSpelt input ≡ sharingAccepted (byteLines input)
+        is = sym (turn-read input) ∙ e ∙ ap sharingAccepted (spelt a)
+
+        none : sharingSpelt input .number ≡ 0
+        none = ap (λ (o : SharingOutcome). o .number) is
+
+        go : Dec (room < partSize * byteCount input) → ByteVerdict input room (sharingBytes input room)
+        go (yes h) = nine whole can h (sym (bytes-9 input room whole none h))
+        go (no f) = written whole can (omega arith) (sym (bytes-on input room whole none (omega arith)) ∙ is)
+
+  -- lines that can be shared are
+  shares : BytesShareable input → sharingSpelt input ≡ sharingAccepted (byteLines input)
+  shares b =
+      let a = all-read (b .sound) in
+      let e = spelt a in
+      sym (turn-read input)
+      ∙ sym (exact (read input) (sharingAccepted (read input)) (lines.shared a (rw e (b .within))
+      (rw e (b .way)) refl))
+      ∙ ap sharingAccepted e
 
 -- THE TABLE: sharing over bytes gives one of its verdicts ..
 pub byte-verdict : (input : List ℕ) (room : ℕ) → ByteVerdict input room (sharingBytes input room)
-byte-verdict input room = go (ℕ-discrete (length input % 24) 0) (ℕ-discrete (sharing (linesOf input) .number) 0) (decLt room (16 * (length input / 24)))
+byte-verdict input room = go (ℕ-discrete (length input % lineSize) 0)
   where
-    go : Dec (length input % 24 ≡ 0) → Dec (sharing (linesOf input) .number ≡ 0) → Dec (room < 16 * (length input / 24)) → ByteVerdict input room (sharingBytes input room)
-    go (no f) n r = one f (sym (bytes-1 input room f))
-    go (yes e) (no f) r = asLines e (omega arith) (sym (bytes-refused input room e (omega arith)))
-    go (yes e) (yes z) (yes h) = nine e z h (sym (bytes-9 input room e z h))
-    go (yes e) (yes z) (no f) = written e z (omega arith) (sym (bytes-on input room e z (omega arith)))
+    go : Dec (length input % lineSize ≡ 0) → ByteVerdict input room (sharingBytes input room)
+    go (no f) = one f (sym (bytes-1 input room f))
+    go (yes e) = from-lines input room e (verdict (read input))
 
 -- .. and where the condition of one holds, that is the one.
-pub byte-exact : (input : List ℕ) (room : ℕ) (o : Outcome) → ByteVerdict input room o → o ≡ sharingBytes input room
+pub byte-exact : (input : List ℕ) (room : ℕ) (o : SharingOutcome) → ByteVerdict input room o → o ≡ sharingBytes input room
 byte-exact input room o (one f e) = e ∙ bytes-1 input room f
-byte-exact input room o (asLines m n e) = e ∙ bytes-refused input room m n
-byte-exact input room o (nine m z h e) = e ∙ bytes-9 input room m z h
-byte-exact input room o (written m z h e) = e ∙ bytes-on input room m z h
+byte-exact input room o (reserved m p few h s z e) =
+    e ∙ refuses input room m 10 p (lit< tt) (exact (read input) _ (lines.ten p few (record {
+      within = omega (arith, h, long input);
+      before = before-read input p (omega arith) s;
+      bad = λ b. true≢false (sym (zero-read input p h b) ∙ z);
+    }) refl))
+byte-exact input room o (ten m p few h s z f e) =
+    e ∙ refuses input room m 10 p (lit< tt) (exact (read input) _ (lines.ten p few (record {
+      within = omega (arith, h, long input);
+      before = before-read input p (omega arith) s;
+      bad = λ b. f (sound-spelt input p h (zeros input p s z) b);
+    }) refl))
+byte-exact input room o (more m h s e) =
+    e ∙ refuses input room m 10 mostNumber (lit< tt) (exact (read input) _ (lines.more (omega (arith, h, long input)) (before-read input mostNumber (omega arith) s) refl))
+byte-exact input room o (fifteen m s c e) =
+    let a = all-read input s in
+    e ∙ refuses input room m 15 0 (lit< tt)
+    (exact (read input) _ (lines.fifteen a (rw (spelt input a) c) refl))
+byte-exact input room o (sixteen m s c g w e) =
+    let a = all-read input s in
+    let same = spelt input a in
+    e ∙ refuses input room m 16 0 (lit< tt)
+    (exact (read input) _ (lines.sixteen a (rw same c) (rw same g)
+    (rw same w) refl))
+byte-exact input room o (nine m b h e) = e ∙ bytes-9 input room m (ap (λ (x : SharingOutcome). x .number) (shares input b)) h
+byte-exact input room o (written m b h e) =
+    e ∙ sym (shares input b) ∙ bytes-on input room m (ap (λ (x : SharingOutcome). x .number) (shares input b)) h

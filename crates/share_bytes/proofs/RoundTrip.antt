@@ -8,10 +8,14 @@ use lib.ListN.{length, getD, drop}
 use Rattle.le.specs.Le.{leAt, leBytes}
 use Rattle.le.proofs.Laws.{leAt-append, leAt-drop, length-leBytes, back}
 use Rattle.share.specs.declared.Line.{Line}
-use Rattle.share.specs.Sharing.{sharing}
-use Rattle.share.specs.Forms.{blank, cleared}
-use Rattle.share_bytes.specs.Bytes.{fieldsAt, reservedZero, lineAt, linesFrom, linesOf, lineThen, linesBytes, sharingBytes}
+use Rattle.share.specs.Sharing.{firstBadLine, sharing}
+use Rattle.share.specs.Forms.{blankLine, cleared, clear}
 use Rattle.share.specs.Verdict.{SoundLine, AllSound}
+use Rattle.share.proofs.TwoForms.{bad-cleared}
+use Rattle.share.proofs.Refusals.{none-bad}
+use Rattle.share_bytes.specs.Bytes.{lineSize, fieldsAt, reservedZero, linesBy, byteCount, byteLines, lineThen, linesBytes, partSize, sharingBytes}
+use Rattle.share_bytes.specs.Inner.{lineAt, linesAt}
+use Rattle.share_bytes.proofs.Reading.{read, bad-read, same-read}
 use Rattle.share_bytes.proofs.ThreeForms.{bytes-as-list}
 
 -- a field behind another one
@@ -92,21 +96,21 @@ line-drop s k at =
       add-assoc k at 16,
     )
 
-lines-drop : (s : List ℕ) (k at n : ℕ) → linesFrom s (k + at) n ≡ linesFrom (drop k s) at n
-unfolding linesFrom
+lines-drop : (s : List ℕ) (k at n : ℕ) → linesAt s (k + at) n ≡ linesAt (drop k s) at n
+unfolding linesBy
 lines-drop s k at zero = refl
 lines-drop s k at (suc n) =
-    ap₂ (λ (l : Line) (ls : List Line). l ∷ ls) (line-drop s k at) (ap (λ (i : ℕ). linesFrom s i n) (add-assoc k at 24) ∙ lines-drop s k (at + 24) n)
+    ap₂ (λ (l : Line) (ls : List Line). l ∷ ls) (line-drop s k at) (ap (λ (i : ℕ). linesAt s i n) (add-assoc k at 24) ∙ lines-drop s k (at + 24) n)
 
 AllFit : List Line → Type 0
-AllFit ls = (k : ℕ) → k < length ls → Fits (getD ls k blank)
+AllFit ls = (k : ℕ) → k < length ls → Fits (getD ls k blankLine)
 
-spelt-lines : (ls : List Line) → AllFit ls → linesFrom (linesBytes ls) 0 (length ls) ≡ map (λ l. cleared l) ls
-unfolding linesFrom linesBytes AllFit
+spelt-lines : (ls : List Line) → AllFit ls → linesAt (linesBytes ls) 0 (length ls) ≡ clear ls
+unfolding linesBy linesBytes AllFit
 spelt-lines [] f = refl
 spelt-lines (l ∷ ls) f =
     ap₂ (λ (x : Line) (xs : List Line). x ∷ xs) (spelt-line l (linesBytes ls) (f 0 (omega arith)))
-    (lines-drop (lineThen l (linesBytes ls)) 24 0 (length ls) ∙ ap (λ (s : List ℕ). linesFrom s 0 (length ls)) (behind-line l (linesBytes ls) (f 0 (omega arith)))
+    (lines-drop (lineThen l (linesBytes ls)) 24 0 (length ls) ∙ ap (λ (s : List ℕ). linesAt s 0 (length ls)) (behind-line l (linesBytes ls) (f 0 (omega arith)))
     ∙ spelt-lines ls (λ k h. f (suc k) (omega arith)))
 
 length-bytes : (ls : List Line) → length (linesBytes ls) ≡ 24 * length ls
@@ -114,13 +118,20 @@ unfolding linesBytes lineThen leBytes
 length-bytes [] = omega arith
 length-bytes (l ∷ ls) = omega (arith, length-bytes ls)
 
--- Sound lines are read back from their bytes, as they were but for share and amount.
-pub reads-back : (ls : List Line) → AllSound ls → linesOf (linesBytes ls) ≡ map (λ l. cleared l) ls
+lines-back : (ls : List Line) → AllSound ls → read (linesBytes ls) ≡ clear ls
 unfolding AllFit
+lines-back ls a =
+    let n : byteCount (linesBytes ls) ≡ length ls = omega (arith, length-bytes ls) in
+    ap (linesAt (linesBytes ls) 0) n ∙ spelt-lines ls (λ k h. sound-fits (a k h))
+
+-- Sound lines are read back from their bytes, as they were but for share and amount.
+pub reads-back : (ls : List Line) → AllSound ls → byteLines (linesBytes ls) ≡ clear ls
 reads-back ls a =
-    let n : length (linesBytes ls) / 24 ≡ length ls = omega (arith, length-bytes ls) in
-    ap (linesFrom (linesBytes ls) 0) n ∙ spelt-lines ls (λ k h. sound-fits (a k h))
+    let b = lines-back ls a in
+    let n : byteCount (linesBytes ls) ≡ length ls = omega (arith, length-bytes ls) in
+    let sound = ap (firstBadLine 0) b ∙ bad-cleared 0 ls in
+    sym (same-read 0 (linesBytes ls) 0 (byteCount (linesBytes ls)) (omega (arith, n, sound, none-bad ls a, bad-read 0 (linesBytes ls) 0 (byteCount (linesBytes ls))))) ∙ b
 
 -- The byte form over the bytes of sound lines, with room, says what sharing says of the lines.
-pub bytes-of-lines : (ls : List Line) (room : ℕ) → AllSound ls → 16 * length ls ≤ room → sharingBytes (linesBytes ls) room ≡ sharing ls
-bytes-of-lines ls room a h = bytes-as-list ls (linesBytes ls) room (omega (arith, length-bytes ls)) (reads-back ls a) h
+pub bytes-of-lines : (ls : List Line) (room : ℕ) → AllSound ls → partSize * length ls ≤ room → sharingBytes (linesBytes ls) room ≡ sharing ls
+bytes-of-lines ls room a h = bytes-as-list ls (linesBytes ls) room (omega (arith, length-bytes ls)) (lines-back ls a) h

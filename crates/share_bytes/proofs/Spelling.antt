@@ -18,27 +18,31 @@ use Rattle.share.specs.declared.Line.{Line}
 use Rattle.share.specs.Sharing.{Part, partOf, partsBy}
 use Rattle.share.specs.Forms.{filled}
 use Rattle.share.proofs.Lines.{length-parts, part-at}
-use Rattle.share_bytes.specs.Bytes.{lineAt, linesFrom, partBytes, partsBytes}
+use Rattle.share_bytes.specs.Bytes.{lineSize, linesBy, partBytes, partsBytes}
 
--- Lines read
+-- Lines
 
-pub length-lines : (bytes : List ℕ) (at n : ℕ) → length (linesFrom bytes at n) ≡ n
-unfolding linesFrom
-length-lines bytes at zero = refl
-length-lines bytes at (suc n) = ap suc (length-lines bytes (at + 24) n)
+module _ (line : ℕ → Line) where
+  pub length-lines : (at n : ℕ) → length (linesBy line at n) ≡ n
+  unfolding linesBy
+  length-lines at zero = refl
+  length-lines at (suc n) = ap suc (length-lines (at + lineSize) n)
 
-pub lines-at : (bytes : List ℕ) (at n i : ℕ) (d : Line) → i < n → getD (linesFrom bytes at n) i d ≡ lineAt bytes (at + 24 * i)
-unfolding linesFrom
-lines-at bytes at zero i d h = absurd (not-suc-le-zero h)
-lines-at bytes at (suc n) zero d h = ap (lineAt bytes) (omega arith)
-lines-at bytes at (suc n) (suc i) d h = lines-at bytes (at + 24) n i d (omega arith) ∙ ap (lineAt bytes) (omega arith)
+  lines-at : (at n i : ℕ) (d : Line) → i < n → getD (linesBy line at n) i d ≡ line (at + lineSize * i)
+  unfolding linesBy
+  lines-at at zero i d h = absurd (not-suc-le-zero h)
+  lines-at at (suc n) zero d h = ap line (omega arith)
+  lines-at at (suc n) (suc i) d h = lines-at (at + lineSize) n i d (omega arith) ∙ ap line (omega arith)
 
--- the first lines of more
-pub lines-take : (bytes : List ℕ) (at m n : ℕ) → m ≤ n → linesFrom bytes at m ≡ take m (linesFrom bytes at n)
-unfolding linesFrom
-lines-take bytes at zero n h = refl
-lines-take bytes at (suc m) zero h = absurd (not-suc-le-zero h)
-lines-take bytes at (suc m) (suc n) h = ap (λ (ls : List Line). lineAt bytes at ∷ ls) (lines-take bytes (at + 24) m n (omega arith))
+  pub line-of : (n i : ℕ) (d : Line) → i < n → getD (linesBy line 0 n) i d ≡ line (lineSize * i)
+  line-of n i d h = lines-at 0 n i d h ∙ ap line (omega arith)
+
+  -- the first lines of more
+  pub lines-take : (at m n : ℕ) → m ≤ n → linesBy line at m ≡ take m (linesBy line at n)
+  unfolding linesBy
+  lines-take at zero n h = refl
+  lines-take at (suc m) zero h = absurd (not-suc-le-zero h)
+  lines-take at (suc m) (suc n) h = ap (λ (ls : List Line). line at ∷ ls) (lines-take (at + lineSize) m n (omega arith))
 
 -- Parts written
 
@@ -112,6 +116,3 @@ module _ (isBelow : Bool) (lines : List Line) (ss : List ℕ) (n : ℕ) (few : n
 -- a signed number stored as its bits: the machine's way through them and back changes nothing
 pub bits-stored : (z : ℤ) {at : ℕ} {k l : List ℕ} → SFits w64 z → Stores k at (leBytes 8 (ofZ w64 (toZ w64 (ofZ w64 z)))) l → Stores k at (leBytes 8 (ofZ w64 z)) l
 bits-stored z {at} {k} {l} f s = record { is = s .is ∙ ap (λ (v : ℤ). sets k at (leBytes 8 (ofZ w64 v))) (toZ-ofZ f) }
-
-pub line-of : (bytes : List ℕ) (n i : ℕ) (d : Line) → i < n → getD (linesFrom bytes 0 n) i d ≡ lineAt bytes (24 * i)
-line-of bytes n i d h = lines-at bytes 0 n i d h ∙ ap (lineAt bytes) (omega arith)

@@ -7,9 +7,11 @@ use lib.ListN.{replicate}
 use Rattle.le.specs.Le.{leAt}
 use Rattle.share.specs.declared.Line.{Line}
 use Rattle.share.specs.declared.Answer.{Answer}
-use Rattle.share.specs.Sharing.{gap, soundLine, parts, refused, settled, sharing}
-use Rattle.share.specs.Forms.{blank, cleared, sharedArray, answerIn, answerOf, Lent, fill}
-use Rattle.share_bytes.specs.Bytes.{fieldsAt, reservedZero, lineAt, linesFrom, linesOf, sharingBytes, ifRoom}
+use Rattle.share.specs.Sharing.{gap, lineIsSound, sharingRefused, settled, sharingInTurn, sharing}
+use Rattle.share.specs.Forms.{blankLine, clear, sharedArray, answerIn, answerOf, Lent, fillIn}
+use Rattle.share_bytes.specs.Bytes.{fieldsAt, reservedZero, linesBy, sharingBytes, ifRoom}
+use Rattle.share_bytes.specs.Inner.{lineAt}
+use Rattle.share_bytes.proofs.Reading.{read}
 use Rattle.share_bytes.proofs.ThreeForms.{same-answer}
 use Rattle.share.proofs.Worked.{equals}
 
@@ -20,16 +22,17 @@ spelt reserved =
     ++ (2 ∷ 0 ∷ 0 ∷ reserved ∷ 5 ∷ 0 ∷ 0 ∷ 0 ∷ 0 ∷ 0 ∷ 0 ∷ 0 ∷ 0 ∷ 0 ∷ 0 ∷ 0 ∷ 0 ∷ 0 ∷ 0 ∷ 0 ∷ 0 ∷ 0 ∷ 0 ∷ 0 ∷ [])
     ++ (3 ∷ 0 ∷ 0 ∷ 0 ∷ 5 ∷ 0 ∷ 0 ∷ 0 ∷ 0 ∷ 0 ∷ 0 ∷ 0 ∷ 0 ∷ 0 ∷ 0 ∷ 0 ∷ 0 ∷ 0 ∷ 0 ∷ 0 ∷ 0 ∷ 0 ∷ 0 ∷ 0 ∷ [])
 
-spelt-lines : linesOf (spelt 0) ≡ equals
-unfolding linesFrom lineAt reservedZero fieldsAt leAt
+spelt-lines : read (spelt 0) ≡ equals
+unfolding linesBy lineAt reservedZero fieldsAt leAt
 spelt-lines = refl
 
-pub reserved-byte : sharingBytes (spelt 1) 48 ≡ refused 10 1
-unfolding sharingBytes ifRoom sharing settled gap soundLine linesFrom lineAt reservedZero fieldsAt leAt
+pub reserved-byte : sharingBytes (spelt 1) 48 ≡ sharingRefused 10 1
+unfolding sharingBytes ifRoom sharingInTurn settled gap lineIsSound linesBy reservedZero fieldsAt leAt
 reserved-byte = refl
 
 -- The three forms over these lines: the conditions of `same-answer` can be met.
 pub equal-forms : (after : List Line) (r : Answer) → Lent equals after r
-    → (r ≡ answerIn (sharedArray (equals ++ replicate 61 blank) 3)) × (r ≡ answerOf (sharingBytes (spelt 0) 48))
-    × (fill (sharing equals .parts) (map (λ l. cleared l) (equals ++ replicate 61 blank)) ≡ sharedArray (equals ++ replicate 61 blank) 3 .lines) × (sharing equals .parts ≡ sharingBytes (spelt 0) 48 .parts)
-equal-forms = same-answer equals (equals ++ replicate 61 blank) (spelt 0) 48 refl refl refl spelt-lines (lit≤ tt)
+    → (r ≡ answerIn (sharedArray (equals ++ replicate 61 blankLine) 3)) × (r ≡ answerOf (sharingBytes (spelt 0) 48))
+    × (fillIn (sharing equals .parts) (clear (equals ++ replicate 61 blankLine)) ≡ sharedArray (equals ++ replicate 61 blankLine) 3 .lines)
+    × (sharing equals .parts ≡ sharingBytes (spelt 0) 48 .parts)
+equal-forms = same-answer equals (equals ++ replicate 61 blankLine) (spelt 0) 48 refl refl spelt-lines (lit≤ tt)

@@ -2,7 +2,7 @@
 use mathlib.Core.Path.{_≡_}
 use mathlib.Core.Bool.{Bool, cond, _&&_}
 use mathlib.Core.List.{List, [], _∷_, _++_}
-use Prim.Native.Nat.{ℕ, zero, suc, _+_, _*_, _/_, _%_}
+use Prim.Native.Nat.{ℕ, zero, suc, _+_, _*_, _/_, _%_, min}
 use lib.Dec.{ltb, eqb}
 use lib.IntN.{pos}
 use lib.ListN.{length}
@@ -11,10 +11,16 @@ use mir.Val.{ofZ}
 use Rattle.le.specs.Le.{leAt, leBytes, Stores}
 use Rattle.share.specs.declared.Answer.{Answer}
 use Rattle.share.specs.declared.Line.{Line}
-use Rattle.share.specs.Sharing.{Part, Outcome, refused, sharing}
-use Rattle.share.specs.Forms.{blank, answerOf}
+use Rattle.share.specs.Sharing.{Part, lineIsSound, SharingOutcome, sharingRefused, sharingInTurn, mostNumber}
+use Rattle.share.specs.Forms.{answerOf}
 
--- a sharing line is 24 bytes: number u16, status u8, a zero byte, energy u32, compensation u64, assessment u32, four zero bytes
+-- Lines in bytes
+
+-- a sharing line is 24 bytes
+abbrev pub lineSize : ℕ
+lineSize = 24
+
+-- number u16, status u8, a zero byte, energy u32, compensation u64, assessment u32, four zero bytes
 unfoldable pub fieldsAt : List ℕ → ℕ → Line
 fieldsAt bytes at =
     record {
@@ -31,18 +37,28 @@ fieldsAt bytes at =
 unfoldable pub reservedZero : List ℕ → ℕ → Bool
 reservedZero bytes at = eqb (leAt bytes (at + 3) 1) 0 && eqb (leAt bytes (at + 20) 4) 0
 
--- the line at a place; one with a reserved byte that is not zero is as bad as a blank one
-unfoldable pub lineAt : List ℕ → ℕ → Line
-lineAt bytes at = cond (reservedZero bytes at) (fieldsAt bytes at) blank
+-- the line at a place is sound after the number `before`: its reserved bytes are zero, and its fields are sound
+abbrev pub bytesAreSound : ℕ → List ℕ → ℕ → Bool
+bytesAreSound before bytes at = reservedZero bytes at && lineIsSound before (fieldsAt bytes at)
 
--- so many lines from a place on
-unfoldable pub linesFrom : List ℕ → ℕ → ℕ → List Line
-linesFrom bytes at zero = []
-linesFrom bytes at (suc n) = lineAt bytes at ∷ linesFrom bytes (at + 24) n
+-- of so many lines from a place on, which of them is the first that is not sound; where all are, how many they are
+abbrev pub firstBadBytes : ℕ → List ℕ → ℕ → ℕ → ℕ
+firstBadBytes before bytes at zero = 0
+firstBadBytes before bytes at (suc n) =
+    cond (bytesAreSound before bytes at) (suc (firstBadBytes (fieldsAt bytes at .number) bytes (at + lineSize) n)) 0
+
+-- so many lines from a place on, each as it is read at its place
+unfoldable pub linesBy : (ℕ → Line) → ℕ → ℕ → List Line
+linesBy line at zero = []
+linesBy line at (suc n) = line at ∷ linesBy line (at + lineSize) n
+
+-- how many lines bytes are
+abbrev pub byteCount : List ℕ → ℕ
+byteCount bytes = length bytes / lineSize
 
 -- the lines that bytes spell
-abbrev pub linesOf : List ℕ → List Line
-linesOf bytes = linesFrom bytes 0 (length bytes / 24)
+abbrev pub byteLines : List ℕ → List Line
+byteLines bytes = linesBy (fieldsAt bytes) 0 (byteCount bytes)
 
 -- the 24 bytes of a line, and what lies behind them
 unfoldable pub lineThen : Line → List ℕ → List ℕ
@@ -55,7 +71,13 @@ unfoldable pub linesBytes : List Line → List ℕ
 linesBytes [] = []
 linesBytes (l ∷ ls) = lineThen l (linesBytes ls)
 
--- the outcome is 16 bytes a line: share i64, amount i64
+-- The outcome in bytes
+
+-- the outcome is 16 bytes a line
+abbrev pub partSize : ℕ
+partSize = 16
+
+-- share i64, amount i64
 unfoldable pub partBytes : Part → List ℕ
 partBytes p = leBytes 8 (ofZ w64 (p .share)) ++ leBytes 8 (ofZ w64 (p .amount))
 
@@ -64,13 +86,19 @@ unfoldable pub partsBytes : List Part → List ℕ
 partsBytes [] = []
 partsBytes (p ∷ ps) = partBytes p ++ partsBytes ps
 
+-- Sharing over bytes
+
+-- 10 in turn, a 65th line included, 15, 16
+abbrev pub sharingSpelt : List ℕ → SharingOutcome
+sharingSpelt input = sharingInTurn (firstBadBytes 0 input 0 (min (byteCount input) mostNumber)) (byteCount input) (byteLines input)
+
 -- 9, last of all: the output is too short for what the lines get
-unfoldable pub ifRoom : ℕ → Outcome → Outcome
-ifRoom room o = cond (ltb room (16 * length (o .parts))) (refused 9 0) o
+unfoldable pub ifRoom : ℕ → SharingOutcome → SharingOutcome
+ifRoom room o = cond (ltb room (partSize * length (o .parts))) (sharingRefused 9 0) o
 
 -- 1 comes first, where the length is no multiple of 24
-unfoldable pub sharingBytes : List ℕ → ℕ → Outcome
-sharingBytes input room = cond (eqb (length input % 24) 0) (ifRoom room (sharing (linesOf input))) (refused 1 0)
+unfoldable pub sharingBytes : List ℕ → ℕ → SharingOutcome
+sharingBytes input room = cond (eqb (length input % lineSize) 0) (ifRoom room (sharingSpelt input)) (sharingRefused 1 0)
 
 -- the output as it was before and is after, and the answer: what each line gets stands at its front, bytes behind it stay, and on
 -- a refusal all of it stays

@@ -1,15 +1,43 @@
 -- The refusals of sharing over bytes as the paper's table has them, each with the condition under which it is given. Assumes nothing.
 use mathlib.Core.Path.{_≡_}
+use mathlib.Core.Bool.{true, false}
 use mathlib.Core.List.{List}
-use mathlib.Core.Logic.{_≢_}
-use Prim.Native.Nat.{ℕ, _*_, _/_, _%_, _≤_, _<_}
+use mathlib.Core.Logic.{_⊎_, _≢_}
+use Prim.Native.Nat.{ℕ, _*_, _%_, _≤_, _<_}
+use lib.IntN.{pos}
 use lib.ListN.{length}
-use Rattle.share.specs.Sharing.{Outcome, refused, sharing}
-use Rattle.share_bytes.specs.Bytes.{linesOf}
+use Rattle.share.specs.Sharing.{mostNumber, mostCompensation, compensated, gap, allWeights, SharingOutcome, sharingRefused, sharingAccepted}
+use Rattle.share.specs.Verdict.{SoundAt}
+use Rattle.share_bytes.specs.Bytes.{lineSize, partSize, reservedZero, byteCount, byteLines}
 
--- over bytes 1 comes first and 9 last
-pub data ByteVerdict (input : List ℕ) (room : ℕ) (o : Outcome) : Type 0 where
-  one : length input % 24 ≢ 0 → o ≡ refused 1 0 → ByteVerdict input room o
-  asLines : length input % 24 ≡ 0 → 0 < sharing (linesOf input) .number → o ≡ sharing (linesOf input) → ByteVerdict input room o
-  nine : length input % 24 ≡ 0 → sharing (linesOf input) .number ≡ 0 → room < 16 * (length input / 24) → o ≡ refused 9 0 → ByteVerdict input room o
-  written : length input % 24 ≡ 0 → sharing (linesOf input) .number ≡ 0 → 16 * (length input / 24) ≤ room → o ≡ sharing (linesOf input) → ByteVerdict input room o
+-- the reserved bytes of a line are zero, and its fields are those of a sound line
+pub record SoundBytes (input : List ℕ) (k : ℕ) : Type 0 where
+  pub reserved : reservedZero input (lineSize * k) ≡ true
+  pub fields : SoundAt (byteLines input) k
+
+-- the lines before a place are
+abbrev pub SoundBefore : List ℕ → ℕ → Type 0
+SoundBefore input p = (k : ℕ) → k < p → SoundBytes input k
+
+-- the lines can be shared: all are sound, C is at most 10^11, and R is 0 or there is a weight
+pub record BytesShareable (input : List ℕ) : Type 0 where
+  pub sound : SoundBefore input (byteCount input)
+  pub within : compensated (byteLines input) ≤ mostCompensation
+  pub way : (gap (byteLines input) ≡ pos 0) ⊎ (0 < allWeights (byteLines input))
+
+-- No. 1; 10 at a line with a reserved byte that is not zero, at one with a bad field, and for a 65th; 15; 16; 9; and what is written
+pub data ByteVerdict (input : List ℕ) (room : ℕ) (o : SharingOutcome) : Type 0 where
+  one : length input % lineSize ≢ 0 → o ≡ sharingRefused 1 0 → ByteVerdict input room o
+  reserved : length input % lineSize ≡ 0 → (p : ℕ) → p < mostNumber → p < byteCount input → SoundBefore input p
+      → reservedZero input (lineSize * p) ≡ false → o ≡ sharingRefused 10 p → ByteVerdict input room o
+  ten : length input % lineSize ≡ 0 → (p : ℕ) → p < mostNumber → p < byteCount input → SoundBefore input p
+      → reservedZero input (lineSize * p) ≡ true → (SoundAt (byteLines input) p → ⊥) → o ≡ sharingRefused 10 p → ByteVerdict input room o
+  more : length input % lineSize ≡ 0 → mostNumber < byteCount input → SoundBefore input mostNumber
+      → o ≡ sharingRefused 10 mostNumber → ByteVerdict input room o
+  fifteen : length input % lineSize ≡ 0 → SoundBefore input (byteCount input) → mostCompensation < compensated (byteLines input)
+      → o ≡ sharingRefused 15 0 → ByteVerdict input room o
+  sixteen : length input % lineSize ≡ 0 → SoundBefore input (byteCount input) → compensated (byteLines input) ≤ mostCompensation
+      → gap (byteLines input) ≢ pos 0 → allWeights (byteLines input) ≡ 0 → o ≡ sharingRefused 16 0 → ByteVerdict input room o
+  nine : length input % lineSize ≡ 0 → BytesShareable input → room < partSize * byteCount input → o ≡ sharingRefused 9 0 → ByteVerdict input room o
+  written : length input % lineSize ≡ 0 → BytesShareable input → partSize * byteCount input ≤ room
+      → o ≡ sharingAccepted (byteLines input) → ByteVerdict input room o

@@ -1,4 +1,4 @@
-// Sharing over bytes: 24 a line in, 16 a line out.
+// Sharing over bytes, 24 a line in, 16 a line out, as include/nwb.h has them.
 use share::Answer;
 use share::Line;
 use share::array::blank_line;
@@ -16,11 +16,16 @@ ghost use Prim.Native.Nat.{ℕ, _+_, _*_, _<_, _≤_};
 ghost use lib.ListN.{length, getD, take};
 ghost use Rattle.le.specs.Le.{Stores};
 ghost use Rattle.share.specs.Sharing.{partsBy, mostCompensation};
-ghost use Rattle.share.specs.Limits.{AllWithin};
-ghost use Rattle.share_bytes.specs.Bytes.{fieldsAt, reservedZero, lineAt, linesFrom, partBytes, partsBytes, BytesShared};
+ghost use Rattle.share.specs.Limits.{CountedWithin};
+ghost use Rattle.share_bytes.specs.Bytes.{lineSize, fieldsAt, reservedZero, partSize, partBytes, partsBytes, BytesShared};
+ghost use Rattle.share_bytes.specs.Inner.{lineAt, linesAt};
+
+pub const LINE_SIZE: usize = 24;
+
+pub const PART_SIZE: usize = 16;
 
 fn reserved_zero(s: &[u8], at: usize) -> bool
-    requires { ⌜ at + 24 ≤ length (now s) ⌝ }
+    requires { ⌜ at + lineSize ≤ length (now s) ⌝ }
     ensures { λ r. ⌜ r ≡ reservedZero (now (s .entry)) at ⌝ }
 {
     let one = le::u8_at(s, at + 3);
@@ -29,7 +34,7 @@ fn reserved_zero(s: &[u8], at: usize) -> bool
 }
 
 fn fields_at(s: &[u8], at: usize) -> Line
-    requires { ⌜ at + 24 ≤ length (now s) ⌝ }
+    requires { ⌜ at + lineSize ≤ length (now s) ⌝ }
     ensures { λ r. ⌜ r ≡ fieldsAt (now (s .entry)) at ⌝ }
 {
     let number = le::u16_at(s, at);
@@ -48,8 +53,9 @@ fn fields_at(s: &[u8], at: usize) -> Line
     }
 }
 
+// A line whose reserved bytes are not zero is as bad as a blank one, and read as that.
 fn line_at(s: &[u8], at: usize) -> Line
-    requires { ⌜ at + 24 ≤ length (now s) ⌝ }
+    requires { ⌜ at + lineSize ≤ length (now s) ⌝ }
     ensures { λ r. ⌜ r ≡ lineAt (now (s .entry)) at ⌝ }
 {
     if reserved_zero(s, at) {
@@ -60,21 +66,22 @@ fn line_at(s: &[u8], at: usize) -> Line
 }
 
 // The first `count` lines.
-fn lines_of(s: &[u8], count: usize) -> [Line; 64]
-    requires { ⌜ (count ≤ 64) × (24 * count ≤ length (now s)) ⌝ }
-    ensures { λ r. ⌜ take count r ≡ linesFrom (now (s .entry)) 0 count ⌝ }
+fn lines_at(s: &[u8], count: usize) -> [Line; 64]
+    requires { ⌜ count ≤ 64 ⌝ }
+    requires { ⌜ lineSize * count ≤ length (now s) ⌝ }
+    ensures { λ r. ⌜ take count r ≡ linesAt (now (s .entry)) 0 count ⌝ }
 {
     let mut lines = blank_lines();
     let mut i: usize = 0;
     while i < count {
-        lines[i] = line_at(s, 24 * i);
+        lines[i] = line_at(s, LINE_SIZE * i);
         i += 1;
     }
     lines
 }
 
 fn write_part(share: SignedFen, amount: SignedFen, out: &mut [u8], at: usize)
-    requires { ⌜ at + 16 ≤ length (now out) ⌝ }
+    requires { ⌜ at + partSize ≤ length (now out) ⌝ }
     ensures { λ _. ⌜ Stores (now (out .entry)) at (partBytes (record { share = share .0; amount = amount .0 })) (now (out .exit)) ⌝ }
 {
     le::put_i64(out, at, share.0);
@@ -83,7 +90,8 @@ fn write_part(share: SignedFen, amount: SignedFen, out: &mut [u8], at: usize)
 
 // The share and the amount of each of the first `count` lines, straight to its place.
 fn write_parts(lines: [Line; 64], shares: FenEach, negative: bool, count: usize, out: &mut [u8])
-    requires { ⌜ (count ≤ 64) × (16 * count ≤ length (now out)) × AllWithin (take count lines) ⌝ }
+    requires { ⌜ CountedWithin lines count ⌝ }
+    requires { ⌜ partSize * count ≤ length (now out) ⌝ }
     requires { ⌜ ((k : ℕ) → k < count → getD (shares .0) k 0 ≤ mostCompensation) ⌝ }
     ensures { λ _. ⌜ Stores (now (out .entry)) 0 (partsBytes (partsBy negative (take count lines) (take count (shares .0)))) (now (out .exit)) ⌝ }
 {
@@ -95,7 +103,7 @@ fn write_parts(lines: [Line; 64], shares: FenEach, negative: bool, count: usize,
         let done = finish(l, s, negative);
         let share = done.share;
         let amount = done.amount;
-        write_part(share, amount, out, 16 * i);
+        write_part(share, amount, out, PART_SIZE * i);
         i += 1;
     }
 }
@@ -110,18 +118,18 @@ fn answer(number: u32, place: usize, gap: SignedFen) -> Answer
 pub fn share_bytes(input: &[u8], out: &mut [u8]) -> Answer
     ensures { λ r. ⌜ BytesShared (now (input .entry)) (now (out .entry)) (now (out .exit)) r ⌝ }
 {
-    if input.len() % 24 != 0 {
+    if input.len() % LINE_SIZE != 0 {
         return answer(1, 0, SignedFen(0));
     }
-    let count = input.len() / 24;
-    let lines = lines_of(input, seen(count));
+    let count = input.len() / LINE_SIZE;
+    let lines = lines_at(input, seen(count));
     let o = outcome(lines, count);
     let gap = o.gap;
     let told = answer(o.number, o.place, gap);
     if o.number != 0 {
         return told;
     }
-    if out.len() < 16 * count {
+    if out.len() < PART_SIZE * count {
         return answer(9, 0, SignedFen(0));
     }
     let shares = o.shares;

@@ -5,55 +5,68 @@ use share::Line;
 use share::Shared;
 ghost use Prim.Native.Nat.{_<_};
 
-// The reader; how many more reads are made, none behind the last; and whether the whole input has been seen.
-struct Turn {
+// More reads than any input has.
+const MOST_READS: u64 = 0xffff_ffff_ffff_ffff;
+
+// The most lines that a statement has.
+const LINES: usize = 64;
+
+// Whether more is to be read; or the whole input has been seen; or a read failed.
+enum Input {
+    More,
+    Whole,
+    Failed,
+}
+
+// The reader, what became of the input so far, and how many more reads are made, none behind the last.
+struct Reading {
     reader: Reader,
     left: u64,
-    done: bool,
+    input: Input,
 }
 
 // One read, of up to 64 KiB. A failed read is no end of the input: a statement of half the lines would be a wrong one.
-fn read_some(turn: Turn) -> Turn
-    requires { ⌜ 0 < turn .left ⌝ }
-    ensures { λ r. ⌜ r .left < turn .left ⌝ }
+fn read_some(reading: Reading) -> Reading
+    requires { ⌜ 0 < reading .left ⌝ }
+    ensures { λ r. ⌜ r .left < reading .left ⌝ }
 {
     let mut buffer = io::large_buffer();
     let got = libc::read(STDIN_FILENO, &mut buffer);
     let n = io::count(got, &buffer);
-    let before = turn.reader;
+    let before = reading.reader;
     let reader = before.feed(&buffer[..n]);
     if got < 0 {
-        return Turn {
+        return Reading {
             reader,
             left: 0,
-            done: false,
+            input: Input::Failed,
         };
     }
     if (got == 0) | reader.is_settled() {
-        return Turn {
+        return Reading {
             reader,
             left: 0,
-            done: true,
+            input: Input::Whole,
         };
     }
-    Turn {
+    Reading {
         reader,
-        left: turn.left - 1,
-        done: false,
+        left: reading.left - 1,
+        input: Input::More,
     }
 }
 
-fn read_all() -> Turn {
+fn read_all() -> Reading {
     let reader = Reader::start();
-    let mut turn = Turn {
+    let mut reading = Reading {
         reader,
-        left: 0xffff_ffff_ffff_ffff,
-        done: false,
+        left: MOST_READS,
+        input: Input::More,
     };
-    while 0 < turn.left {
-        turn = read_some(turn);
+    while 0 < reading.left {
+        reading = read_some(reading);
     }
-    turn
+    reading
 }
 
 fn tell_line(l: Line) {
@@ -71,9 +84,9 @@ fn tell_at(i: usize, count: usize, l: Line) {
     }
 }
 
-fn tell_lines(lines: [Line; 64], count: usize) {
+fn tell_lines(lines: [Line; LINES], count: usize) {
     let mut i: usize = 0;
-    while i < 64 {
+    while i < LINES {
         let l = lines[i];
         tell_at(i, count, l);
         i += 1;
@@ -97,13 +110,14 @@ fn tell(s: Shared, count: usize) {
 }
 
 fn main() {
-    let turn = read_all();
-    if turn.done {
-        let reader = turn.reader;
-        let taken = reader.finish();
-        let count = taken.count;
-        tell(taken.shared(), count);
+    let reading = read_all();
+    let input = reading.input;
+    let Input::Whole = input else {
+        say::text(b"failed to read the lines\n");
         return;
-    }
-    say::text(b"failed to read the lines\n");
+    };
+    let reader = reading.reader;
+    let taken = reader.finish();
+    let count = taken.count;
+    tell(taken.shared(), count);
 }

@@ -5,22 +5,22 @@ use mathlib.Core.List.{List, [], _∷_}
 use Prim.Native.Nat.{ℕ, _≤_}
 use native.Mathlib.Omega.{arith}
 use lib.Dec.{ltb, leb}
-use lib.ListN.{length, getD, take}
-use lib.Seq.{take-all}
+use lib.ListN.{length, getD}
 use borrow.Author.Tests.{lt-ltb, leb-true}
 use Rattle.le.proofs.Tests.{joined, each}
-use Rattle.row.specs.Numbers.{held}
-use Rattle.row.specs.Meaning.{isRow}
-use Rattle.row.specs.Judging.{fairBy}
+use Rattle.row.specs.Numbers.{hold}
+use Rattle.row.specs.Meaning.{isRow, rowFirstFive}
+use Rattle.row.specs.Inner.{fairBy}
 use Rattle.row.proofs.Texts.{and-false}
 use Rattle.row.proofs.Rows.{whole-row, none-row}
 use Rattle.row.proofs.Judging.{Lawful}
-use Rattle.share.specs.Sharing.{soundLine, mostNumber, mostStatus, mostEnergy, mostAssessment}
-use Rattle.pay.specs.Member.{soundLine as soundMember}
+use Rattle.share.specs.Sharing.{lineIsSound, mostNumber, mostStatus, mostEnergy, mostAssessment}
+use Rattle.pay.specs.Member.{memberIsSound}
 use Rattle.tables.specs.declared.cells.Cells.{Cells}
 use Rattle.tables.specs.declared.register.Entry.{Entry}
-use Rattle.tables.specs.Register.{asEntry, blankEntry, lineFor, soundEntry}
-use Rattle.tables.specs.Meaning.{cellNumbers, sixOf, inTurn, fair}
+use Rattle.tables.specs.Table.{comma}
+use Rattle.tables.specs.Register.{asEntry, blankEntry, entryLine, entryIsSound, registerEntries}
+use Rattle.tables.specs.Meaning.{sixOf, fair, entryIn}
 use Rattle.tables.proofs.Reading.{end-cells}
 
 -- Limits
@@ -45,8 +45,8 @@ once true true true true true true true = refl
 once true true true true true true false = refl
 
 -- an entry is sound after a number where it is within its limits and its own number is above that
-pub sound-is : (b : ℕ) (e : Entry) → soundEntry b e ≡ (within e && ltb b (e .member .number))
-unfolding soundEntry soundMember soundLine lineFor
+pub sound-is : (b : ℕ) (e : Entry) → entryIsSound b e ≡ (within e && ltb b (e .member .number))
+unfolding entryIsSound memberIsSound lineIsSound entryLine
 sound-is b e = go (leb 1 (e .member .number)) (leb (e .member .number) 64) (leb 1 (e .member .kind)) (leb (e .member .kind) 8) (leb 1 (e .member .rated .0)) (leb (e .member .rated .0) 4000000)
     (ltb b (e .member .number)) (leb (e .status) mostStatus) (leb (e .energy .0) mostEnergy) (leb (e .assessment .0) mostAssessment)
   where
@@ -55,7 +55,7 @@ sound-is b e = go (leb 1 (e .member .number)) (leb (e .member .number) 64) (leb 
     go true false k c p q b s e a = refl
     go true true k c p q b s e a = once true true (k && c && p && q) b s e a
 
-pub lawful : Lawful inTurn
+pub lawful : Lawful registerEntries
 unfolding asEntry
 lawful =
     record {
@@ -101,8 +101,14 @@ entry-by (n ∷ k ∷ p ∷ s ∷ e ∷ x ∷ d) a h = absurd (omega arith)
 pub six-limits : (d : List ℕ) (a : ℕ) → within (entryBy d a) ≡ true → Casts d a
 six-limits d a h =
     let p = each (leb 1 (getD d 0 0)) (bounds (entryBy d a)) h in
-    let q = p .1 in
-    (leb-true _ _ (q .0), leb-true _ _ (q .1 .1 .0), leb-true _ _ (q .1 .1 .1 .1 .0), leb-true _ _ (q .1 .1 .1 .1 .1 .0), leb-true _ _ (q .1 .1 .1 .1 .1 .1 .0), leb-true _ _ (q .1 .1 .1 .1 .1 .1 .1 .0))
+    let q = p .1 in (
+      leb-true _ _ (q .0),
+      leb-true _ _ (q .1 .1 .0),
+      leb-true _ _ (q .1 .1 .1 .1 .0),
+      leb-true _ _ (q .1 .1 .1 .1 .1 .0),
+      leb-true _ _ (q .1 .1 .1 .1 .1 .1 .0),
+      leb-true _ _ (q .1 .1 .1 .1 .1 .1 .1 .0),
+    )
 
 pub six-sound : (d : List ℕ) (a : ℕ) → length d ≡ 5 → within (entryBy d a) ≡ true → entryBy d a ≡ fair (asEntry (sixOf d a))
 six-sound d a l h = sym (fair-by true (entryBy d a) h) ∙ ap (λ (e : Entry). fair e) (entry-by d a l)
@@ -112,18 +118,13 @@ six-bad d a l h = sym (fair-by false (entryBy d a) h) ∙ ap (λ (e : Entry). fa
 
 -- A line that ends
 
-take-five : (d : List ℕ) → length d ≡ 5 → take 5 d ≡ d
-take-five d h = take-all 5 d (omega arith)
-
-pub entry-whole : (cells : Cells) (v : ℕ) → length (cells .row .ended) ≡ 5 → isRow 5 (cells .row) [] [] ≡ true → v ≡ held (cells .row .value)
-    → fair (asEntry (sixOf (cells .row .ended) v)) ≡ fair (asEntry (cellNumbers 5 cells []))
-entry-whole cells v l h e =
-    let six = end-cells 5 cells ∙ whole-row 44 5 (cells .row) v h e in
-    rw (six, take-five (cells .row .ended) l)
+pub entry-whole : (cells : Cells) (five : List ℕ) (v : ℕ) → isRow 5 (cells .row) [] [] ≡ true → five ≡ rowFirstFive (cells .row) → v ≡ hold (cells .row .value)
+    → fair (asEntry (sixOf five v)) ≡ entryIn cells
+entry-whole cells five v h f e = let six = end-cells 5 cells ∙ whole-row comma 5 (cells .row) v h e in rw (six, f)
 
 blank-beyond : within blankEntry ≡ false
 unfolding asEntry
 blank-beyond = refl
 
-pub entry-none : (cells : Cells) → isRow 5 (cells .row) [] [] ≡ false → blankEntry ≡ fair (asEntry (cellNumbers 5 cells []))
-entry-none cells h = rw (end-cells 5 cells ∙ none-row 44 5 (cells .row) h) (sym (fair-by false blankEntry blank-beyond))
+pub entry-none : (cells : Cells) → isRow 5 (cells .row) [] [] ≡ false → blankEntry ≡ entryIn cells
+entry-none cells h = rw (end-cells 5 cells ∙ none-row comma 5 (cells .row) h) (sym (fair-by false blankEntry blank-beyond))

@@ -5,12 +5,14 @@ use mathlib.Core.List.{List, [], _∷_, _++_}
 use Prim.Native.Nat.{ℕ}
 use lib.Dec.{eqb}
 use Rattle.row.specs.Numbers.{numbersIn, numbersOf}
-use Rattle.share.specs.Sharing.{soundLine}
-use Rattle.pay.specs.Member.{soundLine as soundMember}
+use Rattle.row.specs.Judging.{filledUp, allTaken, judged}
+use Rattle.share.specs.Sharing.{lineIsSound}
+use Rattle.pay.specs.Member.{memberIsSound}
 use Rattle.tables.specs.declared.register.Entry.{Entry}
 use Rattle.tables.specs.declared.register.Register.{Register}
+use Rattle.tables.specs.declared.Told.the-variants.{Number, Nothing}
 use Rattle.tables.specs.Table.{rowOf, toldOf}
-use Rattle.tables.specs.Register.{asEntry, lineFor, soundEntry, entriesOf, arrayFrom, accepted, judged, readRegister}
+use Rattle.tables.specs.Register.{asEntry, entryLine, entryIsSound, entriesOf, registerEntries, readRegister}
 use Rattle.tables.specs.Series.{outputOf, seriesOf, filledWith}
 
 -- Registers
@@ -46,8 +48,8 @@ secondEntry =
     }
 
 -- The first line ends in a carriage return and a line feed, the last in neither.
-pub register-read : readRegister (first ++ 13 ∷ 10 ∷ second) ≡ accepted (firstEntry ∷ secondEntry ∷ [])
-unfolding first second firstEntry secondEntry readRegister judged entriesOf rowOf numbersOf numbersIn asEntry soundEntry soundMember soundLine lineFor arrayFrom
+pub register-read : readRegister (first ++ 13 ∷ 10 ∷ second) ≡ allTaken registerEntries (firstEntry ∷ secondEntry ∷ [])
+unfolding first second firstEntry secondEntry readRegister judged entriesOf rowOf numbersOf numbersIn asEntry entryIsSound memberIsSound lineIsSound entryLine filledUp
 register-read = refl
 
 pub record Case : Type 0 where
@@ -87,7 +89,7 @@ every (c ∷ cs) = as-said c (readRegister (c .text)) && every cs
 
 -- Each text is read as the table says.
 pub reads-as-told : every cases ≡ true
-unfolding every as-said cases first second ninth readRegister judged entriesOf rowOf numbersOf numbersIn asEntry soundEntry soundMember soundLine lineFor arrayFrom
+unfolding every as-said cases first second ninth readRegister judged entriesOf rowOf numbersOf numbersIn asEntry entryIsSound memberIsSound lineIsSound entryLine filledUp
 reads-as-told = refl
 
 -- Series
@@ -109,18 +111,18 @@ series-short = refl
 -- Numbers
 
 -- "42" with a carriage return; nothing; "1,2"; and a number past every limit.
-pub number-read : toldOf (rowOf 1 (52 ∷ 50 ∷ 13 ∷ [])) ≡ record { is = true; number = 42 }
+pub number-read : toldOf (rowOf 1 (52 ∷ 50 ∷ 13 ∷ [])) ≡ Number 42
 unfolding toldOf rowOf numbersOf numbersIn
 number-read = refl
 
-pub nothing-read : toldOf (rowOf 1 []) ≡ record { is = false; number = 0 }
+pub nothing-read : toldOf (rowOf 1 []) ≡ Nothing
 unfolding toldOf rowOf numbersOf numbersIn
 nothing-read = refl
 
-pub two-read : toldOf (rowOf 1 (49 ∷ 44 ∷ 50 ∷ [])) ≡ record { is = false; number = 0 }
+pub two-read : toldOf (rowOf 1 (49 ∷ 44 ∷ 50 ∷ [])) ≡ Nothing
 unfolding toldOf rowOf numbersOf numbersIn
 two-read = refl
 
-pub large-read : toldOf (rowOf 1 (57 ∷ 57 ∷ 57 ∷ 57 ∷ 57 ∷ 57 ∷ 57 ∷ 57 ∷ 57 ∷ 57 ∷ 57 ∷ 57 ∷ 57 ∷ 57 ∷ [])) ≡ record { is = true; number = 1000000000000 }
+pub large-read : toldOf (rowOf 1 (57 ∷ 57 ∷ 57 ∷ 57 ∷ 57 ∷ 57 ∷ 57 ∷ 57 ∷ 57 ∷ 57 ∷ 57 ∷ 57 ∷ 57 ∷ 57 ∷ [])) ≡ Number 1000000000000
 unfolding toldOf rowOf numbersOf numbersIn
 large-read = refl

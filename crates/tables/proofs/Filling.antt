@@ -12,7 +12,7 @@ use Rattle.row.specs.Numbers.{linesOf}
 use Rattle.tables.specs.declared.cells.Cells.{Cells}
 use Rattle.tables.specs.Table.{rowOf}
 use Rattle.tables.specs.Series.{outputOf, seriesOf, filledWith}
-use Rattle.tables.specs.Meaning.{begun, cellNumbers, rowsFrom, fillFrom, Fresh, Follows}
+use Rattle.tables.specs.Meaning.{cellsIsBegun, cellNumbers, rowsLeft, fillFrom, CellsFresh, CellsFollow}
 use Rattle.tables.proofs.Texts.{line-ends, line-goes-on, at-end}
 
 -- One output
@@ -78,25 +78,25 @@ filled out text =
 
 module _ {out' : List ℕ} {n' : ℕ} (out : List ℕ) (n : ℕ) (cells cells' r : Cells) (text : List ℕ) (i : ℕ) (h : i < length text) where
   -- it ends its line
-  pub series-line : {o : List ℕ} {m : ℕ} → getD text i 0 ≡ 10 → cells' ≡ r → Fresh r → out' ≡ o → n' ≡ m
+  pub series-line : {o : List ℕ} {m : ℕ} → getD text i 0 ≡ 10 → cells' ≡ r → CellsFresh r → out' ≡ o → n' ≡ m
       → ((rows : List (List ℕ)) → fillFrom o m rows ≡ fillFrom out n (cellNumbers 0 cells [] ∷ rows))
-      → fillFrom out' n' (rowsFrom 0 cells' (linesOf (drop (i + 1) text))) ≡ fillFrom out n (rowsFrom 0 cells (linesOf (drop i text)))
+      → fillFrom out' n' (rowsLeft 0 cells' (linesOf (drop (i + 1) text))) ≡ fillFrom out n (rowsLeft 0 cells (linesOf (drop i text)))
   series-line e p f q k s =
-      (λ j. fillFrom (q j) (k j) (rowsFrom 0 (p j) (linesOf (drop (i + 1) text))))
+      (λ j. fillFrom (q j) (k j) (rowsLeft 0 (p j) (linesOf (drop (i + 1) text))))
       ∙ line-ends (λ rows. fillFrom out n rows) (λ rows. fillFrom _ _ rows) 0 cells r text i h e f s
 
   -- it is another one
-  pub series-byte : (getD text i 0 ≡ 10 → ⊥) → cells' ≡ r → Follows 0 cells (getD text i 0) r → out' ≡ out → n' ≡ n
-      → fillFrom out' n' (rowsFrom 0 cells' (linesOf (drop (i + 1) text))) ≡ fillFrom out n (rowsFrom 0 cells (linesOf (drop i text)))
+  pub series-byte : (getD text i 0 ≡ 10 → ⊥) → cells' ≡ r → CellsFollow 0 cells (getD text i 0) r → out' ≡ out → n' ≡ n
+      → fillFrom out' n' (rowsLeft 0 cells' (linesOf (drop (i + 1) text))) ≡ fillFrom out n (rowsLeft 0 cells (linesOf (drop i text)))
   series-byte ne p f q k =
-      (λ j. fillFrom (q j) (k j) (rowsFrom 0 (p j) (linesOf (drop (i + 1) text))))
+      (λ j. fillFrom (q j) (k j) (rowsLeft 0 (p j) (linesOf (drop (i + 1) text))))
       ∙ line-goes-on (λ rows. fillFrom out n rows) (λ rows. fillFrom out n rows) 0 cells r text i h ne f (λ rows. refl)
 
 -- The end of the text
 
 module _ (out : List ℕ) (n : ℕ) (cells : Cells) (text : List ℕ) (i : ℕ) (h : length text ≤ i) where
-  pub series-open : begun cells ≡ true → fillFrom out n (cellNumbers 0 cells [] ∷ []) ≡ fillFrom out n (rowsFrom 0 cells (linesOf (drop i text)))
+  pub series-open : cellsIsBegun cells ≡ true → fillFrom out n (cellNumbers 0 cells [] ∷ []) ≡ fillFrom out n (rowsLeft 0 cells (linesOf (drop i text)))
   series-open e = rw (at-end 0 cells text i h, e)
 
-  pub series-shut : begun cells ≡ false → fillFrom out n [] ≡ fillFrom out n (rowsFrom 0 cells (linesOf (drop i text)))
+  pub series-shut : cellsIsBegun cells ≡ false → fillFrom out n [] ≡ fillFrom out n (rowsLeft 0 cells (linesOf (drop i text)))
   series-shut e = rw (at-end 0 cells text i h, e)

@@ -7,25 +7,25 @@ use native.Mathlib.Omega.{arith}
 use lib.Dec.{ltb, leb, eqb}
 use lib.IntN.{pos}
 use lib.ListN.{length, getD, take, drop, replicate, length-append, length-take, length-drop}
-use borrow.Author.Tests.{ltb-true, ltb-false, lt-ltb, le-ltb, leb-true}
+use borrow.Author.Tests.{ltb-true, ltb-false, leb-true}
 use Rattle.le.proofs.Tests.{joined, each}
-use Rattle.row.specs.Numbers.{numbers, value, numbersIn, ceiling, held, numbersOf}
+use Rattle.row.specs.Numbers.{numbers, value, numbersIn, ceiling, hold, numbersOf}
 use Rattle.row.proofs.Texts.{by-parts}
 use Rattle.row.proofs.Held.{capped, at-least-one, held-at}
-use Rattle.row.proofs.Judging.{sound-number, blank-bad}
+use Rattle.row.specs.Judging.{filledUp, refusedAt, allTaken, firstUnsound}
+use Rattle.row.proofs.Judging.{sound-number, blank-bad, lowest-unsound, every-sound, after-most}
 use Rattle.units.specs.declared.Fen.{Fen}
 use Rattle.share.specs.declared.Line.{Line}
 use Rattle.share.specs.declared.Shared.{Shared}
 use Rattle.share.specs.Sharing.{sharing, mostNumber, mostStatus, mostEnergy, mostAssessment}
-use Rattle.share.specs.Forms.{arrayOf, counted, sharedArray}
+use Rattle.share.specs.Forms.{arrayOf, sharingCounted, sharedArray}
 use Rattle.share.proofs.Counted.{counted-few}
 use Rattle.tables.specs.declared.Told.{Told}
 use Rattle.tables.specs.declared.register.Entry.{Entry}
 use Rattle.tables.specs.declared.register.Register.{Register}
 use Rattle.tables.specs.Table.{plain, cellsOf, rowOf, toldOf}
-use Rattle.tables.specs.Register.{asEntry, blankEntry, lineFor, soundEntry, firstBad, entriesOf, arrayFrom, refusedAt, accepted, judged, readRegister, linesFor, statementOf}
+use Rattle.tables.specs.Register.{asEntry, blankEntry, entryLine, entryIsSound, entriesOf, registerEntries, readRegister, linesFor, registerStatement}
 use Rattle.tables.specs.Series.{Filled, noOutput, outputOf, seriesOf, filledWith}
-use Rattle.tables.specs.Meaning.{inTurn}
 use Rattle.tables.proofs.Entries.{bounds, within, sound-is, lawful}
 use Rattle.tables.proofs.Sharing.{length-lines}
 
@@ -46,11 +46,11 @@ series-determined before text after other n m e f =
     (ap (λ (r : Filled). r .count) (e ∙ sym f), ap (λ (r : Filled). r .values) (e ∙ sym f))
 
 -- an entry and a compensation have one sharing line
-pub line-determined : (e : Entry) (fen : Fen) (l k : Line) → l ≡ lineFor e fen → k ≡ lineFor e fen → l ≡ k
+pub line-determined : (e : Entry) (fen : Fen) (l k : Line) → l ≡ entryLine e fen → k ≡ entryLine e fen → l ≡ k
 line-determined e fen l k p q = p ∙ sym q
 
 -- a register and its members' compensations have one statement
-pub statement-determined : (r : Register) (fens : List Fen) (s t : Shared) → s ≡ statementOf r fens → t ≡ statementOf r fens → s ≡ t
+pub statement-determined : (r : Register) (fens : List Fen) (s t : Shared) → s ≡ registerStatement r fens → t ≡ registerStatement r fens → s ≡ t
 statement-determined r fens s t e f = e ∙ sym f
 
 -- a count of outputs is one of the list that was lent
@@ -70,16 +70,16 @@ isOutput cells = numbers cells && eqb (length cells) 1 && leb (value 0 (getD cel
 -- THE BAD LINES OF A SERIES are those that scoring refuses with 11: an output is at most 5,000,000 kW just where its line says such a number.
 pub series-value : (l : List ℕ) → leb (outputOf (rowOf 1 l)) 5000000 ≡ isOutput (cellsOf (plain l))
 unfolding rowOf numbersOf numbersIn outputOf
-series-value l = by-parts 44 (λ cs. leb (outputOf (map held (numbersIn 1 cs))) 5000000 ≡ isOutput cs) one (plain l)
+series-value l = by-parts 44 (λ cs. leb (outputOf (map hold (numbersIn 1 cs))) 5000000 ≡ isOutput cs) one (plain l)
   where
-    low : (v : ℕ) → leb (min (held v) noOutput) 5000000 ≡ leb v 5000000
-    low v = capped (held v) noOutput 5000000 (omega arith) ∙ capped v ceiling 5000000 (omega arith)
+    low : (v : ℕ) → leb (min (hold v) noOutput) 5000000 ≡ leb v 5000000
+    low v = capped (hold v) noOutput 5000000 (omega arith) ∙ capped v ceiling 5000000 (omega arith)
 
-    go : (t : Bool) (v : ℕ) (ns : List ℕ) → leb (outputOf (map held (cond t (v ∷ ns) []))) 5000000 ≡ (t && leb v 5000000)
+    go : (t : Bool) (v : ℕ) (ns : List ℕ) → leb (outputOf (map hold (cond t (v ∷ ns) []))) 5000000 ≡ (t && leb v 5000000)
     go true v ns = low v
     go false v ns = refl
 
-    one : (p : List ℕ) (ps : List (List ℕ)) → leb (outputOf (map held (numbersIn 1 (p ∷ ps)))) 5000000 ≡ isOutput (p ∷ ps)
+    one : (p : List ℕ) (ps : List (List ℕ)) → leb (outputOf (map hold (numbersIn 1 (p ∷ ps)))) 5000000 ≡ isOutput (p ∷ ps)
     one p ps = go (numbers (p ∷ ps) && eqb (length (p ∷ ps)) 1) (value 0 p) (map (value 0) ps)
 
 -- Entries
@@ -95,13 +95,13 @@ written columns l = numbersIn columns (cellsOf (plain l))
 abbrev heldEntry : Entry → Entry
 heldEntry e =
     record {
-      member = record { number = held (e .member .number); kind = held (e .member .kind); rated = record { 0 = held (e .member .rated .0) } };
-      status = held (e .status);
-      energy = record { 0 = held (e .energy .0) };
-      assessment = record { 0 = held (e .assessment .0) };
+      member = record { number = hold (e .member .number); kind = hold (e .member .kind); rated = record { 0 = hold (e .member .rated .0) } };
+      status = hold (e .status);
+      energy = record { 0 = hold (e .energy .0) };
+      assessment = record { 0 = hold (e .assessment .0) };
     }
 
-held-entry : (ns : List ℕ) → asEntry (map held ns) ≡ heldEntry (asEntry ns)
+held-entry : (ns : List ℕ) → asEntry (map hold ns) ≡ heldEntry (asEntry ns)
 unfolding asEntry
 held-entry ns =
     λ i. record {
@@ -127,78 +127,85 @@ held-same : (e : Entry) → within e ≡ true → heldEntry e ≡ e
 held-same e h =
     let p = each (leb 1 (e .member .number)) (bounds e) h in
     let q = p .1 in
-    let n : held (e .member .number) ≡ e .member .number = omega (arith, leb-true (e .member .number) 64 (q .0)) in
-    let k : held (e .member .kind) ≡ e .member .kind = omega (arith, leb-true (e .member .kind) 8 (q .1 .1 .0)) in
-    let r : held (e .member .rated .0) ≡ e .member .rated .0 = omega (arith, leb-true (e .member .rated .0) 4000000 (q .1 .1 .1 .1 .0)) in
-    let s : held (e .status) ≡ e .status = omega (arith, leb-true (e .status) mostStatus (q .1 .1 .1 .1 .1 .0)) in
-    let w : held (e .energy .0) ≡ e .energy .0 = omega (arith, leb-true (e .energy .0) mostEnergy (q .1 .1 .1 .1 .1 .1 .0)) in
-    let a : held (e .assessment .0) ≡ e .assessment .0 = omega (arith, leb-true (e .assessment .0) mostAssessment (q .1 .1 .1 .1 .1 .1 .1 .0)) in
+    let n : hold (e .member .number) ≡ e .member .number = omega (arith, leb-true (e .member .number) 64 (q .0)) in
+    let k : hold (e .member .kind) ≡ e .member .kind = omega (arith, leb-true (e .member .kind) 8 (q .1 .1 .0)) in
+    let r : hold (e .member .rated .0) ≡ e .member .rated .0 = omega (arith, leb-true (e .member .rated .0) 4000000 (q .1 .1 .1 .1 .0)) in
+    let s : hold (e .status) ≡ e .status = omega (arith, leb-true (e .status) mostStatus (q .1 .1 .1 .1 .1 .0)) in
+    let w : hold (e .energy .0) ≡ e .energy .0 = omega (arith, leb-true (e .energy .0) mostEnergy (q .1 .1 .1 .1 .1 .1 .0)) in
+    let a : hold (e .assessment .0) ≡ e .assessment .0 = omega (arith, leb-true (e .assessment .0) mostAssessment (q .1 .1 .1 .1 .1 .1 .1 .0)) in
     λ i. record { member = record { number = n i; kind = k i; rated = record { 0 = r i } }; status = s i; energy = record { 0 = w i }; assessment = record { 0 = a i } }
 
-held-sound : (before : ℕ) (e : Entry) → soundEntry before (heldEntry e) ≡ soundEntry before e
+held-sound : (before : ℕ) (e : Entry) → entryIsSound before (heldEntry e) ≡ entryIsSound before e
 held-sound before e = go (within e) refl
   where
-    go : (t : Bool) → within e ≡ t → soundEntry before (heldEntry e) ≡ soundEntry before e
-    go true h = ap (soundEntry before) (held-same e h)
+    go : (t : Bool) → within e ≡ t → entryIsSound before (heldEntry e) ≡ entryIsSound before e
+    go true h = ap (entryIsSound before) (held-same e h)
     go false h = sound-is before (heldEntry e) ∙ rw (held-within e, h) (sym (sound-is before e ∙ rw h))
 
 -- HOLDING A NUMBER CHANGES NO JUDGEMENT: a line is sound just where its numbers are as they stand,
-pub entry-sound : (before : ℕ) (l : List ℕ) → soundEntry before (asEntry (rowOf 6 l)) ≡ soundEntry before (asEntry (written 6 l))
-entry-sound before l = ap (soundEntry before) (held-row l) ∙ held-sound before (asEntry (written 6 l))
+pub entry-sound : (before : ℕ) (l : List ℕ) → entryIsSound before (asEntry (rowOf 6 l)) ≡ entryIsSound before (asEntry (written 6 l))
+entry-sound before l = ap (entryIsSound before) (held-row l) ∙ held-sound before (asEntry (written 6 l))
 
 -- and a sound line's entry has its numbers as they stand.
-pub entry-as-written : (before : ℕ) (l : List ℕ) → soundEntry before (asEntry (written 6 l)) ≡ true → asEntry (rowOf 6 l) ≡ asEntry (written 6 l)
+pub entry-as-written : (before : ℕ) (l : List ℕ) → entryIsSound before (asEntry (written 6 l)) ≡ true → asEntry (rowOf 6 l) ≡ asEntry (written 6 l)
 entry-as-written before l h =
     let p = each (within (asEntry (written 6 l))) (ltb before (asEntry (written 6 l) .member .number) ∷ []) (sym (sound-is before (asEntry (written 6 l))) ∙ h) in
     held-row l ∙ held-same (asEntry (written 6 l)) (p .0)
 
 -- A line that is not six numbers is never sound.
-pub bad-line : (before : ℕ) (l : List ℕ) → isRowOf 6 l ≡ false → soundEntry before (asEntry (rowOf 6 l)) ≡ false
+pub bad-line : (before : ℕ) (l : List ℕ) → isRowOf 6 l ≡ false → entryIsSound before (asEntry (rowOf 6 l)) ≡ false
 unfolding rowOf numbersOf numbersIn
-bad-line before l h = rw h (blank-bad inTurn lawful before)
+bad-line before l h = rw h (blank-bad registerEntries lawful before)
 
 -- Registers
 
 -- The lowest line that is not sound is refused, with 10.
-pub lowest-bad : (text : List ℕ) → firstBad 0 (entriesOf text) < length (entriesOf text) → readRegister text ≡ refusedAt (firstBad 0 (entriesOf text))
-unfolding readRegister judged
-lowest-bad text h = rw (lt-ltb (firstBad 0 (entriesOf text)) (length (entriesOf text)) h)
+pub lowest-bad : (text : List ℕ) → firstUnsound registerEntries 0 (entriesOf text) < length (entriesOf text)
+    → readRegister text ≡ refusedAt registerEntries (firstUnsound registerEntries 0 (entriesOf text))
+unfolding readRegister
+lowest-bad text = lowest-unsound registerEntries lawful (entriesOf text)
 
 -- Where every line is sound, all are taken.
-pub all-taken : (text : List ℕ) → length (entriesOf text) ≤ firstBad 0 (entriesOf text) → readRegister text ≡ accepted (entriesOf text)
-unfolding readRegister judged
-all-taken text h = rw (le-ltb (firstBad 0 (entriesOf text)) (length (entriesOf text)) h)
+pub all-taken : (text : List ℕ) → length (entriesOf text) ≤ firstUnsound registerEntries 0 (entriesOf text) → readRegister text ≡ allTaken registerEntries (entriesOf text)
+unfolding readRegister
+all-taken text = every-sound registerEntries lawful (entriesOf text)
+
+-- Of more than 64 lines the 65th is refused, or an earlier one: after 64 sound lines anything more is 10 at 64.
+pub after-64 : (text : List ℕ) → 64 < length (entriesOf text)
+    → (readRegister text ≡ refusedAt registerEntries (firstUnsound registerEntries 0 (take 64 (entriesOf text)))) × (firstUnsound registerEntries 0 (take 64 (entriesOf text)) ≤ 64)
+unfolding readRegister
+after-64 text = after-most registerEntries (entriesOf text)
 
 -- numbers rise strictly from above a number on
 abbrev pub Rising : ℕ → List Entry → Type 0
 Rising before [] = Unit {0}
 Rising before (e ∷ es) = (before < e .member .number) × Rising (e .member .number) es
 
-sound-rising : (before : ℕ) (es : List Entry) → before ≤ mostNumber → length es ≤ firstBad before es → (before + length es ≤ mostNumber) × Rising before es
+sound-rising : (before : ℕ) (es : List Entry) → before ≤ mostNumber → length es ≤ firstUnsound registerEntries before es → (before + length es ≤ mostNumber) × Rising before es
 sound-rising before [] h k = (omega arith, tt)
-sound-rising before (e ∷ es) h k = go (soundEntry before e) refl k (sound-rising (e .member .number) es)
+sound-rising before (e ∷ es) h k = go (entryIsSound before e) refl k (sound-rising (e .member .number) es)
   where
-    go : (t : Bool) → soundEntry before e ≡ t → suc (length es) ≤ cond t (suc (firstBad (e .member .number) es)) 0
-        → (e .member .number ≤ mostNumber → length es ≤ firstBad (e .member .number) es → (e .member .number + length es ≤ mostNumber) × Rising (e .member .number) es)
+    go : (t : Bool) → entryIsSound before e ≡ t → suc (length es) ≤ cond t (suc (firstUnsound registerEntries (e .member .number) es)) 0
+        → (e .member .number ≤ mostNumber → length es ≤ firstUnsound registerEntries (e .member .number) es → (e .member .number + length es ≤ mostNumber) × Rising (e .member .number) es)
         → (before + suc (length es) ≤ mostNumber) × Rising before (e ∷ es)
     go false s k rec = absurd (omega arith)
     go true s k rec =
-        let n = sound-number inTurn lawful before e s in
+        let n = sound-number registerEntries lawful before e s in
         let r = rec (n .1) (omega arith) in
         (omega (arith, n .0, r .0), (n .0, r .1))
 
 -- A REGISTER THAT IS ACCEPTED is that of all its lines, at most 64, and their numbers rise.
 pub register-at-most-64 : (text : List ℕ) → readRegister text .number ≡ 0
-    → (readRegister text ≡ accepted (entriesOf text)) × (length (entriesOf text) ≤ 64) × Rising 0 (entriesOf text)
-register-at-most-64 text h = go (ltb (firstBad 0 (entriesOf text)) (length (entriesOf text))) refl
+    → (readRegister text ≡ allTaken registerEntries (entriesOf text)) × (length (entriesOf text) ≤ 64) × Rising 0 (entriesOf text)
+register-at-most-64 text h = go (ltb (firstUnsound registerEntries 0 (entriesOf text)) (length (entriesOf text))) refl
   where
-    go : (t : Bool) → ltb (firstBad 0 (entriesOf text)) (length (entriesOf text)) ≡ t
-        → (readRegister text ≡ accepted (entriesOf text)) × (length (entriesOf text) ≤ 64) × Rising 0 (entriesOf text)
+    go : (t : Bool) → ltb (firstUnsound registerEntries 0 (entriesOf text)) (length (entriesOf text)) ≡ t
+        → (readRegister text ≡ allTaken registerEntries (entriesOf text)) × (length (entriesOf text) ≤ 64) × Rising 0 (entriesOf text)
     go true e =
         let ten : readRegister text .number ≡ 10 = ap (λ (r : Register). r .number) (lowest-bad text (ltb-true _ _ e)) in
         absurd (omega arith)
     go false e =
-        let all = ltb-false (firstBad 0 (entriesOf text)) (length (entriesOf text)) e in
+        let all = ltb-false (firstUnsound registerEntries 0 (entriesOf text)) (length (entriesOf text)) e in
         let s = sound-rising 0 (entriesOf text) (omega arith) all in
         (all-taken text all, omega (arith, s .0), s .1)
 
@@ -206,25 +213,26 @@ register-at-most-64 text h = go (ltb (firstBad 0 (entriesOf text)) (length (entr
 
 first-lines : (es xs : List Entry) (fens : List Fen) → take (length es) (linesFor (es ++ xs) fens) ≡ linesFor es fens
 first-lines [] xs fens = refl
-first-lines (e ∷ es) xs fens = ap (λ (ls : List Line). lineFor e (getD fens 0 (record { 0 = 0 })) ∷ ls) (first-lines es xs (drop 1 fens))
+first-lines (e ∷ es) xs fens = ap (λ (ls : List Line). entryLine e (getD fens 0 (record { 0 = 0 })) ∷ ls) (first-lines es xs (drop 1 fens))
 
-counted-lines : (es : List Entry) (fens : List Fen) → counted (linesFor (arrayFrom es) fens) (length es) ≡ linesFor es fens
-unfolding arrayFrom
+counted-lines : (es : List Entry) (fens : List Fen) → sharingCounted (linesFor (filledUp registerEntries es) fens) (length es) ≡ sharing (linesFor es fens)
+unfolding filledUp
 counted-lines es fens =
     let xs = replicate (mostNumber - length es) blankEntry in
-    counted-few (linesFor (es ++ xs) fens) (length es) (omega (arith, length-lines (es ++ xs) fens, length-append es xs)) ∙ first-lines es xs fens
+    counted-few (linesFor (es ++ xs) fens) (length es) (omega (arith, length-lines (es ++ xs) fens, length-append es xs)) ∙ ap sharing (first-lines es xs fens)
 
-statement-all : (es : List Entry) (fens : List Fen) → statementOf (accepted es) fens ≡ arrayOf (linesFor (arrayFrom es) fens) (sharing (linesFor es fens))
-unfolding statementOf sharedArray
-statement-all es fens = ap (λ (ls : List Line). arrayOf (linesFor (arrayFrom es) fens) (sharing ls)) (counted-lines es fens)
+statement-all : (es : List Entry) (fens : List Fen)
+    → registerStatement (allTaken registerEntries es) fens ≡ arrayOf (linesFor (filledUp registerEntries es) fens) (sharing (linesFor es fens))
+unfolding registerStatement sharedArray
+statement-all es fens = ap (arrayOf (linesFor (filledUp registerEntries es) fens)) (counted-lines es fens)
 
 -- THE STATEMENT OF A REGISTER that is accepted is the sharing of its lines, each with its member's compensation.
 pub statement-shared : (text : List ℕ) (fens : List Fen) → readRegister text .number ≡ 0
-    → statementOf (readRegister text) fens ≡ arrayOf (linesFor (readRegister text .entries) fens) (sharing (linesFor (entriesOf text) fens))
+    → registerStatement (readRegister text) fens ≡ arrayOf (linesFor (readRegister text .entries) fens) (sharing (linesFor (entriesOf text) fens))
 statement-shared text fens h = rw (register-at-most-64 text h .0) (statement-all (entriesOf text) fens)
 
 -- Of a register that was refused it is that refusal: number and place, no gap, no share.
 pub statement-refused : (place : ℕ) (fens : List Fen)
-    → statementOf (refusedAt place) fens ≡ record { number = 10; place = place; gap = record { 0 = pos 0 }; lines = linesFor (arrayFrom []) fens }
-unfolding statementOf
+    → registerStatement (refusedAt registerEntries place) fens ≡ record { number = 10; place = place; gap = record { 0 = pos 0 }; lines = linesFor (filledUp registerEntries []) fens }
+unfolding registerStatement
 statement-refused place fens = refl

@@ -6,18 +6,19 @@ use Prim.Native.Nat.{ℕ, min}
 use native.Mathlib.Omega.{arith}
 use borrow.Author.Tests.{ne-eqb}
 use Rattle.row.specs.declared.Row.{Row}
-use Rattle.row.specs.Numbers.{held}
-use Rattle.row.specs.Meaning.{isRow, rowNumbers, Fresh as RowFresh, Follows as RowFollows}
+use Rattle.row.specs.Numbers.{hold}
+use Rattle.row.specs.Meaning.{isRow, rowNumbers, RowFresh as RowFresh, RowFollows as RowFollows}
 use Rattle.row.proofs.Rows.{bad-row, foreign, whole-row, none-row}
 use Rattle.tables.specs.declared.cells.Cells.{Cells}
 use Rattle.tables.specs.declared.Told.{Told}
+use Rattle.tables.specs.declared.Told.the-variants.{Number, Nothing}
 use Rattle.tables.specs.Table.{plain, rowOf, toldOf}
 use Rattle.tables.specs.Series.{noOutput, outputOf}
-use Rattle.tables.specs.Meaning.{begun, cellNumbers, Fresh, Follows}
+use Rattle.tables.specs.Meaning.{cellsIsBegun, cellNumbers, CellsFresh, CellsFollow}
 
 -- The start of a line
 
-pub start-fresh : (row : Row) → RowFresh row → Fresh (record { row = row; shut = false })
+pub start-fresh : (row : Row) → RowFresh row → CellsFresh (record { row = row; shut = false })
 unfolding cellNumbers rowOf
 start-fresh row f = record { unread = f .unread; line = λ last rest. f .line 44 last (plain rest) }
 
@@ -25,7 +26,7 @@ start-fresh row f = record { unread = f .unread; line = λ last rest. f .line 44
 
 module _ (last : ℕ) (row : Row) where
   -- nothing may follow a carriage return in its line
-  pub by-shut : (b : ℕ) (r : Row) → r .bad ≡ true → Follows last (record { row = row; shut = true }) b (record { row = r; shut = true })
+  pub by-shut : (b : ℕ) (r : Row) → r .bad ≡ true → CellsFollow last (record { row = row; shut = true }) b (record { row = r; shut = true })
   unfolding cellNumbers
   by-shut b r h = record { begun = refl; line = none }
     where
@@ -34,7 +35,7 @@ module _ (last : ℕ) (row : Row) where
       none (x ∷ rest) = refl
 
   -- a carriage return
-  pub by-return : Follows last (record { row = row; shut = false }) 13 (record { row = row; shut = true })
+  pub by-return : CellsFollow last (record { row = row; shut = false }) 13 (record { row = row; shut = true })
   unfolding cellNumbers
   by-return = record { begun = refl; line = ends }
     where
@@ -43,7 +44,7 @@ module _ (last : ℕ) (row : Row) where
       ends (x ∷ rest) = sym (foreign 44 last row 13 (λ e. omega arith) refl (plain (x ∷ rest)))
 
   -- another byte: only a carriage return at the end of a line is left out
-  pub by-byte : (b : ℕ) (r : Row) → (b ≡ 13 → ⊥) → RowFollows 44 last row b r → Follows last (record { row = row; shut = false }) b (record { row = r; shut = false })
+  pub by-byte : (b : ℕ) (r : Row) → (b ≡ 13 → ⊥) → RowFollows 44 last row b r → CellsFollow last (record { row = row; shut = false }) b (record { row = r; shut = false })
   unfolding cellNumbers
   by-byte b r ne f =
       record {
@@ -65,16 +66,21 @@ end-cells last cells = go (cells .shut)
 
 -- One number
 
-pub told-is : (cells : Cells) (v : ℕ) → isRow 0 (cells .row) [] [] ≡ true → v ≡ held (cells .row .value)
-    → _≡_ {A = Told} (record { is = true; number = v }) (toldOf (cellNumbers 0 cells []))
+pub told-is : (cells : Cells) (v : ℕ) → isRow 0 (cells .row) [] [] ≡ true → v ≡ hold (cells .row .value)
+    → Number v ≡ toldOf (cellNumbers 0 cells [])
 unfolding toldOf
 told-is cells v h e = ap toldOf (sym (end-cells 0 cells ∙ whole-row 44 0 (cells .row) v h e))
 
-pub told-not : (cells : Cells) → isRow 0 (cells .row) [] [] ≡ false → _≡_ {A = Told} (record { is = false; number = 0 }) (toldOf (cellNumbers 0 cells []))
+pub told-not : (cells : Cells) → isRow 0 (cells .row) [] [] ≡ false → Nothing ≡ toldOf (cellNumbers 0 cells [])
 unfolding toldOf
 told-not cells h = ap toldOf (sym (end-cells 0 cells ∙ none-row 44 0 (cells .row) h))
 
 -- the output by the number that was told
-pub output-of : (ns : List ℕ) (t : Told) → t ≡ toldOf ns → cond (t .is) (min (t .number) noOutput) noOutput ≡ outputOf ns
+abbrev pub outputTold : Told → ℕ
+outputTold (Number n) = min n noOutput
+outputTold Nothing = noOutput
+
+pub output-of : (ns : List ℕ) (t : Told) → t ≡ toldOf ns → outputTold t ≡ outputOf ns
 unfolding toldOf outputOf
-output-of ns t e = rw e
+output-of [] t e = rw e
+output-of (n ∷ ns) t e = rw e

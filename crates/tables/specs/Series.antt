@@ -6,6 +6,10 @@ use lib.ListN.{length, getD, take, drop}
 use Rattle.row.specs.Numbers.{some, linesOf}
 use Rattle.tables.specs.Table.{rowOf}
 
+-- a line is one number
+abbrev pub seriesColumns : ℕ
+seriesColumns = 1
+
 -- the largest u32 is no output: it stands for a line that is no number, and scoring refuses it with 11 at its index
 abbrev pub noOutput : ℕ
 noOutput = 4294967295
@@ -16,7 +20,7 @@ outputOf ns = cond (some ns) (min (getD ns 0 0) noOutput) noOutput
 
 -- the outputs of a text
 unfoldable pub seriesOf : List ℕ → List ℕ
-seriesOf text = map (λ l. outputOf (rowOf 1 l)) (linesOf text)
+seriesOf text = map (λ l. outputOf (rowOf seriesColumns l)) (linesOf text)
 
 -- a lent list after reading, and how many of its values are of the text
 pub record Filled : Type 0 where

@@ -4,9 +4,9 @@ use mathlib.Core.Bool.{cond, not, _&&_}
 use mathlib.Core.List.{List, [], _∷_}
 use Prim.Native.Nat.{ℕ}
 use lib.Dec.{eqb}
-use lib.ListN.{getD}
 use Rattle.row.specs.Numbers.{some, partsOf, numbersOf}
 use Rattle.tables.specs.declared.Told.{Told}
+use Rattle.tables.specs.declared.Told.the-variants.{Number, Nothing}
 
 -- the numbers of a line are parted by single commas
 abbrev pub comma : ℕ
@@ -29,6 +29,7 @@ cellsOf line = partsOf comma line
 unfoldable pub rowOf : ℕ → List ℕ → List ℕ
 rowOf columns line = numbersOf comma columns (plain line)
 
--- the one number of a line, and whether it is one
+-- the one number of a line, if it has one
 unfoldable pub toldOf : List ℕ → Told
-toldOf ns = record { is = some ns; number = getD ns 0 0 }
+toldOf [] = Nothing
+toldOf (n ∷ ns) = Number n

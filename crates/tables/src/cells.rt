@@ -3,11 +3,12 @@ use crate::Told;
 use row::Row;
 use row::hold;
 ghost use mathlib.Core.Path.{_≡_};
-ghost use mathlib.Core.List.{[]};
-ghost use Prim.Native.Nat.{_≤_};
-ghost use Rattle.tables.specs.Table.{toldOf};
-ghost use Rattle.tables.specs.Series.{outputOf};
-ghost use Rattle.tables.specs.Meaning.{begun, cellNumbers, Follows, Fresh};
+ghost use Prim.Native.Nat.{_<_};
+ghost use Rattle.row.specs.Meaning.{mostColumns};
+ghost use Rattle.tables.specs.Meaning.{cellsIsBegun, cellsTold, cellsOutput, CellsFollow, CellsFresh};
+
+// No output: it stands for a line that is no number, and scoring refuses it with 11 at its index.
+pub const NO_OUTPUT: u32 = 0xffff_ffff;
 
 // The row of numbers; `shut`: a carriage return was read, and nothing may follow in its line.
 pub struct Cells {
@@ -18,7 +19,7 @@ pub struct Cells {
 impl Cells {
     // The cells before any byte of their line.
     pub fn start() -> Cells
-        ensures { λ r. ⌜ Fresh r ⌝ }
+        ensures { λ r. ⌜ CellsFresh r ⌝ }
     {
         let row = Row::start();
         Cells { row, shut: false }
@@ -26,7 +27,7 @@ impl Cells {
 
     // Whether a byte of the line was read.
     pub fn is_begun(self) -> bool
-        ensures { λ r. ⌜ r ≡ begun self ⌝ }
+        ensures { λ r. ⌜ r ≡ cellsIsBegun self ⌝ }
     {
         let row = self.row;
         self.shut | row.is_begun()
@@ -34,8 +35,8 @@ impl Cells {
 
     // The cells after a byte of their line, where the last number is number `last`, from 0 on.
     pub fn step(self, last: usize, b: u8) -> Cells
-        requires { ⌜ last ≤ 5 ⌝ }
-        ensures { λ r. ⌜ Follows last self b r ⌝ }
+        requires { ⌜ last < mostColumns ⌝ }
+        ensures { λ r. ⌜ CellsFollow last self b r ⌝ }
     {
         let row = self.row;
         if self.shut {
@@ -57,32 +58,24 @@ impl Cells {
 
     // The one number of the line, if it ends here.
     pub fn told(self) -> Told
-        ensures { λ r. ⌜ r ≡ toldOf (cellNumbers 0 self []) ⌝ }
+        ensures { λ r. ⌜ r ≡ cellsTold self ⌝ }
     {
         let row = self.row;
         if row.is_whole(0) {
-            return Told {
-                is: true,
-                number: hold(row.value),
-            };
+            return Told::Number(hold(row.value));
         }
-        Told {
-            is: false,
-            number: 0,
-        }
+        Told::Nothing
     }
 
     // The output that the line says, if it ends here.
     pub fn output(self) -> u32
-        ensures { λ r. ⌜ r ≡ outputOf (cellNumbers 0 self []) ⌝ }
+        ensures { λ r. ⌜ r ≡ cellsOutput self ⌝ }
     {
-        let t = self.told();
-        if !t.is {
-            return 0xffff_ffff;
+        if let Told::Number(n) = self.told() {
+            if n < NO_OUTPUT as u64 {
+                return n as u32;
+            }
         }
-        if t.number < 0xffff_ffff {
-            return t.number as u32;
-        }
-        0xffff_ffff
+        NO_OUTPUT
     }
 }

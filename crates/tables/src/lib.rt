@@ -7,10 +7,10 @@ use cells::Cells;
 ghost use mathlib.Core.Path.{_≡_};
 ghost use Rattle.tables.specs.Table.{rowOf, toldOf};
 
-// A number, and whether there is one.
-pub struct Told {
-    pub is: bool,
-    pub number: u64,
+// What a line of one number says.
+pub enum Told {
+    Number(u64),
+    Nothing,
 }
 
 // The number that a text of one line says.

@@ -5,6 +5,7 @@ use row::hold;
 use share::Line;
 use share::Shared;
 use share::array::blank_lines;
+use share::limits::numbers_are_sound;
 use units::Fen;
 use units::Kw;
 use units::Mwh;
@@ -14,9 +15,9 @@ ghost use mathlib.Core.Path.{_≡_};
 ghost use mathlib.Core.Bool.{true};
 ghost use mathlib.Core.List.{List, [], _∷_, map};
 ghost use Prim.Native.Nat.{ℕ};
-ghost use Rattle.row.specs.Judging.{judgeFrom};
-ghost use Rattle.tables.specs.Register.{asEntry, blankEntry, lineFor, arrayFrom, readRegister, linesFor, statementOf};
-ghost use Rattle.tables.specs.Meaning.{cellNumbers, rowsFrom, sixOf, inTurn, fair, outcome};
+ghost use Rattle.row.specs.Judging.{filledUp, judged};
+ghost use Rattle.tables.specs.Register.{asEntry, blankEntry, entryLine, registerEntries, readRegister, linesFor, registerStatement};
+ghost use Rattle.tables.specs.Meaning.{entryNumbers, entriesLeft, sixOf, fair, entryIn, rollOutcome};
 
 // A member, and what its sharing line needs besides its compensation.
 pub struct Entry {
@@ -31,7 +32,7 @@ pub struct Register {
     pub number: u32,
     pub place: usize,
     pub count: usize,
-    pub entries: [Entry; 64],
+    pub entries: [Entry; MOST_ENTRIES],
 }
 
 // How many entries were sound, the number of the last of them (else 0), and the entries; `refused`: the one after them was not.
@@ -39,8 +40,17 @@ pub struct Roll {
     pub refused: bool,
     pub before: u16,
     pub count: usize,
-    pub entries: [Entry; 64],
+    pub entries: [Entry; MOST_ENTRIES],
 }
+
+// The most entries that a register may have.
+pub const MOST_ENTRIES: usize = 64;
+
+// A line is six numbers.
+const COLUMNS: usize = 6;
+
+// Which of them is the last, from 0 on.
+const LAST: usize = COLUMNS - 1;
 
 // An entry that is never sound.
 fn blank_entry() -> Entry
@@ -58,11 +68,11 @@ fn blank_entry() -> Entry
     }
 }
 
-fn blank_entries() -> [Entry; 64]
-    ensures { λ r. ⌜ r ≡ arrayFrom [] ⌝ }
+fn blank_entries() -> [Entry; MOST_ENTRIES]
+    ensures { λ r. ⌜ r ≡ filledUp registerEntries [] ⌝ }
 {
     let none = blank_entry();
-    [none; 64]
+    [none; MOST_ENTRIES]
 }
 
 // The entry of six numbers, or a blank one where a number is past its limit.
@@ -74,8 +84,8 @@ fn typed(ended: [u64; 5], assessed: u64) -> Entry
     let p = ended[2];
     let s = ended[3];
     let e = ended[4];
-    let member = (1 <= n) & (n <= 64) & (1 <= k) & (k <= 8) & (1 <= p) & (p <= 4_000_000);
-    if member & (s <= 2) & (e <= 5_000_000) & (assessed <= 10_000_000) {
+    let line = numbers_are_sound(0, n, s, e, 0, assessed);
+    if (1 <= k) & (k <= 8) & (1 <= p) & (p <= 4_000_000) & line {
         return Entry {
             member: Member {
                 number: n as u16,
@@ -91,12 +101,12 @@ fn typed(ended: [u64; 5], assessed: u64) -> Entry
 }
 
 // The entry that a line says, if it ends here.
-fn entry_of(cells: Cells) -> Entry
-    ensures { λ r. ⌜ r ≡ fair (asEntry (cellNumbers 5 cells [])) ⌝ }
+fn entry_in(cells: Cells) -> Entry
+    ensures { λ r. ⌜ r ≡ entryIn cells ⌝ }
 {
     let row = cells.row;
-    if row.is_whole(5) {
-        let ended = row.ended;
+    if row.is_whole(LAST) {
+        let ended = row.first_five();
         return typed(ended, hold(row.value));
     }
     blank_entry()
@@ -105,7 +115,7 @@ fn entry_of(cells: Cells) -> Entry
 impl Roll {
     // The roll before any line.
     fn start() -> Roll
-        ensures { λ r. ⌜ ((rows : List (List ℕ)) → outcome r rows ≡ judgeFrom inTurn 0 (arrayFrom []) 0 (map asEntry rows)) ⌝ }
+        ensures { λ r. ⌜ ((rows : List (List ℕ)) → rollOutcome r rows ≡ judged registerEntries (map asEntry rows)) ⌝ }
     {
         let entries = blank_entries();
         Roll {
@@ -125,17 +135,17 @@ impl Roll {
 
     // The roll after the end of a line. An entry that was read is within its limits or blank: its number decides.
     fn with(self, cells: Cells) -> Roll
-        ensures { λ r. ⌜ ((rows : List (List ℕ)) → outcome r rows ≡ outcome self (cellNumbers 5 cells [] ∷ rows)) ⌝ }
+        ensures { λ r. ⌜ ((rows : List (List ℕ)) → rollOutcome r rows ≡ rollOutcome self (entryNumbers cells [] ∷ rows)) ⌝ }
     {
         if self.refused {
             return self;
         }
-        let e = entry_of(cells);
+        let e = entry_in(cells);
         if e.member.number <= self.before {
             return self.refuse();
         }
         let at = self.count;
-        if 63 < at {
+        if MOST_ENTRIES <= at {
             return self.refuse();
         }
         let mut entries = self.entries;
@@ -150,7 +160,7 @@ impl Roll {
 
     // The answer where no line follows.
     fn answer(self) -> Register
-        ensures { λ r. ⌜ r ≡ outcome self [] ⌝ }
+        ensures { λ r. ⌜ r ≡ rollOutcome self [] ⌝ }
     {
         if self.refused {
             let none = blank_entries();
@@ -172,7 +182,7 @@ impl Roll {
 
     // The answer where the text ends in these cells: a line that was begun ends here.
     fn ended(self, cells: Cells) -> Register
-        ensures { λ r. ⌜ r ≡ outcome self (rowsFrom 5 cells []) ⌝ }
+        ensures { λ r. ⌜ r ≡ rollOutcome self (entriesLeft cells []) ⌝ }
     {
         if cells.is_begun() {
             let closed = self.with(cells);
@@ -195,7 +205,7 @@ pub fn read_register(text: &[u8]) -> Register
             roll = roll.with(cells);
             cells = Cells::start();
         } else {
-            cells = cells.step(5, b);
+            cells = cells.step(LAST, b);
         }
         i += 1;
     }
@@ -205,7 +215,7 @@ pub fn read_register(text: &[u8]) -> Register
 impl Entry {
     // The sharing line of an entry whose member is compensated so.
     pub fn line(self, fen: Fen) -> Line
-        ensures { λ r. ⌜ r ≡ lineFor self fen ⌝ }
+        ensures { λ r. ⌜ r ≡ entryLine self fen ⌝ }
     {
         let energy = self.energy;
         let assessment = self.assessment;
@@ -222,12 +232,12 @@ impl Entry {
 }
 
 // The sharing lines of entries whose members are compensated so, in turn.
-fn lines_for(entries: [Entry; 64], fens: [Fen; 64]) -> [Line; 64]
+fn lines_for(entries: [Entry; MOST_ENTRIES], fens: [Fen; MOST_ENTRIES]) -> [Line; MOST_ENTRIES]
     ensures { λ r. ⌜ r ≡ linesFor entries fens ⌝ }
 {
     let mut lines = blank_lines();
     let mut i: usize = 0;
-    while i < 64 {
+    while i < MOST_ENTRIES {
         lines[i] = entries[i].line(fens[i]);
         i += 1;
     }
@@ -236,8 +246,8 @@ fn lines_for(entries: [Entry; 64], fens: [Fen; 64]) -> [Line; 64]
 
 impl Register {
     // The month's statement: the gap shared, where each member is compensated so; or the register's refusal.
-    pub fn statement(self, fens: [Fen; 64]) -> Shared
-        ensures { λ r. ⌜ r ≡ statementOf self fens ⌝ }
+    pub fn statement(self, fens: [Fen; MOST_ENTRIES]) -> Shared
+        ensures { λ r. ⌜ r ≡ registerStatement self fens ⌝ }
     {
         let entries = self.entries;
         let lines = lines_for(entries, fens);

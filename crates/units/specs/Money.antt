@@ -2,16 +2,20 @@
 use Prim.Native.Nat.{ℕ, _+_, _/_}
 
 -- 60,000 grains are one fen, and 6,000,000,000 grains one point
-unfoldable pub grainsPerFen : ℕ
+abbrev pub grainsPerFen : ℕ
 grainsPerFen = 60000
 
-unfoldable pub grainsPerPoint : ℕ
+abbrev pub grainsPerPoint : ℕ
 grainsPerPoint = 6000000000
+
+-- half a fen, in grains
+abbrev pub halfFen : ℕ
+halfFen = 30000
 
 -- a point is 1,000 yuan, so a thousandth of a point is one yuan: 100 fen
 unfoldable pub fenPerThousandth : ℕ
 fenPerThousandth = 100
 
 -- grains become fen by adding 30,000 and dividing by 60,000, rounding down (house rule)
-unfoldable pub fenOf : ℕ → ℕ
-fenOf grains = (grains + 30000) / 60000
+unfoldable pub grainsToFen : ℕ → ℕ
+grainsToFen grains = (grains + halfFen) / grainsPerFen

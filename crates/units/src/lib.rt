@@ -1,9 +1,16 @@
 // Units that share a name, kept apart by their types: points from money, power from energy.
 ghost use mathlib.Core.Path.{_≡_};
 ghost use Prim.Native.Nat.{_*_};
-ghost use Rattle.units.specs.Money.{fenOf, fenPerThousandth};
+ghost use Rattle.units.specs.Money.{grainsToFen, fenPerThousandth};
 
 pub mod month;
+
+// What a fen is in grains, half of it, and what a thousandth of a point is in fen.
+pub const GRAINS_PER_FEN: u64 = 60_000;
+
+pub const HALF_FEN: u64 = 30_000;
+
+pub const FEN_PER_THOUSANDTH: u64 = 100;
 
 // Points, counted in grains: 6,000,000,000 to a point.
 pub struct Grains(pub u64);
@@ -32,11 +39,11 @@ pub struct TenthKwMin(pub u64);
 impl Grains {
     // The one conversion of grains to fen. Half a fen is added to the remainder alone, so that no sum wraps.
     pub fn to_fen(self) -> Fen
-        ensures { λ r. ⌜ r .0 ≡ fenOf (self .0) ⌝ }
+        ensures { λ r. ⌜ r .0 ≡ grainsToFen (self .0) ⌝ }
     {
-        let whole = self.0 / 60000;
-        let rest = self.0 % 60000;
-        Fen(whole + (rest + 30000) / 60000)
+        let whole = self.0 / GRAINS_PER_FEN;
+        let rest = self.0 % GRAINS_PER_FEN;
+        Fen(whole + (rest + HALF_FEN) / GRAINS_PER_FEN)
     }
 }
 
@@ -45,6 +52,6 @@ impl Thousandths {
     pub fn to_fen(self) -> Fen
         ensures { λ r. ⌜ r .0 ≡ self .0 * fenPerThousandth ⌝ }
     {
-        Fen(self.0 as u64 * 100)
+        Fen(self.0 as u64 * FEN_PER_THOUSANDTH)
     }
 }

@@ -7,28 +7,27 @@ use native.Mathlib.Omega.{arith}
 use lib.Dec.{lit<, lit≤}
 use lib.ListN.{length, length-replicate}
 use Rattle.call.specs.declared.Call.{Call}
-use Rattle.call.specs.Key.{keyOf}
-use Rattle.call.specs.Service.{Within, is-withdrawn}
-use Rattle.book.specs.Book.{mostRecords, sizeOf, headerOf, callsOf}
-use Rattle.book.specs.Check.{monthOf}
-use Rattle.book.specs.Sound.{Heading, AllWithin, Rises, Sound}
-use Rattle.book.specs.Write.{refusedOut}
+use Rattle.call.specs.Key.{callKey}
+use Rattle.call.specs.Service.{CallWithin, is-withdrawn}
+use Rattle.book.specs.Book.{version, mostRecords, sizeOf, headerAt, callsOf}
+use Rattle.book.specs.Check.{refused, headerMinutes}
+use Rattle.book.specs.Sound.{Heading, CallsWithin, Rises, Sound}
 use Rattle.book.proofs.Exact.{reads-back}
+use Rattle.rule.specs.Keys.{differentKeys}
+use Rattle.rule.specs.Inner.{merge}
 use Rattle.rule.specs.Joined.{joinCalls}
-use Rattle.rule.specs.Whole.{differentKeys, leaf, node, leaves, joined}
-use Rattle.rule.proofs.Joins.{join-lt}
-use Rattle.rule.proofs.Bounds.{Calls, Sounds}
-use Rattle.rule.proofs.Orders.{Over}
-use Rattle.rule.proofs.Whole.{number-of-keys}
-use Rattle.join.specs.Joining.{joining}
-use Rattle.join.specs.Trees.{Plan, books, result, keyCount, Room, OneMonth, Covers}
+use Rattle.rule.proofs.Joins.{join-length}
+use Rattle.rule.proofs.Merging.{merge-lt, merge-joins}
+use Rattle.rule.proofs.Bounds.{Calls}
+use Rattle.join.specs.Joining.{joinRefused, keyCount, joining}
+use Rattle.join.specs.Trees.{Plan, books, result, Room, OneMonth, Covers}
 use Rattle.join.proofs.Trees.{book-sound, book-refused}
 use Rattle.join.proofs.Orders.{too-many}
 use Rattle.worked.specs.Crowded.{january, gone, numbered, manyCalls, lastCall, full, oneMore, crowd, output, two, three}
 
 -- Calls numbered in turn
 
-gone-within : (m number : ℕ) → number < 4294967296 → Within m (gone number)
+gone-within : (m number : ℕ) → number < 4294967296 → CallWithin m (gone number)
 gone-within m number h =
     record {
       participant = (lit≤ tt, lit≤ tt);
@@ -37,30 +36,30 @@ gone-within m number h =
       content = is-withdrawn refl (record { service = refl; time = record { no-start = refl; no-length = refl }; no-a = refl; no-b = refl; no-c = refl });
     }
 
-all-within : (m number n : ℕ) → number + n ≤ 4294967296 → AllWithin m (numbered number n)
+all-within : (m number n : ℕ) → number + n ≤ 4294967296 → CallsWithin m (numbered number n)
 unfolding numbered
 all-within m number zero h = tt
 all-within m number (suc n) h = (gone-within m number (omega arith), all-within m (suc number) n (omega arith))
 
-all-rise : (low number n : ℕ) → low ≤ keyOf (gone number) → Rises low (numbered number n)
+all-rise : (low number n : ℕ) → low ≤ callKey (gone number) → Rises low (numbered number n)
 unfolding numbered
 all-rise low number zero h = tt
-all-rise low number (suc n) h = (h, all-rise (suc (keyOf (gone number))) (suc number) n (omega arith))
+all-rise low number (suc n) h = (h, all-rise (suc (callKey (gone number))) (suc number) n (omega arith))
 
 so-many : (number n : ℕ) → length (numbered number n) ≡ n
 unfolding numbered
 so-many number zero = refl
 so-many number (suc n) = ap suc (so-many (suc number) n)
 
-all-fit : (number n : ℕ) → n ≤ mostRecords → length (numbered number n) ≤ mostRecords
+all-fit : (number n : ℕ) → n ≤ (mostRecords version) → length (numbered number n) ≤ (mostRecords version)
 all-fit number n h = omega (arith, so-many number n)
 
 -- joined with a call of a higher number, they are one more
-one-longer : (number n last : ℕ) → number + n ≤ last → length (joinCalls (numbered number n) (gone last ∷ [])) ≡ suc n
-unfolding numbered joinCalls
+one-longer : (number n last : ℕ) → number + n ≤ last → length (merge (numbered number n) (gone last ∷ [])) ≡ suc n
+unfolding numbered merge
 one-longer number zero last h = refl
 one-longer number (suc n) last h =
-    ap length (join-lt (gone number) (numbered (suc number) n) (gone last) [] (omega arith)) ∙ ap suc (one-longer (suc number) n last (omega arith))
+    ap length (merge-lt (gone number) (numbered (suc number) n) (gone last) [] (omega arith)) ∙ ap suc (one-longer (suc number) n last (omega arith))
 
 -- The two books are sound, and of one month
 
@@ -68,27 +67,27 @@ heads : Heading january
 unfolding january
 heads = record { area = (lit≤ tt, lit≤ tt); year = (lit≤ tt, lit≤ tt); month = (lit≤ tt, lit≤ tt) }
 
-many-calls : Calls (monthOf january) manyCalls
+many-calls : Calls (headerMinutes january) manyCalls
 unfolding manyCalls
-many-calls = record { within = all-within (monthOf january) _ _ (lit≤ tt); rises = all-rise 0 _ _ (lit≤ tt) }
+many-calls = record { within = all-within (headerMinutes january) _ _ (lit≤ tt); rises = all-rise 0 _ _ (lit≤ tt) }
 
-many-fit : length manyCalls ≤ mostRecords
+many-fit : length manyCalls ≤ (mostRecords version)
 unfolding manyCalls
 many-fit = all-fit _ _ (lit≤ tt)
 
-last-calls : Calls (monthOf january) lastCall
+last-calls : Calls (headerMinutes january) lastCall
 unfolding lastCall
-last-calls = record { within = (gone-within (monthOf january) _ (lit< tt), tt); rises = (lit≤ tt, tt) }
+last-calls = record { within = (gone-within (headerMinutes january) _ (lit< tt), tt); rises = (lit≤ tt, tt) }
 
-last-fits : length lastCall ≤ mostRecords
+last-fits : length lastCall ≤ (mostRecords version)
 unfolding lastCall
 last-fits = lit≤ tt
 
-full-reads : (headerOf full ≡ january) × (callsOf full ≡ manyCalls)
+full-reads : (headerAt full ≡ january) × (callsOf full ≡ manyCalls)
 unfolding full
 full-reads = reads-back january manyCalls heads many-fit (many-calls .within)
 
-one-reads : (headerOf oneMore ≡ january) × (callsOf oneMore ≡ lastCall)
+one-reads : (headerAt oneMore ≡ january) × (callsOf oneMore ≡ lastCall)
 unfolding oneMore
 one-reads = reads-back january lastCall heads last-fits (last-calls .within)
 
@@ -101,27 +100,19 @@ unfolding crowd full oneMore
 one-month =
     record {
       sound = both Sound full oneMore (book-sound january manyCalls heads many-fit many-calls) (book-sound january lastCall heads last-fits last-calls);
-      header = both (λ (b : List ℕ). headerOf b ≡ january) full oneMore (full-reads .0) (one-reads .0);
+      header = both (λ (b : List ℕ). headerAt b ≡ january) full oneMore (full-reads .0) (one-reads .0);
     }
 
 -- They have 513 different keys
 
 all-joined : length (joinCalls manyCalls lastCall) ≡ 513
 unfolding manyCalls lastCall
-all-joined = one-longer _ _ _ (lit≤ tt)
+all-joined = ap length (sym (merge-joins 0 manyCalls lastCall (many-calls .rises) (last-calls .rises))) ∙ one-longer _ _ _ (lit≤ tt)
 
 pub keys-513 : keyCount crowd ≡ 513
-unfolding crowd keyCount joined leaves
+unfolding crowd keyCount
 keys-513 =
-    ap₂ (λ (xs ys : List Call). length (differentKeys (xs ∷ ys ∷ []))) (full-reads .1) (one-reads .1)
-    ∙ sym (number-of-keys (monthOf january) (node (leaf manyCalls) (leaf lastCall)) (manyCalls ∷ lastCall ∷ []) over sounds)
-    ∙ all-joined
-  where
-    over : Over (node (leaf manyCalls) (leaf lastCall)) (manyCalls ∷ lastCall ∷ [])
-    over = record { all = λ b i. i; only = λ b i. i }
-
-    sounds : Sounds (monthOf january) (manyCalls ∷ lastCall ∷ [])
-    sounds = both (Calls (monthOf january)) manyCalls lastCall many-calls last-calls
+    ap₂ (λ (xs ys : List Call). length (differentKeys (xs ∷ ys ∷ []))) (full-reads .1) (one-reads .1) ∙ sym (join-length manyCalls lastCall) ∙ all-joined
 
 -- every tree of joins over the two books, given room, stops in refusal 8
 pub every-tree-stops : (p : Plan) → Covers p crowd → Room p → result p .number ≡ 8
@@ -129,9 +120,9 @@ every-tree-stops p covers room = too-many january crowd one-month p covers room 
 
 -- Two trees, with room
 
-output-long : length output ≡ sizeOf mostRecords
+output-long : length output ≡ sizeOf (mostRecords version)
 unfolding output
-output-long = length-replicate {A = ℕ} (sizeOf mostRecords) 0
+output-long = length-replicate {A = ℕ} (sizeOf (mostRecords version)) 0
 
 two-room : Room two
 unfolding two
@@ -160,6 +151,6 @@ pub three-stop : result three .number ≡ 8
 three-stop = every-tree-stops three three-covers three-room
 
 -- into whatever output: the outcome that the contract of `join` states is number 8, place 0, and the output as it was
-pub join-stops : (out : List ℕ) → joining full oneMore out ≡ refusedOut 8 0 out
+pub join-stops : (out : List ℕ) → joining full oneMore out ≡ joinRefused (refused 8 0) out
 unfolding full oneMore
 join-stops out = book-refused january heads manyCalls lastCall many-fit last-fits many-calls last-calls out (omega (arith, all-joined))

@@ -6,10 +6,12 @@ use lib.Dec.{eqb}
 use lib.IntN.{ℤ, pos, negsuc}
 use lib.ListN.{getD, length}
 use Rattle.call.specs.declared.Call.{Call}
-use Rattle.call.specs.Revising.{withdrawnOf, contestedOf}
+use Rattle.call.specs.Revising.{live, callWithdrawn, callContested}
+use Rattle.call.specs.Services.{deepPeak, reserve, startStop, blackStart, frequencyEvent}
 use Rattle.pay.specs.declared.Member.{Member}
+use Rattle.pay.specs.declared.open.Month.{Month}
 use Rattle.score.specs.declared.answer.Score.{Score}
-use Rattle.score.specs.Scoring.{scoreOf, told}
+use Rattle.score.specs.Scoring.{recordsEarned, inFen}
 use Rattle.rule.specs.Standing.{sameCall}
 use Rattle.rule.specs.Joined.{joinCalls}
 use Rattle.rule.specs.Whole.{ruleCalls}
@@ -20,26 +22,30 @@ pub data Sum : Type 0 where
   Scoring : Member → ℕ → List Call → (grains fen : ℕ) → Sum
   Joining : List (List Call) → List Call → Sum
 
--- member 1, by kind and rated kW
-abbrev pub member : ℕ → ℕ → Member
-member kind N = record { number = 1; kind = kind; rated = record { 0 = N } }
+-- the month of the sums
+abbrev pub sumsMonth : Month
+sumsMonth = record { year = 2026; month = 1 }
 
-abbrev pub coal : ℕ → Member
-coal N = member 1 N
+-- a row's member is member 1, by kind and rated kW
+abbrev pub rowMember : ℕ → ℕ → Member
+rowMember kind N = record { number = 1; kind = kind; rated = record { 0 = N } }
 
-abbrev pub hydro : ℕ → Member
-hydro N = member 3 N
+abbrev pub rowCoal : ℕ → Member
+rowCoal N = rowMember 1 N
 
-abbrev pub wind : ℕ → Member
-wind N = member 4 N
+abbrev pub rowHydro : ℕ → Member
+rowHydro N = rowMember 3 N
 
--- a live call of member 1 from the month's first midnight on
-abbrev pub live : (number revision service minutes : ℕ) → ℤ → ℕ → Call
-live number revision service minutes a b =
+abbrev pub rowWind : ℕ → Member
+rowWind N = rowMember 4 N
+
+-- a row's call: live, of member 1, from the month's first midnight on
+abbrev pub rowCall : (number revision service minutes : ℕ) → ℤ → ℕ → Call
+rowCall number revision service minutes a b =
     record {
       participant = 1;
       service = service;
-      state = 0;
+      state = live;
       number = number;
       revision = revision;
       start = 0;
@@ -49,31 +55,31 @@ live number revision service minutes a b =
       c = 0;
     }
 
--- services 1, 2, 3, 5 and 8
-abbrev pub deepPeak : Call
-deepPeak = live 1 1 1 15 (pos 0) 0
+-- a row's call, by its service
+abbrev pub rowDeepPeak : Call
+rowDeepPeak = rowCall 1 1 deepPeak 15 (pos 0) 0
 
-abbrev pub reserve : ℕ → Call
-reserve a = live 1 1 2 15 (pos a) 0
+abbrev pub rowReserve : ℕ → Call
+rowReserve a = rowCall 1 1 reserve 15 (pos a) 0
 
-abbrev pub startStop : ℕ → Call
-startStop minutes = live 1 1 3 minutes (pos 0) 0
+abbrev pub rowStartStop : ℕ → Call
+rowStartStop minutes = rowCall 1 1 startStop minutes (pos 0) 0
 
-abbrev pub blackStart : Call
-blackStart = live 1 1 5 0 (pos 0) 0
+abbrev pub rowBlackStart : Call
+rowBlackStart = rowCall 1 1 blackStart 0 (pos 0) 0
 
-abbrev pub event : ℕ → ℤ → ℕ → Call
-event number a b = live number 1 8 0 a b
+abbrev pub rowEvent : ℕ → ℤ → ℕ → Call
+rowEvent number a b = rowCall number 1 frequencyEvent 0 a b
 
 -- one key at a revision: live as a start-stop of so many minutes, contested, withdrawn
-abbrev pub liveAt : (revision minutes : ℕ) → Call
-liveAt revision minutes = live 9 revision 3 minutes (pos 0) 0
+abbrev pub rowLiveAt : (revision minutes : ℕ) → Call
+rowLiveAt revision minutes = rowCall 9 revision startStop minutes (pos 0) 0
 
-abbrev pub contestedAt : ℕ → Call
-contestedAt revision = contestedOf (liveAt revision 0)
+abbrev pub rowContestedAt : ℕ → Call
+rowContestedAt revision = callContested (rowLiveAt revision 0)
 
-abbrev pub withdrawnAt : ℕ → Call
-withdrawnAt revision = withdrawnOf (liveAt revision 0)
+abbrev pub rowWithdrawnAt : ℕ → Call
+rowWithdrawnAt revision = callWithdrawn (rowLiveAt revision 0)
 
 -- a book of one record
 abbrev pub alone : Call → List Call
@@ -82,30 +88,30 @@ alone x = x ∷ []
 abbrev pub sums : List Sum
 sums =
     -- coal, N 300,001, P 150,000 in one quarter hour of service 1: 225,000 grains, 4 fen
-    Scoring (coal 300001) 150000 (alone deepPeak) 225000 4
+    Scoring (rowCoal 300001) 150000 (alone rowDeepPeak) 225000 4
     -- coal, N = a = 300,000: P 209,999 gives 4,725,052,500, 210,000 gives 0, 210,001 gives 944,989,500
-    ∷ Scoring (coal 300000) 209999 (alone (reserve 300000)) 4725052500 78751
-    ∷ Scoring (coal 300000) 210000 (alone (reserve 300000)) 0 0
-    ∷ Scoring (coal 300000) 210001 (alone (reserve 300000)) 944989500 15750
+    ∷ Scoring (rowCoal 300000) 209999 (alone (rowReserve 300000)) 4725052500 78751
+    ∷ Scoring (rowCoal 300000) 210000 (alone (rowReserve 300000)) 0 0
+    ∷ Scoring (rowCoal 300000) 210001 (alone (rowReserve 300000)) 944989500 15750
     -- coal 300,000, start-stop 4,320 minutes: 3,600,000,000,000 grains; 4,321: 0
-    ∷ Scoring (coal 300000) 0 (alone (startStop 4320)) 3600000000000 60000000
-    ∷ Scoring (coal 300000) 0 (alone (startStop 4321)) 0 0
+    ∷ Scoring (rowCoal 300000) 0 (alone (rowStartStop 4320)) 3600000000000 60000000
+    ∷ Scoring (rowCoal 300000) 0 (alone (rowStartStop 4321)) 0 0
     -- hydro 3,000,000 and 3,000,001, black start: both 1,800,000,000,000
-    ∷ Scoring (hydro 3000000) 0 (alone blackStart) 1800000000000 30000000
-    ∷ Scoring (hydro 3000001) 0 (alone blackStart) 1800000000000 30000000
+    ∷ Scoring (rowHydro 3000000) 0 (alone rowBlackStart) 1800000000000 30000000
+    ∷ Scoring (rowHydro 3000001) 0 (alone rowBlackStart) 1800000000000 30000000
     -- wind 100,000: b 7,999 gives 0, 8,000 gives 300,000,000,000, 9,000 gives 540,000,000,000
-    ∷ Scoring (wind 100000) 0 (alone (event 1 (pos 0) 7999)) 0 0
-    ∷ Scoring (wind 100000) 0 (alone (event 1 (pos 0) 8000)) 300000000000 5000000
-    ∷ Scoring (wind 100000) 0 (alone (event 1 (pos 0) 9000)) 540000000000 9000000
+    ∷ Scoring (rowWind 100000) 0 (alone (rowEvent 1 (pos 0) 7999)) 0 0
+    ∷ Scoring (rowWind 100000) 0 (alone (rowEvent 1 (pos 0) 8000)) 300000000000 5000000
+    ∷ Scoring (rowWind 100000) 0 (alone (rowEvent 1 (pos 0) 9000)) 540000000000 9000000
     -- events a −500, b 400 and a 300, b 400: 0; a 500, b 400 alone: 48,000,000
-    ∷ Scoring (coal 100000) 0 (event 1 (negsuc 499) 400 ∷ event 2 (pos 300) 400 ∷ []) 0 0
-    ∷ Scoring (coal 100000) 0 (alone (event 1 (pos 500) 400)) 48000000 800
+    ∷ Scoring (rowCoal 100000) 0 (rowEvent 1 (negsuc 499) 400 ∷ rowEvent 2 (pos 300) 400 ∷ []) 0 0
+    ∷ Scoring (rowCoal 100000) 0 (alone (rowEvent 1 (pos 500) 400)) 48000000 800
     -- one key: withdrawn at 2 and live at 7 give withdrawn at 2
-    ∷ Joining (alone (withdrawnAt 2) ∷ alone (liveAt 7 300) ∷ []) (alone (withdrawnAt 2))
+    ∷ Joining (alone (rowWithdrawnAt 2) ∷ alone (rowLiveAt 7 300) ∷ []) (alone (rowWithdrawnAt 2))
     -- two unequal live at 3 give contested at 3
-    ∷ Joining (alone (liveAt 3 300) ∷ alone (liveAt 3 240) ∷ []) (alone (contestedAt 3))
+    ∷ Joining (alone (rowLiveAt 3 300) ∷ alone (rowLiveAt 3 240) ∷ []) (alone (rowContestedAt 3))
     -- those two and a live at 4 give the live at 4
-    ∷ Joining (alone (liveAt 3 300) ∷ alone (liveAt 3 240) ∷ alone (liveAt 4 180) ∷ []) (alone (liveAt 4 180))
+    ∷ Joining (alone (rowLiveAt 3 300) ∷ alone (rowLiveAt 3 240) ∷ alone (rowLiveAt 4 180) ∷ []) (alone (rowLiveAt 4 180))
     ∷ []
 
 -- a score is accepted, with these grains and fen
@@ -120,8 +126,8 @@ sameCalls (x ∷ xs) [] = false
 sameCalls (x ∷ xs) (y ∷ ys) = sameCall x y && sameCalls xs ys
 
 -- record i of a book
-unfoldable pub callIn : List Call → ℕ → Call
-callIn calls i = getD calls i (live 0 0 0 0 (pos 0) 0)
+unfoldable pub rowCallAt : List Call → ℕ → Call
+rowCallAt calls i = getD calls i (rowCall 0 0 0 0 (pos 0) 0)
 
 -- books joined one after the other, as a join of two is made
 unfoldable pub joinInTurn : List Call → List (List Call) → List Call
@@ -130,7 +136,7 @@ joinInTurn done (b ∷ bs) = joinInTurn (joinCalls done b) bs
 
 -- a member's score is as said; books joined by the rule over the whole list, and in turn, give the calls said
 unfoldable pub holds : Sum → Bool
-holds (Scoring m output calls grains fen) = gives (told (scoreOf m (output ∷ []) (callIn calls) (length calls))) grains fen
+holds (Scoring m output calls grains fen) = gives (inFen (recordsEarned sumsMonth m (output ∷ []) (rowCallAt calls) (length calls))) grains fen
 holds (Joining books calls) = sameCalls (ruleCalls books) calls && sameCalls (joinInTurn [] books) calls
 
 unfoldable pub every : List Sum → Bool

@@ -1,10 +1,9 @@
--- `apportion::give_most` meets its contract.
 use mathlib.Core.Path.{_≡_, sym, _∙_}
 use Prim.Native.Nat.{ℕ, _+_, _-_, _<_}
 use native.Mathlib.Omega.{arith}
 use lib.ListN.{length, getD, set, length-set}
-use Rattle.apportion.specs.Apportion.{largest}
-use Rattle.apportion.specs.Turn.{Given}
+use Rattle.apportion.specs.Giving.{largestAt}
+use Rattle.apportion.specs.Ties.{UnitsGiven}
 use Rattle.apportion.proofs.Loops.{getD-total}
 use Rattle.apportion.proofs.InTurn.{given-one, given-more, struck-le}
 use borrow.Author.Needs.{needs}
@@ -48,11 +47,11 @@ give-equal-requires : tie.Need-give-equal-requires
 give-equal-requires c κs =
     let s = c .before .before .before .before .before .before .before .before in
     let l = c .before .before .before .before .largest-at in
-    let g = given-one (s .args .left) (l .result) (s .args .rests .now) (s .args .shares .now) (s .pre .0) (l .ensures .1) (s .pre .2) (l .ensures .0) in
-    ((g .sharesLong ∙ s .pre .2 ∙ sym (g .restsLong), omega (arith, g .sum)), struck-le (s .args .rests .now) (l .result) (l .ensures .1) (l .ensures .0))
+    let g = given-one (s .args .left) (l .result) (s .args .rests .now) (s .args .shares .now) (s .pre .0) (l .ensures .1) (s .pre .1 .1) (l .ensures .0) in
+    (g .sharesLong ∙ s .pre .1 .1 ∙ sym (g .restsLong), (omega (arith, g .sum), struck-le (s .args .rests .now) (l .result) (l .ensures .1) (l .ensures .0)))
 
 same-length : tie.Need-same-length
-same-length c = c .before .before .before .before .give-equal .ensures .restsLong ∙ length-set (c .before .before .before .before .before .before .before .before .before .before .before .before .before .args .rests .now) (c .before .before .before .before .before .before .before .before .before .largest-at .result) 0
+same-length c = c .before .before .before .before .give-equal .ensures .restsLong ∙ simp length-set
 
 same-length-2 : tie.Need-same-length-2
 same-length-2 c = c .before .before .before .before .give-equal .ensures .sharesLong ∙ simp length-set
@@ -61,7 +60,7 @@ returns : tie.Need-returns
 returns c =
     let s = c .before .before .before .before .before .before .before .before .before .before .before .before .before in
     let l = c .before .before .before .before .before .before .before .before .before .largest-at in
-    let g = given-one (s .args .left) (l .result) (s .args .rests .now) (s .args .shares .now) (s .pre .0) (l .ensures .1) (s .pre .2) (l .ensures .0) in
+    let g = given-one (s .args .left) (l .result) (s .args .rests .now) (s .args .shares .now) (s .pre .0) (l .ensures .1) (s .pre .1 .1) (l .ensures .0) in
     (omega (arith, c .before .before .before .before .give-equal .ensures .fewer), given-more g (c .before .before .before .before .give-equal .ensures))
 
 pub give-most-spec : {M : Type 1} → statement M

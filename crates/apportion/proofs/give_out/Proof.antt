@@ -1,15 +1,14 @@
--- `apportion::give_out` meets its contract.
 use mathlib.Core.Path.{_≡_, sym, _∙_}
 use Prim.Native.Nat.{ℕ}
 use native.Mathlib.Omega.{arith}
-use Rattle.apportion.specs.Turn.{Given}
+use Rattle.apportion.specs.Ties.{UnitsGiven}
 use Rattle.apportion.proofs.InTurn.{given-none, given-more}
 use borrow.Author.Needs.{needs}
 use Rattle.apportion.proofs.give_out.Statement.{statement}
 use Rattle.apportion.proofs.give_out.Tie as tie
 
 abbrev Inv-loop : tie.InvT-loop
-Inv-loop left rests₀ shares₀ k₀ rests shares k = Given left rests₀ shares₀ k rests shares
+Inv-loop left rests₀ shares₀ k₀ rests shares k = UnitsGiven left rests₀ shares₀ k rests shares
 
 abbrev μ-loop : tie.MeasureT-loop
 μ-loop left rests₀ shares₀ k₀ rests shares k = k
@@ -23,7 +22,7 @@ give-most-requires : tie.Need-give-most-requires Inv-loop μ-loop
 give-most-requires c κs =
     let s = c .before .before .before .before .before .before in
     let l = c .before .before .before .loop in
-    (omega arith, omega (arith, l .inv .restsLong), l .inv .sharesLong ∙ s .pre .1 ∙ sym (l .inv .restsLong), omega (arith, l .inv .sum))
+    (omega arith, (omega (arith, l .inv .restsLong), l .inv .sharesLong ∙ s .pre .1 ∙ sym (l .inv .restsLong), omega (arith, l .inv .sum)))
 
 loop-less : tie.Need-loop-less Inv-loop μ-loop
 loop-less c = search needs

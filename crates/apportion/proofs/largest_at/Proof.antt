@@ -1,4 +1,3 @@
--- `apportion::largest_at` meets its contract.
 use mathlib.Core.Logic.{⊎-elim}
 use Prim.Native.Nat.{_-_}
 use native.Mathlib.Omega.{arith}
@@ -37,9 +36,11 @@ loop-less c = search needs
 
 loop-again : tie.Need-loop-again Inv-loop μ-loop
 loop-again c =
+    let xs = c .before .before .before .before .before .args .xs .now in
+    let l = c .before .before .before .before .loop in
     ⊎-elim
-    (λ w. rw (w .1) (ahead-new (c .before .before .before .before .before .args .xs .now) (c .before .before .before .before .loop .best) (c .before .before .before .before .loop .i) (c .before .before .before .before .loop .inv) (omega arith) (w .0 .taken)))
-    (λ w. rw (w .1) (ahead-keep (c .before .before .before .before .before .args .xs .now) (c .before .before .before .before .loop .best) (c .before .before .before .before .loop .i) (c .before .before .before .before .loop .inv) (omega arith) (w .0 .left)))
+    (λ w. rw (w .1) (ahead-new xs (l .best) (l .i) (l .inv) (omega arith) (w .0 .taken)))
+    (λ w. rw (w .1) (ahead-keep xs (l .best) (l .i) (l .inv) (omega arith) (w .0 .left)))
     (c .if1 .came)
 
 returns : tie.Need-returns Inv-loop μ-loop

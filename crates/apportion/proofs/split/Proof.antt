@@ -1,11 +1,10 @@
--- `apportion::split` meets its contract.
 use mathlib.Core.Path.{_≡_, refl, sym, _∙_}
 use Prim.Native.Nat.{ℕ, _*_, _-_, _/_, _%_, _≤_}
 use native.Mathlib.Omega.{arith}
 use lib.ListN.{length, length-set, length-map}
 use Rattle.apportion.proofs.Loops.{over, over-step, over-end, getD-mapped}
 use Rattle.apportion.specs.Apportion.{roundedDown, remainders}
-use Rattle.apportion.proofs.Laws.{parts-div, parts-mod}
+use Rattle.product.proofs.Laws.{parts-div, parts-mod}
 use borrow.Author.Needs.{needs}
 use Rattle.apportion.proofs.split.Statement.{statement}
 use Rattle.apportion.proofs.split.Tie as tie
@@ -30,7 +29,7 @@ shared-slice-read-product-over c = search needs
 product-over-requires : tie.Need-product-over-requires Inv-loop μ-loop
 product-over-requires c κs =
     let s = c .before .before .before .before .before .before in
-    (s .pre .0 .0, s .pre .0 .1, s .pre .1 (c .before .before .loop .i), s .pre .0 .2)
+    (s .pre .0 .0, (s .pre .0 .1, (s .pre .1 .1 (c .before .before .loop .i), s .pre .0 .2)))
 
 mul-shares : tie.Need-mul-shares Inv-loop μ-loop
 mul-shares c = search needs

@@ -1,31 +1,28 @@
--- `book::check` meets its contract.
 use mathlib.Core.Path.{_≡_, sym, _∙_, ap}
 use mathlib.Core.Bool.{true}
-use Prim.Native.Nat.{_≤_}
-use lib.ListN.{length}
 use borrow.Author.Tests.{not-true, not-false}
-use Rattle.book.specs.Book.{sizeOf, countOf}
-use Rattle.book.specs.Check.{marked, versioned, headed, monthOf}
+use Rattle.book.specs.Book.{sizeOf, HasHeader, countAt}
+use Rattle.book.specs.Check.{isMarked, isVersioned, isHeaded, headerMinutes}
 use Rattle.book.proofs.Turns.{short, unmarked, unversioned, unheaded, uncounted, counted}
 use borrow.Author.Needs.{needs}
 use Rattle.book.proofs.check.Statement.{statement}
 use Rattle.book.proofs.check.Tie as tie
 
 -- what is known once each test is passed
-long : (c : tie.Else1) → 16 ≤ length (c .before .before .args .b .now)
+long : (c : tie.Else1) → HasHeader (c .before .before .args .b .now)
 long c = c .if1 .left
 
-has-mark : (c : tie.Else2) → marked (c .before .before .before .before .args .b .now) ≡ true
+has-mark : (c : tie.Else2) → isMarked (c .before .before .before .before .args .b .now) ≡ true
 has-mark c = sym (c .before .is-marked .ensures) ∙ not-false _ (c .if2 .left)
 
-has-version : (c : tie.Else3) → versioned (c .before .before .before .before .before .before .args .b .now) ≡ true
+has-version : (c : tie.Else3) → isVersioned (c .before .before .before .before .before .before .args .b .now) ≡ true
 has-version c = sym (c .before .is-versioned .ensures) ∙ not-false _ (c .if3 .left)
 
-has-header : (c : tie.Else4) → headed (c .before .before .before .before .before .before .before .before .args .b .now) ≡ true
+has-header : (c : tie.Else4) → isHeaded (c .before .before .before .before .before .before .before .before .args .b .now) ≡ true
 has-header c = sym (c .before .is-headed .ensures) ∙ not-false _ (c .if4 .left)
 
-has-count : (c : tie.Else5) → length (c .before .before .before .before .before .before .before .before .before .before .args .b .now) ≡ sizeOf (countOf (c .before .before .before .before .before .before .before .before .before .before .args .b .now))
-has-count c = c .if5 .left ∙ ap sizeOf (c .before .count-at .ensures .0)
+size-is : (c : tie.After-size-of) → c .size-of .result ≡ sizeOf (countAt (c .before .before .before .before .before .before .before .before .before .before .args .b .now))
+size-is c = c .size-of .ensures ∙ ap sizeOf (c .before .count-at .ensures .0)
 
 refused-requires : tie.Need-refused-requires
 refused-requires c κs = search needs
@@ -50,8 +47,8 @@ refused-requires-3 c κs = search needs
 
 returns-3 : tie.Need-returns-3
 returns-3 c =
-    c .refused3 .ensures
-    ∙ sym (unversioned _ (long (c .before .before .before .before .before)) (has-mark (c .before .before .before)) (sym (c .before .before .is-versioned .ensures) ∙ not-true _ (c .before .if3 .taken)))
+    let marked = c .before .before .before in
+    c .refused3 .ensures ∙ sym (unversioned _ (long (marked .before .before)) (has-mark marked) (sym (c .before .before .is-versioned .ensures) ∙ not-true _ (c .before .if3 .taken)))
 
 is-headed-requires : tie.Need-is-headed-requires
 is-headed-requires c κs = search needs
@@ -61,40 +58,48 @@ refused-requires-4 c κs = search needs
 
 returns-4 : tie.Need-returns-4
 returns-4 c =
+    let versioned = c .before .before .before in
+    let marked = versioned .before .before in
     c .refused4 .ensures
-    ∙ sym (unheaded _ (long (c .before .before .before .before .before .before .before)) (has-mark (c .before .before .before .before .before)) (has-version (c .before .before .before)) (sym (c .before .before .is-headed .ensures) ∙ not-true _ (c .before .if4 .taken)))
+    ∙ sym (unheaded _ (long (marked .before .before)) (has-mark marked) (has-version versioned) (sym (c .before .before .is-headed .ensures) ∙ not-true _ (c .before .if4 .taken)))
 
 count-at-requires : tie.Need-count-at-requires
 count-at-requires c κs = search needs
 
-mul-if5 : tie.Need-mul-if5
-mul-if5 c = search needs
-
-add-if5 : tie.Need-add-if5
-add-if5 c = search needs
+size-of-requires : tie.Need-size-of-requires
+size-of-requires c κs = search needs
 
 refused-requires-5 : tie.Need-refused-requires-5
 refused-requires-5 c κs = search needs
 
 returns-5 : tie.Need-returns-5
 returns-5 c =
-    c .refused5 .ensures ∙ sym (uncounted _ (long (c .before .before .before .before .before .before .before .before .before)) (has-mark (c .before .before .before .before .before .before .before)) (has-version (c .before .before .before .before .before)) (has-header (c .before .before .before)) (λ e. c .before .if5 .taken (e ∙ ap sizeOf (sym (c .before .before .count-at .ensures .0)))))
+    let headed = c .before .before .before .before in
+    let versioned = headed .before .before in
+    let marked = versioned .before .before in
+    c .refused5 .ensures
+    ∙ sym (uncounted _ (long (marked .before .before)) (has-mark marked) (has-version versioned) (has-header headed) (λ e. c .before .if5 .taken (e ∙ sym (size-is (c .before .before)))))
 
 header-at-requires : tie.Need-header-at-requires
 header-at-requires c κs = search needs
 
-minutes-requires : tie.Need-minutes-requires
-minutes-requires c κs = search needs
+minutes-of-requires : tie.Need-minutes-of-requires
+minutes-of-requires c κs = search needs
 
 check-records-requires : tie.Need-check-records-requires
 check-records-requires c κs = search needs
 
 returns-6 : tie.Need-returns-6
-unfolding monthOf
+unfolding headerMinutes
 returns-6 c =
+    let sized = c .before .before .before in
+    let headed = sized .before .before .before in
+    let versioned = headed .before .before in
+    let marked = versioned .before .before in
+    let count = sized .if5 .left ∙ size-is (sized .before) in
     c .check-records .ensures
-    ∙ rw (c .before .minutes .ensures, c .before .before .before .before .count-at .ensures .0, c .before .before .header-at .ensures)
-    (sym (counted _ (long (c .before .before .before .before .before .before .before .before .before .before .before)) (has-mark (c .before .before .before .before .before .before .before .before .before)) (has-version (c .before .before .before .before .before .before .before)) (has-header (c .before .before .before .before .before)) (has-count (c .before .before .before))))
+    ∙ rw (c .before .minutes-of .ensures, sized .before .before .count-at .ensures .0, c .before .before .header-at .ensures)
+    (sym (counted _ (long (marked .before .before)) (has-mark marked) (has-version versioned) (has-header headed) count))
 
 pub check-spec : {M : Type 1} → statement M
 check-spec =
@@ -112,11 +117,10 @@ check-spec =
     refused-requires-4
     returns-4
     count-at-requires
-    mul-if5
-    add-if5
+    size-of-requires
     refused-requires-5
     returns-5
     header-at-requires
-    minutes-requires
+    minutes-of-requires
     check-records-requires
     returns-6)

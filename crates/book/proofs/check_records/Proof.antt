@@ -1,15 +1,21 @@
--- `book::check_records` meets its contract. The loop's invariant: what is left to check gives the verdict on all.
-use mathlib.Core.Path.{_≡_, sym, _∙_}
+use mathlib.Core.Path.{_≡_, sym, _∙_, ap}
 use Prim.Native.Nat.{_-_, _≤_}
 use native.Mathlib.Omega.{arith}
 use borrow.Author.Needs.{needs}
-use Rattle.book.specs.Check.{checkFrom}
+use Rattle.book.specs.declared.RecordTurn.{RecordTurn}
+use Rattle.book.specs.Check.{checkRecords}
 use Rattle.book.proofs.Turns.{stops, goes-on, ends, starts}
 use Rattle.book.proofs.check_records.Statement.{statement}
 use Rattle.book.proofs.check_records.Tie as tie
 
+number : {t u : RecordTurn} → t ≡ u → t .number ≡ u .number
+number e = ap (λ (t : RecordTurn). t .number) e
+
+lowest : {t u : RecordTurn} → t ≡ u → t .low ≡ u .low
+lowest e = ap (λ (t : RecordTurn). t .low) e
+
 abbrev Inv-loop : tie.InvT-loop
-Inv-loop b n minutes i₀ low₀ i low = (i ≤ n) × (checkFrom minutes b low i (n - i) ≡ checkFrom minutes b 0 0 n)
+Inv-loop b n minutes i₀ low₀ i low = (i ≤ n) × (checkRecords minutes b low i (n - i) ≡ checkRecords minutes b 0 0 n)
 
 abbrev μ-loop : tie.MeasureT-loop
 μ-loop b n minutes i₀ low₀ i low = n - i
@@ -25,10 +31,13 @@ refused-requires c κs = search needs
 
 returns : tie.Need-returns Inv-loop μ-loop
 returns c =
-    let loop = c .before .before .before .before .loop in
-    let args = c .before .before .before .before .before .before .args in
-    let turn = c .before .before .turn-at in
-    c .refused .ensures ∙ sym (stops (args .minutes) (args .b .now) (loop .low) (loop .i) (args .n) _ (c .before .before .before .loop-test .taken) (turn .ensures .0) (c .before .if1 .taken)) ∙ loop .inv .1
+    let turned = c .before .before in
+    let loop = turned .before .before .loop in
+    let args = turned .before .before .before .before .args in
+    let v = number (turned .turn-at .ensures) in
+    c .refused .ensures
+    ∙ sym (stops (args .minutes) (args .b .now) (loop .low) (loop .i) (args .n) _ (turned .before .loop-test .taken) v (c .before .if1 .taken))
+    ∙ loop .inv .1
 
 add-i : tie.Need-add-i Inv-loop μ-loop
 add-i c = omega arith
@@ -38,10 +47,11 @@ loop-less c = omega arith
 
 loop-again : tie.Need-loop-again Inv-loop μ-loop
 loop-again c =
+    let turn = c .before .turn-at .ensures in
     let loop = c .before .before .before .loop in
     let args = c .before .before .before .before .before .args in
-    let turn = c .before .turn-at in
-    (omega arith, sym (goes-on (args .minutes) (args .b .now) (loop .low) (loop .i) (args .n) _ _ (c .before .before .loop-test .taken) (turn .ensures .0) (c .if1 .left) (turn .ensures .1)) ∙ loop .inv .1)
+    let step = goes-on (args .minutes) (args .b .now) (loop .low) (loop .i) (args .n) _ _ (c .before .before .loop-test .taken) (number turn) (c .if1 .left) (lowest turn) in
+    (omega arith, sym step ∙ loop .inv .1)
 
 refused-requires-2 : tie.Need-refused-requires-2 Inv-loop μ-loop
 refused-requires-2 c κs = search needs

@@ -1,5 +1,4 @@
--- `book::count_at` meets its contract.
-use Rattle.book.specs.Book.{countOf}
+use Rattle.book.specs.Book.{countAt}
 use borrow.Author.Needs.{needs}
 use Rattle.book.proofs.count_at.Statement.{statement}
 use Rattle.book.proofs.count_at.Tie as tie
@@ -11,7 +10,7 @@ cast-result : tie.Need-cast-result
 cast-result c = search needs
 
 returns : tie.Need-returns
-unfolding countOf
+unfolding countAt
 returns c = (c .u16-at .ensures, search needs)
 
 pub count-at-spec : {M : Type 1} → statement M

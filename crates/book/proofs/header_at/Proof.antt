@@ -1,5 +1,4 @@
--- `book::header_at` meets its contract.
-use Rattle.book.specs.Book.{headerOf}
+use Rattle.book.specs.Book.{headerAt}
 use borrow.Author.Needs.{needs}
 use Rattle.book.proofs.header_at.Statement.{statement}
 use Rattle.book.proofs.header_at.Tie as tie
@@ -14,7 +13,7 @@ u8-at-requires-2 : tie.Need-u8-at-requires-2
 u8-at-requires-2 c κs = search needs
 
 returns : tie.Need-returns
-unfolding headerOf
+unfolding headerAt
 returns c = λ i. record { area = c .before .before .u8-at .ensures i; year = c .before .u16-at .ensures i; month = c .u8-at2 .ensures i }
 
 pub header-at-spec : {M : Type 1} → statement M

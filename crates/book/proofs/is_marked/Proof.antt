@@ -1,6 +1,5 @@
--- `book::is_marked` meets its contract.
 use mathlib.Core.Path.{refl}
-use Rattle.book.specs.Check.{marked}
+use Rattle.book.specs.Check.{isMarked}
 use borrow.Author.Needs.{needs}
 use Rattle.book.proofs.is_marked.Statement.{statement}
 use Rattle.book.proofs.is_marked.Tie as tie
@@ -15,7 +14,7 @@ shared-slice-read-result-3 : tie.Need-shared-slice-read-result-3
 shared-slice-read-result-3 c = search needs
 
 returns : tie.Need-returns
-unfolding marked
+unfolding isMarked
 returns c = refl
 
 pub is-marked-spec : {M : Type 1} → statement M

@@ -1,16 +1,15 @@
--- `book::is_versioned` meets its contract.
 use mathlib.Core.Path.{refl}
-use Rattle.book.specs.Check.{versioned}
+use Rattle.book.specs.Check.{isVersioned}
 use borrow.Author.Needs.{needs}
 use Rattle.book.proofs.is_versioned.Statement.{statement}
 use Rattle.book.proofs.is_versioned.Tie as tie
 
-u16-at-requires : tie.Need-u16-at-requires
-u16-at-requires c κs = search needs
+version-at-requires : tie.Need-version-at-requires
+version-at-requires c κs = search needs
 
 returns : tie.Need-returns
-unfolding versioned
-returns c = rw (c .u16-at .ensures) refl
+unfolding isVersioned
+returns c = rw (c .version-at .ensures) refl
 
 pub is-versioned-spec : {M : Type 1} → statement M
-is-versioned-spec = tie.close (tie.spec u16-at-requires returns)
+is-versioned-spec = tie.close (tie.spec version-at-requires returns)

@@ -1,4 +1,3 @@
--- `book::no_call` meets its contract.
 use mathlib.Core.Path.{refl}
 use Rattle.book.specs.Book.{noCall}
 use Rattle.book.proofs.no_call.Statement.{statement}

@@ -1,4 +1,3 @@
--- `book::turn_at` meets its contract.
 use mathlib.Core.Path.{sym, _∙_}
 use borrow.Author.Tests.{not-true, not-false}
 use Rattle.book.proofs.Turns.{five, six, none}
@@ -15,8 +14,8 @@ next-at-requires c κs = search needs
 returns : tie.Need-returns
 returns c =
     let args = c .before .before .before .before .args in
-    let sound = c .before .before .is-record in
-    (sym (five (args .minutes) (args .b .now) (args .low) (args .i) (sym (sound .ensures) ∙ not-true _ (c .before .if1 .taken))), c .next-at .ensures)
+    let unsound = sym (c .before .before .is-record .ensures) ∙ not-true _ (c .before .if1 .taken) in
+    λ i. record { number = sym (five (args .minutes) (args .b .now) (args .low) (args .i) unsound) i; low = c .next-at .ensures i }
 
 next-at-requires-2 : tie.Need-next-at-requires-2
 next-at-requires-2 c κs = search needs
@@ -24,16 +23,16 @@ next-at-requires-2 c κs = search needs
 returns-2 : tie.Need-returns-2
 returns-2 c =
     let args = c .before .before .before .before .before .args in
-    let sound = c .before .before .before .is-record in
-    let next = c .before .next-at2 in
-    (sym (six (args .minutes) (args .b .now) (args .low) (args .i) _ (sym (sound .ensures) ∙ not-false _ (c .before .before .if1 .left)) (next .ensures) (c .if2 .taken)), next .ensures)
+    let sound = sym (c .before .before .before .is-record .ensures) ∙ not-false _ (c .before .before .if1 .left) in
+    let next = c .before .next-at2 .ensures in
+    λ i. record { number = sym (six (args .minutes) (args .b .now) (args .low) (args .i) _ sound next (c .if2 .taken)) i; low = next i }
 
 returns-3 : tie.Need-returns-3
 returns-3 c =
     let args = c .before .before .before .before .before .args in
-    let sound = c .before .before .before .is-record in
-    let next = c .before .next-at2 in
-    (sym (none (args .minutes) (args .b .now) (args .low) (args .i) _ (sym (sound .ensures) ∙ not-false _ (c .before .before .if1 .left)) (next .ensures) (c .if2 .left)), next .ensures)
+    let sound = sym (c .before .before .before .is-record .ensures) ∙ not-false _ (c .before .before .if1 .left) in
+    let next = c .before .next-at2 .ensures in
+    λ i. record { number = sym (none (args .minutes) (args .b .now) (args .low) (args .i) _ sound next (c .if2 .left)) i; low = next i }
 
 pub turn-at-spec : {M : Type 1} → statement M
 turn-at-spec =

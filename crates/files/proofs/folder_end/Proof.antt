@@ -1,4 +1,3 @@
--- `files::folder_end` meets its contract.
 use Prim.Native.Nat.{_≤_}
 use native.Mathlib.Omega.{arith}
 use lib.ListN.{length}

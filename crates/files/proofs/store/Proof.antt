@@ -1,4 +1,3 @@
--- `files::store` meets its contract.
 use mathlib.Core.Path.{_≡_, sym}
 use Prim.Native.Nat.{_+_}
 use native.Mathlib.Omega.{arith}

@@ -1,4 +1,3 @@
--- `files::sync_folder` meets its contract.
 use mathlib.Core.Path.{sym}
 use lib.Seq.{length-take-le}
 use borrow.Author.Needs.{needs}

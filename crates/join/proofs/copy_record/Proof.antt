@@ -1,4 +1,3 @@
--- `join::copy_record` meets its contract.
 use native.Mathlib.Omega.{arith}
 use Rattle.le.specs.Le.{IsBytes}
 use Rattle.join.proofs.Copies.{words-record}
@@ -17,7 +16,11 @@ same-length c = search needs
 
 returns : tie.Need-returns
 unfolding IsBytes
-returns c = rw (words-record (c .before .before .before .before .before .before .before .args .s .now) (λ i. omega (arith, c .before .before .before .before .before .before .shared-slice-known .given i)) (c .before .before .before .before .before .before .before .args .from) (c .before .before .before .before .before .before .before .pre .0) (c .before .before .before .before .words-at .result) (c .before .before .before .before .words-at .ensures)) at (c .before .before .put-words .ensures)
+returns c =
+    let w = c .before .before .before .before in
+    let s = w .before .before .before in
+    rw (words-record (s .args .s .now) (λ i. omega (arith, w .before .before .shared-slice-known .given i)) (s .args .from) (s .pre .0) (w .words-at .result) (w .words-at .ensures))
+    at (c .before .before .put-words .ensures)
 
 pub copy-record-spec : {M : Type 1} → statement M
 copy-record-spec = tie.close (tie.spec words-at-requires put-words-requires same-length returns)

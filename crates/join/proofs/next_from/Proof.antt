@@ -1,11 +1,7 @@
--- `join::next_from` meets its contract.
-use mathlib.Core.Path.{refl, sym, _∙_}
-use native.Mathlib.Omega.{arith}
-use borrow.Author.Tests.{ltb-true, ltb-false}
-use Rattle.call.specs.Key.{keyOf}
+use mathlib.Core.Path.{sym, _∙_}
 use Rattle.call.specs.Layout.{callAt}
 use Rattle.rule.specs.Standing.{standing}
-use Rattle.join.specs.Steps.{lower, upper, equal}
+use Rattle.join.proofs.Steps.{settles-lower, settles-upper, settles-equal}
 use borrow.Author.Needs.{needs}
 use Rattle.join.proofs.next_from.Statement.{statement}
 use Rattle.join.proofs.next_from.Tie as tie
@@ -17,7 +13,12 @@ add-p : tie.Need-add-p
 add-p c = search needs
 
 returns : tie.Need-returns
-returns c = record { call = callAt (c .before .before .before .before .args .first .now) (c .before .before .before .before .args .a); settled = lower (ltb-true _ _ (sym (c .before .precedes .ensures) ∙ c .if1 .taken)) refl refl refl }
+returns c =
+    let s = c .before .before .before .before .args in
+    record {
+      call = callAt (s .first .now) (s .a);
+      settled = settles-lower (callAt (s .first .now) (s .a)) (callAt (s .second .now) (s .b)) _ _ (sym (c .before .precedes .ensures) ∙ c .if1 .taken);
+    }
 
 precedes-requires-2 : tie.Need-precedes-requires-2
 precedes-requires-2 c κs = search needs
@@ -26,7 +27,12 @@ add-q : tie.Need-add-q
 add-q c = search needs
 
 returns-2 : tie.Need-returns-2
-returns-2 c = record { call = callAt (c .before .before .before .before .before .before .args .second .now) (c .before .before .before .before .before .before .args .b); settled = upper (ltb-true _ _ (sym (c .before .precedes2 .ensures) ∙ c .if2 .taken)) refl refl refl }
+returns-2 c =
+    let s = c .before .before .before .before .before .before .args in
+    record {
+      call = callAt (s .second .now) (s .b);
+      settled = settles-upper (callAt (s .first .now) (s .a)) (callAt (s .second .now) (s .b)) _ _ (sym (c .before .precedes2 .ensures) ∙ c .if2 .taken);
+    }
 
 add-p-2 : tie.Need-add-p-2
 add-p-2 c = search needs
@@ -35,7 +41,15 @@ add-q-2 : tie.Need-add-q-2
 add-q-2 c = search needs
 
 returns-3 : tie.Need-returns-3
-returns-3 c = record { call = standing (callAt (c .before .before .before .before .before .before .args .first .now) (c .before .before .before .before .before .before .args .a)) (callAt (c .before .before .before .before .before .before .args .second .now) (c .before .before .before .before .before .before .args .b)); settled = equal (omega (arith, ltb-false (keyOf (callAt (c .before .before .before .before .before .before .args .first .now) (c .before .before .before .before .before .before .args .a))) (keyOf (callAt (c .before .before .before .before .before .before .args .second .now) (c .before .before .before .before .before .before .args .b))) (sym (c .before .before .before .precedes .ensures) ∙ c .before .before .if1 .left), ltb-false (keyOf (callAt (c .before .before .before .before .before .before .args .second .now) (c .before .before .before .before .before .before .args .b))) (keyOf (callAt (c .before .before .before .before .before .before .args .first .now) (c .before .before .before .before .before .before .args .a))) (sym (c .before .precedes2 .ensures) ∙ c .if2 .left))) refl refl refl }
+returns-3 c =
+    let p = c .before .before .before in
+    let s = p .before .before .before .args in
+    record {
+      call = standing (callAt (s .first .now) (s .a)) (callAt (s .second .now) (s .b));
+      settled =
+          settles-equal (callAt (s .first .now) (s .a)) (callAt (s .second .now) (s .b)) _ _ (sym (p .precedes .ensures) ∙ c .before .before .if1 .left)
+          (sym (c .before .precedes2 .ensures) ∙ c .if2 .left);
+    }
 
 pub next-from-spec : {M : Type 1} → statement M
 next-from-spec =

@@ -1,25 +1,13 @@
--- `join::overflow` meets its contract.
+use mathlib.Core.Path.{_∙_, ap}
+use Prim.Native.Nat.{ℕ}
 use native.Mathlib.Omega.{arith}
-use mathlib.Core.Path.{_≡_, _∙_, ap}
-use mathlib.Core.Bool.{true, _&&_}
-use Prim.Native.Nat.{ℕ, _+_, _≤_}
-use mathlib.Core.List.{[], _∷_}
-use lib.Dec.{leb}
-use borrow.Author.Tests.{leb-true}
-use Rattle.le.proofs.Tests.{each}
-use Rattle.book.specs.Book.{mostRecords, sizeOf}
-use Rattle.join.specs.Steps.{overfull}
+use Rattle.join.specs.Joining.{overflow}
+use Rattle.join.proofs.WaysOut.{over-many, over-short, over-none}
 use Rattle.join.proofs.Steps.{most-joined}
 use Rattle.join.proofs.Books.{long}
-use Rattle.join.proofs.WaysOut.{over-many, over-short, over-none}
 use borrow.Author.Needs.{needs}
 use Rattle.join.proofs.overflow.Statement.{statement}
 use Rattle.join.proofs.overflow.Tie as tie
-
-both-fit : (a b e f : ℕ) → (leb a b && leb e f) ≡ true → (a ≤ b) × (e ≤ f)
-both-fit a b e f h =
-    let t = each (leb a b) (leb e f ∷ []) h in
-    (leb-true a b (t .0), leb-true e f (t .1 .0))
 
 count-at-requires : tie.Need-count-at-requires
 count-at-requires c κs = long _ (c .before .before .pre .0)
@@ -30,37 +18,61 @@ count-at-requires-2 c κs = long _ (c .before .before .before .pre .1)
 add-most : tie.Need-add-most
 add-most c = search needs
 
-mul-if1 : tie.Need-mul-if1
-mul-if1 c = search needs
+size-of-requires : tie.Need-size-of-requires
+size-of-requires c κs = search needs
 
-add-if1 : tie.Need-add-if1
-add-if1 c = search needs
+refused-requires : tie.Need-refused-requires
+refused-requires c κs = search needs
 
 returns : tie.Need-returns
 returns c =
-    let n = c .before .before .count-at .result in
-    let m = c .before .count-at2 .result in
-    let t = both-fit (n + m) mostRecords (sizeOf (n + m)) (c .before .before .before .before .before .args .room) (c .if1 .taken) in
-    let most = most-joined _ _ _ _ (c .before .before .count-at .ensures .0) (c .before .count-at2 .ensures .0) in
-    over-none _ _ (omega arith) (omega arith)
+    let z = c .before .before in
+    let n = z .before .before .before in
+    let s = n .before .before .before in
+    let most = most-joined (s .args .first .now) (s .args .second .now) (s .pre .0) (s .pre .1) _ _ (n .count-at .ensures .0) (z .before .before .count-at2 .ensures .0) in
+    let few = z .before .if1 .taken in
+    let fits = c .before .if2 .taken in
+    let size = z .size-of .ensures in
+    c .refused .ensures ∙ over-none _ _ (omega arith) (omega arith)
 
-count-keys-requires : tie.Need-count-keys-requires
-count-keys-requires c κs = search needs
+keys-of-both-requires : tie.Need-keys-of-both-requires
+keys-of-both-requires c κs = search needs
+
+refused-requires-2 : tie.Need-refused-requires-2
+refused-requires-2 c κs = search needs
 
 returns-2 : tie.Need-returns-2
-returns-2 c = over-many _ _ (c .if2 .taken) ∙ ap (λ (k : ℕ). overfull k (c .before .before .before .before .before .before .before .args .room)) (c .before .count-keys .ensures)
+returns-2 c =
+    let k = c .before .before in
+    let room = k .before .before .before .before .before .before .args .room in
+    c .refused2 .ensures ∙ over-many (k .keys-of-both .result) room (c .before .if3 .taken) ∙ ap (λ (n : ℕ). overflow n room) (k .keys-of-both .ensures)
 
-mul-if3 : tie.Need-mul-if3
-mul-if3 c = search needs
+size-of-requires-2 : tie.Need-size-of-requires-2
+size-of-requires-2 c κs = search needs
 
-add-if3 : tie.Need-add-if3
-add-if3 c = search needs
+refused-requires-3 : tie.Need-refused-requires-3
+refused-requires-3 c κs = search needs
 
 returns-3 : tie.Need-returns-3
-returns-3 c = over-short _ _ (c .before .if2 .left) (c .if3 .taken) ∙ ap (λ (k : ℕ). overfull k (c .before .before .before .before .before .before .before .before .args .room)) (c .before .before .count-keys .ensures)
+returns-3 c =
+    let f = c .before .before .before in
+    let k = f .before in
+    let room = k .before .before .before .before .before .before .args .room in
+    let short = c .before .if4 .taken in
+    let size = c .before .before .size-of2 .ensures in
+    c .refused3 .ensures ∙ over-short (k .keys-of-both .result) room (f .if3 .left) (omega arith) ∙ ap (λ (n : ℕ). overflow n room) (k .keys-of-both .ensures)
+
+refused-requires-4 : tie.Need-refused-requires-4
+refused-requires-4 c κs = search needs
 
 returns-4 : tie.Need-returns-4
-returns-4 c = over-none _ _ (c .before .if2 .left) (c .if3 .left) ∙ ap (λ (k : ℕ). overfull k (c .before .before .before .before .before .before .before .before .args .room)) (c .before .before .count-keys .ensures)
+returns-4 c =
+    let f = c .before .before .before in
+    let k = f .before in
+    let room = k .before .before .before .before .before .before .args .room in
+    let fits = c .before .if4 .left in
+    let size = c .before .before .size-of2 .ensures in
+    c .refused4 .ensures ∙ over-none (k .keys-of-both .result) room (f .if3 .left) (omega arith) ∙ ap (λ (n : ℕ). overflow n room) (k .keys-of-both .ensures)
 
 pub overflow-spec : {M : Type 1} → statement M
 overflow-spec =
@@ -69,12 +81,14 @@ overflow-spec =
     count-at-requires
     count-at-requires-2
     add-most
-    mul-if1
-    add-if1
+    size-of-requires
+    refused-requires
     returns
-    count-keys-requires
+    keys-of-both-requires
+    refused-requires-2
     returns-2
-    mul-if3
-    add-if3
+    size-of-requires-2
+    refused-requires-3
     returns-3
+    refused-requires-4
     returns-4)

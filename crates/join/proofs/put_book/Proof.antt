@@ -1,5 +1,7 @@
--- `join::put_book` meets its contract.
+use mathlib.Core.Path.{sym, _∙_}
+use native.Mathlib.Omega.{arith}
 use Rattle.join.proofs.Books.{long}
+use Rattle.join.proofs.Steps.{joined-length}
 use Rattle.join.proofs.Writes.{stores-book}
 use borrow.Author.Needs.{needs}
 use Rattle.join.proofs.put_book.Statement.{statement}
@@ -31,8 +33,14 @@ same-length c = search needs
 
 returns : tie.Need-returns
 returns c =
-    let put = c .before .before .before .before .before .before .before .put-records .ensures in
-    (put .0, stores-book _ _ _ _ _ _ (put .0) (c .before .before .before .before .before .before .before .before .before .before .before .before .pre .3) (put .1) (rw (c .before .before .before .header-at .ensures) at (c .before .before .put-header .ensures)))
+    let r = c .before .before .before .before .before .before .before in
+    let s = r .before .before .before .before .before in
+    let put = r .put-records .ensures in
+    let e = put .0 ∙ sym (joined-length _ _) in (
+      put .0,
+      stores-book _ _ _ _ _ _ e (omega (arith, s .pre .1 .1 .1, joined-length (s .args .first .now) (s .args .second .now))) (put .1)
+          (rw (c .before .before .before .header-at .ensures) at (c .before .before .put-header .ensures)),
+    )
 
 pub put-book-spec : {M : Type 1} → statement M
 put-book-spec =

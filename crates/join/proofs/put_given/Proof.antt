@@ -1,6 +1,5 @@
--- `join::put_given` meets its contract.
 use mathlib.Core.Path.{_∙_, ap}
-use Rattle.call.specs.Revising.{contestedOf}
+use Rattle.call.specs.Revising.{callContested}
 use Rattle.rule.specs.Standing.{given}
 use borrow.Author.Needs.{needs}
 use Rattle.join.proofs.put_given.Statement.{statement}
@@ -50,7 +49,7 @@ same-length-3 c = search needs
 returns-3 : tie.Need-returns-3
 unfolding given
 returns-3 c =
-    let e = c .before .before .before .contested .ensures ∙ ap contestedOf (c .before .before .before .before .call-at .ensures) in
+    let e = c .before .before .before .contested .ensures ∙ ap callContested (c .before .before .before .before .call-at .ensures) in
     rw (c .before .before .before .before .before .before .enum-told3 .given .1) (rw e at (c .before .before .put-call .ensures))
 
 pub put-given-spec : {M : Type 1} → statement M

@@ -1,11 +1,7 @@
--- `join::put_next` meets its contract.
-use mathlib.Core.Path.{refl, sym, _∙_}
-use native.Mathlib.Omega.{arith}
-use borrow.Author.Tests.{ltb-true, ltb-false}
-use Rattle.call.specs.Key.{keyOf}
+use mathlib.Core.Path.{sym, _∙_}
 use Rattle.call.specs.Layout.{callAt}
 use Rattle.rule.specs.Standing.{standing}
-use Rattle.join.specs.Steps.{lower, upper, equal}
+use Rattle.join.proofs.Steps.{settles-lower, settles-upper, settles-equal}
 use borrow.Author.Needs.{needs}
 use Rattle.join.proofs.put_next.Statement.{statement}
 use Rattle.join.proofs.put_next.Tie as tie
@@ -23,7 +19,15 @@ same-length : tie.Need-same-length
 same-length c = search needs
 
 returns : tie.Need-returns
-returns c = record { call = callAt (c .before .before .before .before .before .before .before .before .before .args .first .now) (c .before .before .before .before .before .before .before .before .before .args .a); settled = lower (ltb-true _ _ (sym (c .before .before .before .before .before .precedes .ensures) ∙ c .before .before .before .before .if1 .taken)) refl refl refl; stored = c .before .before .copy-record .ensures }
+returns c =
+    let p = c .before .before .before .before .before in
+    let s = p .before .before .before .before .args in
+    record {
+      call = callAt (s .first .now) (s .a);
+      settled =
+          settles-lower (callAt (s .first .now) (s .a)) (callAt (s .second .now) (s .b)) _ _ (sym (p .precedes .ensures) ∙ c .before .before .before .before .if1 .taken);
+      stored = c .before .before .copy-record .ensures;
+    }
 
 precedes-requires-2 : tie.Need-precedes-requires-2
 precedes-requires-2 c κs = search needs
@@ -38,10 +42,18 @@ same-length-2 : tie.Need-same-length-2
 same-length-2 c = search needs
 
 returns-2 : tie.Need-returns-2
-returns-2 c = record { call = callAt (c .before .before .before .before .before .before .before .before .before .before .before .args .second .now) (c .before .before .before .before .before .before .before .before .before .before .before .args .b); settled = upper (ltb-true _ _ (sym (c .before .before .before .before .before .precedes2 .ensures) ∙ c .before .before .before .before .if2 .taken)) refl refl refl; stored = c .before .before .copy-record2 .ensures }
+returns-2 c =
+    let p = c .before .before .before .before .before in
+    let s = p .before .before .before .before .before .before .args in
+    record {
+      call = callAt (s .second .now) (s .b);
+      settled =
+          settles-upper (callAt (s .first .now) (s .a)) (callAt (s .second .now) (s .b)) _ _ (sym (p .precedes2 .ensures) ∙ c .before .before .before .before .if2 .taken);
+      stored = c .before .before .copy-record2 .ensures;
+    }
 
-decide-from-requires : tie.Need-decide-from-requires
-decide-from-requires c κs = search needs
+decide-at-requires : tie.Need-decide-at-requires
+decide-at-requires c κs = search needs
 
 put-given-requires : tie.Need-put-given-requires
 put-given-requires c κs = search needs
@@ -57,7 +69,17 @@ same-length-3 c = search needs
 
 returns-3 : tie.Need-returns-3
 unfolding standing
-returns-3 c = record { call = standing (callAt (c .before .before .before .before .before .before .before .before .before .before .before .before .args .first .now) (c .before .before .before .before .before .before .before .before .before .before .before .before .args .a)) (callAt (c .before .before .before .before .before .before .before .before .before .before .before .before .args .second .now) (c .before .before .before .before .before .before .before .before .before .before .before .before .args .b)); settled = equal (omega (arith, ltb-false (keyOf (callAt (c .before .before .before .before .before .before .before .before .before .before .before .before .args .first .now) (c .before .before .before .before .before .before .before .before .before .before .before .before .args .a))) (keyOf (callAt (c .before .before .before .before .before .before .before .before .before .before .before .before .args .second .now) (c .before .before .before .before .before .before .before .before .before .before .before .before .args .b))) (sym (c .before .before .before .before .before .before .before .before .precedes .ensures) ∙ c .before .before .before .before .before .before .before .if1 .left), ltb-false (keyOf (callAt (c .before .before .before .before .before .before .before .before .before .before .before .before .args .second .now) (c .before .before .before .before .before .before .before .before .before .before .before .before .args .b))) (keyOf (callAt (c .before .before .before .before .before .before .before .before .before .before .before .before .args .first .now) (c .before .before .before .before .before .before .before .before .before .before .before .before .args .a))) (sym (c .before .before .before .before .before .before .precedes2 .ensures) ∙ c .before .before .before .before .before .if2 .left))) refl refl refl; stored = rw (c .before .before .before .before .decide-from .ensures) at (c .before .before .put-given .ensures) }
+returns-3 c =
+    let d = c .before .before .before .before in
+    let p = d .before .before .before .before in
+    let s = p .before .before .before .before .args in
+    record {
+      call = standing (callAt (s .first .now) (s .a)) (callAt (s .second .now) (s .b));
+      settled =
+          settles-equal (callAt (s .first .now) (s .a)) (callAt (s .second .now) (s .b)) _ _ (sym (p .precedes .ensures) ∙ d .before .before .before .if1 .left)
+          (sym (d .before .before .precedes2 .ensures) ∙ d .before .if2 .left);
+      stored = rw (d .decide-at .ensures) at (c .before .before .put-given .ensures);
+    }
 
 pub put-next-spec : {M : Type 1} → statement M
 put-next-spec =
@@ -73,7 +95,7 @@ put-next-spec =
     add-q
     same-length-2
     returns-2
-    decide-from-requires
+    decide-at-requires
     put-given-requires
     add-p-2
     add-q-2

@@ -1,4 +1,3 @@
--- `join::put_rest` meets its contract.
 use Prim.Native.Nat.{_+_, _-_}
 use native.Mathlib.Omega.{arith}
 use Rattle.join.proofs.Steps.{Rest, rest-none, rest-more, rest-all, same-long}
@@ -16,7 +15,7 @@ count-at-requires : tie.Need-count-at-requires Inv-loop μ-loop
 count-at-requires c κs = long _ (c .before .before .pre .0)
 
 loop-holds : tie.Need-loop-holds Inv-loop μ-loop
-loop-holds c = rest-none _ _ _ _ (c .before .before .before .pre .1)
+loop-holds c = rest-none _ _ _ _ (c .before .before .before .pre .1 .0)
 
 add-loop : tie.Need-add-loop Inv-loop μ-loop
 add-loop c = omega (arith, c .loop .inv .within, c .before .count-at .ensures)
@@ -31,13 +30,18 @@ add-copy-record-2 : tie.Need-add-copy-record-2 Inv-loop μ-loop
 add-copy-record-2 c = omega (arith, c .before .loop .inv .within, c .before .before .count-at .ensures)
 
 add-copy-record-3 : tie.Need-add-copy-record-3 Inv-loop μ-loop
-add-copy-record-3 c = omega (arith, c .before .before .loop .inv .within, c .before .before .before .count-at .ensures, c .before .before .before .before .before .before .pre .2)
+add-copy-record-3 c =
+    omega (arith, c .before .before .loop .inv .within, c .before .before .before .count-at .ensures, c .before .before .before .before .before .before .pre .1 .1)
 
 mul-copy-record-2 : tie.Need-mul-copy-record-2 Inv-loop μ-loop
-mul-copy-record-2 c = omega (arith, c .before .before .loop .inv .within, c .before .before .before .count-at .ensures, c .before .before .before .before .before .before .pre .2)
+mul-copy-record-2 c =
+    omega (arith, c .before .before .loop .inv .within, c .before .before .before .count-at .ensures, c .before .before .before .before .before .before .pre .1 .1)
 
 copy-record-requires : tie.Need-copy-record-requires Inv-loop μ-loop
-copy-record-requires c κs = (has _ (c .before .before .before .before .before .before .pre .0) _ (omega (arith, c .before .before .before .count-at .ensures .0)), omega (arith, same-long (c .before .before .loop .inv .stored), c .before .before .before .count-at .ensures .0, c .before .before .before .before .before .before .pre .2))
+copy-record-requires c κs =
+    let n = c .before .before .before in
+    let pre = n .before .before .before .pre in
+    (has _ (pre .0) _ (omega (arith, n .count-at .ensures .0)), omega (arith, same-long (c .before .before .loop .inv .stored), n .count-at .ensures .0, pre .1 .1))
 
 add-l : tie.Need-add-l Inv-loop μ-loop
 add-l c = omega (arith, c .before .before .before .before .before .loop .inv .within, c .before .before .before .before .before .before .count-at .ensures)
@@ -46,10 +50,13 @@ loop-less : tie.Need-loop-less Inv-loop μ-loop
 loop-less c = omega arith
 
 loop-again : tie.Need-loop-again Inv-loop μ-loop
-loop-again c = rest-more (c .before .before .before .before .before .loop .inv) (omega (arith, c .before .before .before .before .before .before .count-at .ensures .0)) (c .before .before .copy-record .ensures)
+loop-again c =
+    let l = c .before .before .before .before .before in
+    rest-more (l .loop .inv) (omega (arith, l .before .count-at .ensures .0)) (c .before .before .copy-record .ensures)
 
 add-result : tie.Need-add-result Inv-loop μ-loop
-add-result c = omega (arith, c .before .loop .inv .within, c .before .before .count-at .ensures, c .before .before .before .before .before .pre .2)
+add-result c =
+    omega (arith, c .before .loop .inv .within, c .before .before .count-at .ensures, c .before .before .before .before .before .pre .1 .1)
 
 same-length : tie.Need-same-length Inv-loop μ-loop
 same-length c = same-long (c .before .loop .inv .stored)

@@ -1,4 +1,3 @@
--- `join::put_words` meets its contract.
 use mathlib.Core.Path.{refl}
 use Prim.Native.Nat.{_+_}
 use Rattle.le.specs.Le.{leBytes}
@@ -34,12 +33,12 @@ same-length c = search needs
 returns : tie.Need-returns
 unfolding leBytes
 returns c =
-    let at = c .before .before .before .before .before .before .before .before .before .before .before .before .before .before .before .before .before .args .at in
-    then (at + 24) refl
-    (then (at + 16) refl
-    (then (at + 8) refl (c .before .before .before .before .before .before .before .before .before .before .before .before .before .before .put-u64 .ensures) (c .before .before .before .before .before .before .before .before .before .before .put-u642 .ensures))
-    (c .before .before .before .before .before .before .put-u643 .ensures))
-    (c .before .before .put-u644 .ensures)
+    let w = c .before .before in
+    let x = w .before .before .before .before in
+    let y = x .before .before .before .before in
+    let z = y .before .before .before .before in
+    let at = z .before .before .before .args .at in
+    then (at + 24) refl (then (at + 16) refl (then (at + 8) refl (z .put-u64 .ensures) (y .put-u642 .ensures)) (x .put-u643 .ensures)) (w .put-u644 .ensures)
 
 pub put-words-spec : {M : Type 1} → statement M
 put-words-spec =

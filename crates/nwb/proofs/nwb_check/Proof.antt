@@ -1,4 +1,3 @@
--- `nwb::nwb_check` meets its contract.
 use mathlib.Core.Path.{ap}
 use Rattle.book.specs.declared.Verdict.{Verdict}
 use borrow.Author.Needs.{needs}

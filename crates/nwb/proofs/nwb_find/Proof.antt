@@ -1,58 +1,54 @@
--- `nwb::nwb_find` meets its contract.
-use Prim.Native.Nat.{_+_, _≤_}
-use native.Mathlib.Omega.{arith}
-use lib.ListN.{length}
-use Rattle.book.specs.Book.{sizeOf}
-use Rattle.lookup.proofs.Places.{which-first, which-second}
-use Rattle.nwb.proofs.Cells.{located-first, located-second, located-none}
+use mathlib.Core.Path.{refl}
+use Rattle.lookup.specs.declared.Place.the-variants.{Nowhere, InFirst, InSecond}
+use Rattle.lookup.proofs.Places.{in-word, first-fits, second-fits}
+use Rattle.nwb.proofs.Cells.{located}
 use borrow.Author.Needs.{needs}
 use Rattle.nwb.proofs.nwb_find.Statement.{statement}
 use Rattle.nwb.proofs.nwb_find.Tie as tie
 
--- the record lies within its book, so its offset fits
-in-first : (c : tie.Then1) → sizeOf (c .before .which .result .index) + 32 ≤ length (c .before .before .before .before .args .first .now)
-in-first c = which-first (c .before .before .before .before .args .first .now) (c .before .before .before .before .args .second .now) (c .before .before .before .before .args .participant) (c .before .before .before .before .args .number) (c .before .which .result) (c .before .which .ensures) (c .if1 .taken)
-
-in-second : (c : tie.Then2) → sizeOf (c .before .before .which .result .index) + 32 ≤ length (c .before .before .before .before .before .args .second .now)
-in-second c = which-second (c .before .before .before .before .before .args .first .now) (c .before .before .before .before .before .args .second .now) (c .before .before .before .before .before .args .participant) (c .before .before .before .before .before .args .number) (c .before .before .which .result) (c .before .before .which .ensures) (c .if2 .taken)
-
 which-requires : tie.Need-which-requires
 which-requires c κs = search needs
 
-mul-offset : tie.Need-mul-offset
-mul-offset c = omega (arith, in-first c)
+enum-told : tie.Need-enum-told
+enum-told c = search needs
 
-add-offset : tie.Need-add-offset
-add-offset c = omega (arith, in-first c)
+enum-known-i : tie.Need-enum-known-i
+enum-known-i c = search needs
+
+place-of-requires : tie.Need-place-of-requires
+place-of-requires c κs = in-word _ (let w = c .before .before .before in first-fits _ _ _ _ (w .which .result) (w .which .ensures) _ (c .before .i .given .1) .0)
+
+enum-known-j : tie.Need-enum-known-j
+enum-known-j c = search needs
+
+place-of-requires-2 : tie.Need-place-of-requires-2
+place-of-requires-2 c κs = in-word _ (let w = c .before .before .before in second-fits _ _ _ _ (w .which .result) (w .which .ensures) _ (c .before .j .given .1) .0)
 
 returns : tie.Need-returns
-returns c = located-first _ _ (c .before .which .ensures) (c .if1 .taken)
-
-mul-offset-2 : tie.Need-mul-offset-2
-mul-offset-2 c = omega (arith, in-second c)
-
-add-offset-2 : tie.Need-add-offset-2
-add-offset-2 c = omega (arith, in-second c)
+returns c = let w = c .before .before in located (w .which .result) _ Nowhere _ _ (w .which .ensures) (c .enum-told .given .1) refl refl
 
 returns-2 : tie.Need-returns-2
-returns-2 c = located-second _ _ (c .before .before .which .ensures) (c .if2 .taken)
-
-cast-result : tie.Need-cast-result
-cast-result c = search needs
+returns-2 c =
+    let i = c .before .before in
+    let w = i .before .before in
+    located (w .which .result) _ (InFirst (i .i .given .0 .0)) _ _ (w .which .ensures) (i .i .given .1) refl (c .place-of .ensures)
 
 returns-3 : tie.Need-returns-3
-returns-3 c = located-none _ _ (c .before .before .which .ensures) (c .before .if1 .left) (c .if2 .left)
+returns-3 c =
+    let j = c .before .before in
+    let w = j .before .before in
+    located (w .which .result) _ (InSecond (j .j .given .0 .0)) _ _ (w .which .ensures) (j .j .given .1) refl (c .place-of2 .ensures)
 
 pub nwb-find-spec : {M : Type 1} → statement M
 nwb-find-spec =
     tie.close
     (tie.spec
     which-requires
-    mul-offset
-    add-offset
+    enum-told
+    enum-known-i
+    place-of-requires
+    enum-known-j
+    place-of-requires-2
     returns
-    mul-offset-2
-    add-offset-2
     returns-2
-    cast-result
     returns-3)

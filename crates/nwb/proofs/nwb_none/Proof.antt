@@ -1,4 +1,3 @@
--- `nwb::nwb_none` meets its contract.
 use Rattle.nwb.proofs.Cells.{wrote}
 use borrow.Author.Needs.{needs}
 use Rattle.nwb.proofs.nwb_none.Statement.{statement}

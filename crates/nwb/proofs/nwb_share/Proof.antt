@@ -1,4 +1,3 @@
--- `nwb::nwb_share` meets its contract.
 use mir.Syntax.{w64}
 use mir.Val.{SFits}
 use mir.ValLaws.{toZ-ofZ}
@@ -14,12 +13,17 @@ share-bytes-requires c κs = search needs
 same-length : tie.Need-same-length
 same-length c = search needs
 
-fits : (c : tie.After-struct-told) → SFits w64 (c .before .before .before .before .share-bytes .result .gap .0)
-fits c = search needs
-
 returns : tie.Need-returns
-returns c = let e = c .before .before .before .before .share-bytes .ensures .says in
-    record { number-is = ap (λ (s : Answer). s .number) e; place-is = ap (λ (s : Answer). s .place) e; gap-is = toZ-ofZ w64 (c .before .before .before .before .share-bytes .result .gap .0) (fits c) ∙ ap (λ (s : Answer). s .gap .0) e; out-is = c .before .before .before .before .share-bytes .ensures .bytes .is }
+returns c =
+    let done = c .before .before .before .before .share-bytes in
+    let says = done .ensures .says in
+    let fits : SFits w64 (done .result .gap .0) = search needs in
+    record {
+      number-is = ap (λ (s : Answer). s .number) says;
+      place-is = ap (λ (s : Answer). s .place) says;
+      gap-is = toZ-ofZ w64 (done .result .gap .0) fits ∙ ap (λ (s : Answer). s .gap .0) says;
+      out-is = done .ensures .bytes .is;
+    }
 
 pub nwb-share-spec : {M : Type 1} → statement M
 nwb-share-spec = tie.close (tie.spec share-bytes-requires same-length returns)

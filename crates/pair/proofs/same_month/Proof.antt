@@ -1,4 +1,3 @@
--- `pair::same_month` meets its contract.
 use mathlib.Core.Path.{refl}
 use Rattle.pair.specs.Screening.{sameMonth}
 use Rattle.pair.proofs.same_month.Statement.{statement}

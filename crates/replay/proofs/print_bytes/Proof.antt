@@ -1,4 +1,3 @@
--- `replay::print_bytes` meets its contract.
 use Prim.Native.Nat.{_-_, _≤_}
 use lib.ListN.{length}
 use borrow.Author.Needs.{needs}

@@ -1,4 +1,3 @@
--- `share_bytes::fields_at` meets its contract.
 use Rattle.share_bytes.specs.Bytes.{fieldsAt}
 use borrow.Author.Needs.{needs}
 use Rattle.share_bytes.proofs.fields_at.Statement.{statement}

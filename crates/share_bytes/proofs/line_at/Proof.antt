@@ -1,5 +1,4 @@
--- `share_bytes::line_at` meets its contract.
-use Rattle.share_bytes.specs.Bytes.{lineAt}
+use Rattle.share_bytes.specs.Inner.{lineAt}
 use borrow.Author.Needs.{needs}
 use Rattle.share_bytes.proofs.line_at.Statement.{statement}
 use Rattle.share_bytes.proofs.line_at.Tie as tie

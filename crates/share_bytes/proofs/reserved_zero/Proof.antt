@@ -1,4 +1,3 @@
--- `share_bytes::reserved_zero` meets its contract.
 use Rattle.share_bytes.specs.Bytes.{reservedZero}
 use borrow.Author.Needs.{needs}
 use Rattle.share_bytes.proofs.reserved_zero.Statement.{statement}

@@ -1,4 +1,3 @@
--- `share_bytes::write_part` meets its contract.
 use Rattle.share_bytes.proofs.Spelling.{part-stored, bits-stored}
 use borrow.Author.Needs.{needs}
 use Rattle.share_bytes.proofs.write_part.Statement.{statement}
@@ -22,7 +21,8 @@ returns c =
     let x = s .args .share .0 in
     let y = s .args .amount .0 in
     part-stored (record { share = x; amount = y }) (s .args .at)
-    (bits-stored x (record { sfits = c .before .before .before .before .before .before .before .before .struct-told .given .0 .1 }) (c .before .before .before .before .before .before .before .put-i64 .ensures))
+    (bits-stored x (record { sfits = c .before .before .before .before .before .before .before .before .struct-told .given .0 .1 })
+    (c .before .before .before .before .before .before .before .put-i64 .ensures))
     (bits-stored y (record { sfits = c .before .before .before .struct-told2 .given .0 .1 }) (c .before .before .put-i642 .ensures))
 
 pub write-part-spec : {M : Type 1} → statement M

@@ -1,11 +1,10 @@
--- `share_bytes::write_parts` meets its contract.
 use mathlib.Core.Path.{_≡_, _∙_}
 use Prim.Native.Nat.{_-_, _≤_}
 use native.Mathlib.Omega.{arith}
 use lib.ListN.{length, take}
 use Rattle.le.specs.Le.{Stores}
 use Rattle.share.specs.Sharing.{partsBy}
-use Rattle.share.specs.Forms.{blank}
+use Rattle.share.specs.Forms.{blankLine}
 use Rattle.share.proofs.Lines.{within-at}
 use Rattle.share_bytes.specs.Bytes.{partsBytes}
 use Rattle.share_bytes.proofs.Spelling.{parts-none, part-more, all-written}
@@ -21,7 +20,9 @@ abbrev μ-loop : tie.MeasureT-loop
 μ-loop negative count out₀ lines ss i₀ out i = count - i
 
 loop-holds : tie.Need-loop-holds Inv-loop μ-loop
-loop-holds c = (omega arith, search needs, parts-none (partsBy (c .before .before .args .negative) (take (c .before .before .args .count) (c .before .before .args .t1)) (take (c .before .before .args .count) (c .before .before .args .shares .0))) (c .before .before .args .out .now))
+loop-holds c =
+    let a = c .before .before .args in
+    (omega arith, search needs, parts-none (partsBy (a .negative) (take (a .count) (a .t1)) (take (a .count) (a .shares .0))) (a .out .now))
 
 mul-l : tie.Need-mul-l Inv-loop μ-loop
 mul-l c = search needs
@@ -40,7 +41,7 @@ finish-requires c κs =
     let s = c .before .before .before .before .before in
     let i = c .before .before .loop .i in
     let long : length (s .args .t1) ≡ 64 = search needs in
-    (within-at (s .args .t1) (s .args .count) i blank (s .pre .0 .2) (omega arith) (omega arith), s .pre .1 i (omega arith))
+    (within-at (s .args .t1) (s .args .count) i blankLine (s .pre .0 .1) (omega arith) (omega arith), s .pre .1 .1 i (omega arith))
 
 mul-write-part : tie.Need-mul-write-part Inv-loop μ-loop
 mul-write-part c = search needs
@@ -62,7 +63,7 @@ loop-again c =
     let long₂ : length (s .args .shares .0) ≡ 64 = search needs in (
       omega arith,
       c .before .before .write-part .kept .1 .1 .0 ∙ l .inv .1,
-      part-more (s .args .negative) (s .args .t1) (s .args .shares .0) (s .args .count) (omega arith) (omega arith) (l .i) blank (c .before .before .before .before .before .before .finish .result)
+      part-more (s .args .negative) (s .args .t1) (s .args .shares .0) (s .args .count) (omega arith) (omega arith) (l .i) blankLine (c .before .before .before .before .before .before .finish .result)
           (omega arith) (c .before .before .before .before .before .before .finish .ensures) (l .inv .2) (c .before .before .write-part .ensures),
     )
 

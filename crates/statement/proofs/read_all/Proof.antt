@@ -1,13 +1,12 @@
--- `statement::read_all` meets its contract.
 use borrow.Author.Needs.{needs}
 use Rattle.statement.proofs.read_all.Statement.{statement}
 use Rattle.statement.proofs.read_all.Tie as tie
 
 abbrev Inv-loop : tie.InvT-loop
-Inv-loop turn₀ turn = Unit {0}
+Inv-loop reading₀ reading = Unit {0}
 
 abbrev μ-loop : tie.MeasureT-loop
-μ-loop turn₀ turn = turn .left
+μ-loop reading₀ reading = reading .left
 
 start-requires : tie.Need-start-requires Inv-loop μ-loop
 start-requires c κs = tt

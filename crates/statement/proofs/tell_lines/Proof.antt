@@ -1,4 +1,3 @@
--- `statement::tell_lines` meets its contract.
 use Prim.Native.Nat.{_≤_, _-_}
 use borrow.Author.Needs.{needs}
 use Rattle.statement.proofs.tell_lines.Statement.{statement}

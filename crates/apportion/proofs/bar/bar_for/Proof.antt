@@ -1,14 +1,13 @@
--- `apportion::bar::bar_for` meets its contract.
 use Prim.Native.Nat.{_-_, _≤_}
 use native.Mathlib.Omega.{arith}
-use Rattle.apportion.specs.Bar.{above}
+use Rattle.apportion.specs.Bar.{countAbove}
 use Rattle.apportion.proofs.Turns.{above-none}
 use borrow.Author.Needs.{needs}
 use Rattle.apportion.proofs.bar.bar_for.Statement.{statement}
 use Rattle.apportion.proofs.bar.bar_for.Tie as tie
 
 abbrev Inv-loop : tie.InvT-loop
-Inv-loop left all rests low₀ bar₀ fine low bar = (low ≤ bar) × (bar ≤ all) × (above bar rests ≤ left)
+Inv-loop left all rests low₀ bar₀ fine low bar = (low ≤ bar) × (bar ≤ all) × (countAbove bar rests ≤ left)
 
 abbrev μ-loop : tie.MeasureT-loop
 μ-loop left all rests low₀ bar₀ fine low bar = bar - low

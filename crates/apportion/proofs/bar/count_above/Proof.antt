@@ -1,16 +1,15 @@
--- `apportion::bar::count_above` meets its contract.
 use mathlib.Core.Path.{_≡_}
 use Prim.Native.Nat.{_+_, _-_, _≤_}
 use native.Mathlib.Omega.{arith}
 use lib.ListN.{length, drop}
-use Rattle.apportion.specs.Bar.{above}
+use Rattle.apportion.specs.Bar.{countAbove}
 use Rattle.apportion.proofs.Turns.{above-step, above-end, above-le}
 use borrow.Author.Needs.{needs}
 use Rattle.apportion.proofs.bar.count_above.Statement.{statement}
 use Rattle.apportion.proofs.bar.count_above.Tie as tie
 
 abbrev Inv-loop : tie.InvT-loop
-Inv-loop bar rests n₀ i₀ n i = (i ≤ length rests) × (n + above bar (drop i rests) ≡ above bar rests)
+Inv-loop bar rests n₀ i₀ n i = (i ≤ length rests) × (n + countAbove bar (drop i rests) ≡ countAbove bar rests)
 
 abbrev μ-loop : tie.MeasureT-loop
 μ-loop bar rests n₀ i₀ n i = length rests - i

@@ -1,9 +1,8 @@
--- `apportion::bar::give_above` meets its contract.
 use mathlib.Core.Path.{_≡_, refl, sym, ap, _∙_}
 use Prim.Native.Nat.{ℕ, _+_, _-_, _≤_}
 use native.Mathlib.Omega.{arith}
 use lib.ListN.{length, getD, length-set, length-map}
-use Rattle.apportion.specs.Bar.{oneAbove, unserved, above, struck, raised}
+use Rattle.apportion.specs.Bar.{oneAbove, unlessServed, countAbove, strikeAbove, giveAbove}
 use Rattle.apportion.proofs.Loops.{over, over-step, over-here, over-end, getD-mapped, getD-total}
 use Rattle.apportion.proofs.Turns.{length-raised, raised-at, total-raised}
 use borrow.Author.Needs.{needs}
@@ -12,7 +11,7 @@ use Rattle.apportion.proofs.bar.give_above.Tie as tie
 
 abbrev Inv-loop : tie.InvT-loop
 Inv-loop bar rests₀ shares₀ i₀ rests shares i =
-    (i ≤ length rests₀) × (rests ≡ over rests₀ (struck bar rests₀) i) × (shares ≡ over shares₀ (raised bar rests₀ shares₀) i)
+    (i ≤ length rests₀) × (rests ≡ over rests₀ (strikeAbove bar rests₀) i) × (shares ≡ over shares₀ (giveAbove bar rests₀ shares₀) i)
     × (length rests ≡ length rests₀) × (length shares ≡ length shares₀)
 
 abbrev μ-loop : tie.MeasureT-loop
@@ -38,9 +37,9 @@ one-above-requires c κs =
     let s = c .before .before .before .before .before .before in
     let l = c .before .before .before .loop in
     let rs = s .args .rests .now in
-    let lr = length-map rs (λ (r : ℕ). unserved (s .args .bar) r) in
-    let r = over-here rs (struck (s .args .bar) rs) (l .rests) (l .i) 0 (l .inv .1) (omega arith) (omega arith) in
-    (s .pre .1 .0, omega (arith, r, s .pre .1 .1 (l .i)))
+    let lr = length-map rs (λ (r : ℕ). unlessServed (s .args .bar) r) in
+    let r = over-here rs (strikeAbove (s .args .bar) rs) (l .rests) (l .i) 0 (l .inv .1) (omega arith) (omega arith) in
+    (s .pre .1 .1 .0, omega (arith, r, s .pre .1 .1 .1 (l .i)))
 
 add-shares : tie.Need-add-shares Inv-loop μ-loop
 add-shares c =
@@ -48,12 +47,13 @@ add-shares c =
     let l = c .before .before .before .before .loop in
     let rs = s .args .rests .now in
     let ss = s .args .shares .now in
-    let up = raised (s .args .bar) rs ss in
-    let lu = length-raised (s .args .bar) rs ss (s .pre .0 .0) in
-    let lr = length-map rs (λ (r : ℕ). unserved (s .args .bar) r) in
-    let r : getD (l .rests) (l .i) 0 ≡ getD rs (l .i) 0 = over-here rs (struck (s .args .bar) rs) (l .rests) (l .i) 0 (l .inv .1) (omega arith) (omega arith) in
+    let up = giveAbove (s .args .bar) rs ss in
+    let lu = length-raised (s .args .bar) rs ss (s .pre .0) in
+    let lr = length-map rs (λ (r : ℕ). unlessServed (s .args .bar) r) in
+    let r : getD (l .rests) (l .i) 0 ≡ getD rs (l .i) 0 = over-here rs (strikeAbove (s .args .bar) rs) (l .rests) (l .i) 0 (l .inv .1) (omega arith) (omega arith) in
     let b = over-here ss up (l .shares) (l .i) 0 (l .inv .2) (omega arith) (omega arith) in
-    omega (arith, c .one-above .ensures, ap (oneAbove (s .args .bar)) r, b, raised-at (s .args .bar) rs ss (l .i) (omega arith) (s .pre .0 .0), getD-total up (l .i), total-raised (s .args .bar) rs ss (s .pre .0 .0))
+    let one = raised-at (s .args .bar) rs ss (l .i) (omega arith) (s .pre .0) in
+    omega (arith, c .one-above .ensures, ap (oneAbove (s .args .bar)) r, b, one, getD-total up (l .i), total-raised (s .args .bar) rs ss (s .pre .0))
 
 mul-shares-2 : tie.Need-mul-shares-2 Inv-loop μ-loop
 mul-shares-2 c = search needs
@@ -83,16 +83,16 @@ loop-again c =
     let bar = s .args .bar in
     let rs = s .args .rests .now in
     let ss = s .args .shares .now in
-    let up = raised bar rs ss in
-    let lu = length-raised bar rs ss (s .pre .0 .0) in
-    let lr = length-map rs (λ (r : ℕ). unserved bar r) in
-    let r : getD (l .rests) (l .i) 0 ≡ getD rs (l .i) 0 = over-here rs (struck bar rs) (l .rests) (l .i) 0 (l .inv .1) (omega arith) (omega arith) in
+    let up = giveAbove bar rs ss in
+    let lu = length-raised bar rs ss (s .pre .0) in
+    let lr = length-map rs (λ (r : ℕ). unlessServed bar r) in
+    let r : getD (l .rests) (l .i) 0 ≡ getD rs (l .i) 0 = over-here rs (strikeAbove bar rs) (l .rests) (l .i) 0 (l .inv .1) (omega arith) (omega arith) in
     let b = over-here ss up (l .shares) (l .i) 0 (l .inv .2) (omega arith) (omega arith) in (
       omega arith,
-      over-step rs (struck bar rs) (l .rests) (l .i) 0 _ (l .inv .1) (omega arith) (omega arith)
-          (getD-mapped (λ (r : ℕ). unserved bar r) rs (l .i) (omega arith) ∙ ap (unserved bar) (sym r) ∙ sym (c .unless-served .ensures)),
+      over-step rs (strikeAbove bar rs) (l .rests) (l .i) 0 _ (l .inv .1) (omega arith) (omega arith)
+          (getD-mapped (λ (r : ℕ). unlessServed bar r) rs (l .i) (omega arith) ∙ ap (unlessServed bar) (sym r) ∙ sym (c .unless-served .ensures)),
       over-step ss up (l .shares) (l .i) 0 _ (l .inv .2) (omega arith) (omega arith)
-          (omega (arith, raised-at bar rs ss (l .i) (omega arith) (s .pre .0 .0), ap (oneAbove bar) r, b, c .before .one-above .ensures)),
+          (omega (arith, raised-at bar rs ss (l .i) (omega arith) (s .pre .0), ap (oneAbove bar) r, b, c .before .one-above .ensures)),
       simp length-set (l .inv .3),
       simp length-set (l .inv .4),
     )
@@ -110,9 +110,9 @@ returns c =
     let bar = s .args .bar in
     let rs = s .args .rests .now in
     let ss = s .args .shares .now in
-    let lu = length-raised bar rs ss (s .pre .0 .0) in
-    let lr = length-map rs (λ (r : ℕ). unserved bar r) in
-    (over-end ss (raised bar rs ss) _ (l .i) (l .inv .2) (omega arith) (omega arith), over-end rs (struck bar rs) _ (l .i) (l .inv .1) (omega arith) (omega arith))
+    let lu = length-raised bar rs ss (s .pre .0) in
+    let lr = length-map rs (λ (r : ℕ). unlessServed bar r) in
+    (over-end ss (giveAbove bar rs ss) _ (l .i) (l .inv .2) (omega arith) (omega arith), over-end rs (strikeAbove bar rs) _ (l .i) (l .inv .1) (omega arith) (omega arith))
 
 pub give-above-spec : {M : Type 1} → statement M
 give-above-spec =

@@ -1,4 +1,3 @@
--- `apportion::bar::one_above` meets its contract.
 use Rattle.apportion.proofs.Turns.{one-by-shift}
 use borrow.Author.Needs.{needs}
 use Rattle.apportion.proofs.bar.one_above.Statement.{statement}

@@ -1,4 +1,3 @@
--- `apportion::bar::unless_served` meets its contract.
 use borrow.Author.Tests.{lt-ltb, le-ltb}
 use Rattle.apportion.proofs.bar.unless_served.Statement.{statement}
 use Rattle.apportion.proofs.bar.unless_served.Tie as tie

@@ -1,9 +1,8 @@
--- `apportion::ties::give_equal` meets its contract.
 use mathlib.Core.Path.{_≡_, ap, _∙_}
 use Prim.Native.Nat.{ℕ, _+_, _-_, _≤_}
 use native.Mathlib.Omega.{arith}
 use lib.ListN.{length, getD}
-use Rattle.apportion.specs.Turn.{Given}
+use Rattle.apportion.specs.Ties.{UnitsGiven}
 use Rattle.apportion.proofs.Loops.{getD-total}
 use Rattle.apportion.proofs.InTurn.{Serving, serving-none, given-none, given-more, serve-step, turn-le}
 use borrow.Author.Needs.{needs}
@@ -11,7 +10,7 @@ use Rattle.apportion.proofs.ties.give_equal.Statement.{statement}
 use Rattle.apportion.proofs.ties.give_equal.Tie as tie
 
 abbrev Inv-loop : tie.InvT-loop
-Inv-loop left most rests₀ shares₀ k₀ i₀ rests shares k i = (i ≤ length rests₀) × Given left rests₀ shares₀ k rests shares × Serving most rests k i
+Inv-loop left most rests₀ shares₀ k₀ i₀ rests shares k i = (i ≤ length rests₀) × UnitsGiven left rests₀ shares₀ k rests shares × Serving most rests k i
 
 abbrev μ-loop : tie.MeasureT-loop
 μ-loop left most rests₀ shares₀ k₀ i₀ rests shares k i = length rests₀ - i
@@ -19,7 +18,7 @@ abbrev μ-loop : tie.MeasureT-loop
 loop-holds : tie.Need-loop-holds Inv-loop μ-loop
 loop-holds c =
     let s = c .before .before in
-    (omega arith, given-none (s .args .left) (s .args .rests .now) (s .args .shares .now), serving-none (s .args .most) (s .args .left) (s .args .rests .now) (s .pre .1))
+    (omega arith, given-none (s .args .left) (s .args .rests .now) (s .args .shares .now), serving-none (s .args .most) (s .args .left) (s .args .rests .now) (s .pre .1 .1))
 
 mul-r : tie.Need-mul-r Inv-loop μ-loop
 mul-r c = search needs

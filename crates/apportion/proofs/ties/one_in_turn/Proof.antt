@@ -1,7 +1,6 @@
--- `apportion::ties::one_in_turn` meets its contract.
 use mathlib.Core.Path.{refl}
 use native.Mathlib.Omega.{arith}
-use Rattle.apportion.specs.Turn.{served, passed}
+use Rattle.apportion.specs.Ties.{served, passed}
 use Rattle.apportion.proofs.ties.one_in_turn.Statement.{statement}
 use Rattle.apportion.proofs.ties.one_in_turn.Tie as tie
 

@@ -1,4 +1,3 @@
--- `apportion::ties::unless_one` meets its contract.
 use borrow.Author.Tests.{eq-eqb, ne-eqb}
 use Rattle.apportion.proofs.ties.unless_one.Statement.{statement}
 use Rattle.apportion.proofs.ties.unless_one.Tie as tie

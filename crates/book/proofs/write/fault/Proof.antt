@@ -1,4 +1,3 @@
--- `book::write::fault` meets its contract.
 use borrow.Author.Tests.{lt-ltb, le-ltb}
 use borrow.Author.Needs.{needs}
 use Rattle.book.proofs.write.fault.Statement.{statement}

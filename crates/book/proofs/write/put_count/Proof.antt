@@ -1,4 +1,3 @@
--- `book::write::put_count` meets its contract.
 use mathlib.Core.Path.{refl}
 use Rattle.le.specs.Le.{leBytes}
 use Rattle.le.proofs.Laws.{then}

@@ -1,4 +1,3 @@
--- `book::write::put_date` meets its contract.
 use mathlib.Core.Path.{refl}
 use Rattle.le.specs.Le.{leBytes}
 use Rattle.le.proofs.Laws.{then}
@@ -25,11 +24,11 @@ same-length c = search needs
 returns : tie.Need-returns
 unfolding dateBytes leBytes
 returns c =
-    then 9 refl
-    (then 8 refl
-    (then 6 refl (c .before .before .before .before .before .before .before .before .before .before .before .before .before .before .put-u16 .ensures) (c .before .before .before .before .before .before .before .before .before .before .put-u162 .ensures))
-    (c .before .before .before .before .before .before .put-u8 .ensures))
-    (c .before .before .put-u82 .ensures)
+    let fourth = c .before .before in
+    let third = fourth .before .before .before .before in
+    let second = third .before .before .before .before in
+    let first = second .before .before .before .before in
+    then 9 refl (then 8 refl (then 6 refl (first .put-u16 .ensures) (second .put-u162 .ensures)) (third .put-u8 .ensures)) (fourth .put-u82 .ensures)
 
 pub put-date-spec : {M : Type 1} → statement M
 put-date-spec =

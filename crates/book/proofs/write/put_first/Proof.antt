@@ -1,8 +1,8 @@
--- `book::write::put_first` meets its contract.
 use native.Mathlib.Omega.{arith}
 use Prim.Native.Nat.{_-_}
 use lib.ListN.{length}
 use Rattle.call.specs.Layout.{callBytes}
+use Rattle.book.specs.Book.{headerSize}
 use Rattle.le.proofs.Laws.{whole}
 use Rattle.call.proofs.Bytes.{length-call}
 use borrow.Author.Needs.{needs}
@@ -27,7 +27,7 @@ same-length c = search needs
 returns : tie.Need-returns
 returns c =
     let args = c .before .before .before .before .before .args in
-    whole 16 (length (args .out .now) - 16) 0 _ (callBytes (args .x)) _ (omega (arith, length-call (args .x))) (c .before .before .put-call .ensures)
+    whole headerSize (length (args .out .now) - headerSize) 0 _ (callBytes (args .x)) _ (omega (arith, length-call (args .x))) (c .before .before .put-call .ensures)
 
 pub put-first-spec : {M : Type 1} → statement M
 put-first-spec =

@@ -1,4 +1,3 @@
--- `book::write::put_header` meets its contract.
 use mathlib.Core.Path.{refl}
 use Rattle.le.specs.Le.{leBytes}
 use Rattle.le.proofs.Laws.{then}
@@ -22,9 +21,10 @@ same-length c = search needs
 returns : tie.Need-returns
 unfolding headBytes markBytes dateBytes leBytes
 returns c =
-    then 10 refl
-    (then 4 refl (c .before .before .before .before .before .before .before .before .before .before .put-mark .ensures) (c .before .before .before .before .before .before .put-date .ensures))
-    (c .before .before .put-count .ensures)
+    let third = c .before .before in
+    let second = third .before .before .before .before in
+    let first = second .before .before .before .before in
+    then 10 refl (then 4 refl (first .put-mark .ensures) (second .put-date .ensures)) (third .put-count .ensures)
 
 pub put-header-spec : {M : Type 1} → statement M
 put-header-spec =

@@ -1,4 +1,3 @@
--- `book::write::put_mark` meets its contract.
 use mathlib.Core.Path.{refl}
 use Rattle.le.specs.Le.{leBytes}
 use Rattle.le.proofs.Laws.{then}
@@ -25,11 +24,11 @@ same-length c = search needs
 returns : tie.Need-returns
 unfolding markBytes leBytes
 returns c =
-    then 3 refl
-    (then 2 refl
-    (then 1 refl (c .before .before .before .before .before .before .before .before .before .before .before .before .before .before .put-u8 .ensures) (c .before .before .before .before .before .before .before .before .before .before .put-u82 .ensures))
-    (c .before .before .before .before .before .before .put-u83 .ensures))
-    (c .before .before .put-u84 .ensures)
+    let fourth = c .before .before in
+    let third = fourth .before .before .before .before in
+    let second = third .before .before .before .before in
+    let first = second .before .before .before .before in
+    then 3 refl (then 2 refl (then 1 refl (first .put-u8 .ensures) (second .put-u82 .ensures)) (third .put-u83 .ensures)) (fourth .put-u84 .ensures)
 
 pub put-mark-spec : {M : Type 1} → statement M
 put-mark-spec =

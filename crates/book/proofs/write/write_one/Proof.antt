@@ -1,40 +1,49 @@
--- `book::write::write_one` meets its contract.
 use mathlib.Core.Path.{_≡_, refl, sym, _∙_, ap}
 use mathlib.Core.List.{[], _∷_}
 use native.Mathlib.Omega.{arith}
-use Prim.Native.Nat.{ℕ, _≤_}
+use Prim.Native.Nat.{ℕ}
 use lib.Seq.{length-sets}
 use lib.ListN.{length}
-use Rattle.call.specs.Limits.{soundCall}
-use Rattle.book.specs.Check.{monthOf}
+use Rattle.call.specs.Limits.{callIsSound}
+use Rattle.book.specs.Book.{HasRecord}
+use Rattle.book.specs.Check.{headerMinutes}
 use Rattle.book.specs.Write.{writeFault}
 use Rattle.book.proofs.Writes.{refuses, writes, room-of, fault-one, stores-one}
 use borrow.Author.Needs.{needs}
 use Rattle.book.proofs.write.write_one.Statement.{statement}
 use Rattle.book.proofs.write.write_one.Tie as tie
 
-faults : (c : tie.After-fault) → c .fault .result ≡ writeFault (c .before .before .before .before .args .h) (c .before .before .before .before .args .x ∷ []) (length (c .before .before .before .before .args .out .now))
-unfolding monthOf
+faults : (c : tie.After-fault) → let args = c .before .before .before .before .before .args in c .fault .result ≡ writeFault (args .h) (args .x ∷ []) (length (args .out .now))
+unfolding headerMinutes
 faults c =
-    let args = c .before .before .before .before .args in
-    let sound : c .before .is-sound .result ≡ soundCall (monthOf (args .h)) (args .x) = c .before .is-sound .ensures ∙ ap (λ (m : ℕ). soundCall m (args .x)) (c .before .before .minutes .ensures) in
-    c .fault .ensures ∙ rw sound (fault-one (args .h) (args .x) _)
+    let args = c .before .before .before .before .before .args in
+    let sounds = c .before .before in
+    let sound : sounds .is-sound .result ≡ callIsSound (headerMinutes (args .h)) (args .x) =
+    sounds .is-sound .ensures ∙ ap (λ (m : ℕ). callIsSound m (args .x)) (sounds .before .minutes-of .ensures) in
+    c .fault .ensures ∙ rw (sound, c .before .size-of .ensures) (fault-one (args .h) (args .x) _)
 
 -- there is room for the header and the record where nothing is refused
-room : (c : tie.After-put-header-arg) → 48 ≤ length (c .before .before .before .before .before .before .args .out .now)
-room c = room-of (c .before .before .before .before .before .before .args .h) (c .before .before .before .before .before .before .args .x ∷ []) _ (sym (faults (c .before .before)) ∙ c .before .if1 .left)
+room : (c : tie.After-put-header-arg) → HasRecord (c .before .before .before .before .before .before .before .args .out .now) 0
+room c =
+    let args = c .before .before .before .before .before .before .before .args in
+    room-of (args .h) (args .x ∷ []) _ (sym (faults (c .before .before)) ∙ c .before .if1 .left)
 
-minutes-requires : tie.Need-minutes-requires
-minutes-requires c κs = search needs
+minutes-of-requires : tie.Need-minutes-of-requires
+minutes-of-requires c κs = search needs
 
 is-sound-requires : tie.Need-is-sound-requires
 is-sound-requires c κs = search needs
+
+size-of-requires : tie.Need-size-of-requires
+size-of-requires c κs = search needs
 
 fault-requires : tie.Need-fault-requires
 fault-requires c κs = search needs
 
 returns : tie.Need-returns
-returns c = let args = c .before .before .before .before .before .args in refuses (args .h) (args .x ∷ []) (args .out .now) (c .before .fault .result) (faults (c .before)) (c .if1 .taken)
+returns c =
+    let args = c .before .before .before .before .before .before .args in
+    refuses (args .h) (args .x ∷ []) (args .out .now) _ (faults (c .before)) (c .if1 .taken)
 
 put-header-requires : tie.Need-put-header-requires
 put-header-requires c κs = omega (arith, room c)
@@ -47,15 +56,20 @@ same-length c = search needs
 
 returns-2 : tie.Need-returns-2
 returns-2 c =
-    let args = c .before .before .before .before .before .before .before .before .before .before .before .before .before .args in
-    writes (args .h) (args .x ∷ []) (args .out .now) (c .before .before .before .before .before .before .before .before .before .fault .result) 48 _ (faults (c .before .before .before .before .before .before .before .before .before)) (c .before .before .before .before .before .before .before .before .if1 .left) refl (room (c .before .before .before .before .before .before .before)) (stores-one (args .h) (args .x) (c .before .before .before .before .before .before .put-header .ensures) (c .before .before .put-first .ensures))
+    let first = c .before .before in
+    let head = first .before .before .before .before in
+    let passed = head .before .before in
+    let args = passed .before .before .before .before .before .before .args in
+    let stored = stores-one (args .h) (args .x) (head .put-header .ensures) (first .put-first .ensures) in
+    writes (args .h) (args .x ∷ []) (args .out .now) _ _ _ (faults (passed .before)) (passed .if1 .left) (passed .before .before .size-of .ensures) (room (head .before)) stored
 
 pub write-one-spec : {M : Type 1} → statement M
 write-one-spec =
     tie.close
     (tie.spec
-    minutes-requires
+    minutes-of-requires
     is-sound-requires
+    size-of-requires
     fault-requires
     returns
     put-header-requires

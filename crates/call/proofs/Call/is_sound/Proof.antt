@@ -1,11 +1,10 @@
--- `call::Call::is_sound` meets its contract.
 use mathlib.Core.Path.{sym}
 use mir.Syntax.{w32}
 use mir.Val.{SFits}
 use mir.ValLaws.{toZ-ofZ}
 use borrow.Author.Needs.{needs}
 use borrow.Author.Tests.{not-true, not-false}
-use Rattle.call.specs.Limits.{allows}
+use Rattle.call.specs.Limits.{limitsAllow}
 use Rattle.call.proofs.Limits.{framed, unframed, no-live, live, struck}
 use Rattle.call.proofs.Call.is_sound.Statement.{statement}
 use Rattle.call.proofs.Call.is_sound.Tie as tie
@@ -29,28 +28,28 @@ returns-2 c =
     let args = c .before .before .before .before .before .before .before .before .before .before .args in
     sym (no-live (args .minutes) (args .self) (not-false (framed (args .minutes) (args .self)) (c .before .before .before .before .if1 .left)) (c .before .before .if2 .taken) (c .if3 .taken))
 
-cast-within : tie.Need-cast-within
-cast-within c = search needs
-
 within-requires : tie.Need-within-requires
 within-requires c κs = search needs
 
 returns-3 : tie.Need-returns-3
-unfolding allows
+unfolding limitsAllow
 returns-3 c =
-    let args = c .before .before .before .before .before .before .before .before .before .before .before .before .before .args in
+    let args = c .before .before .before .before .before .before .before .before .before .before .before .before .args in
     let a : SFits w32 (args .self .a) = search needs in
-    rw (c .within .ensures, toZ-ofZ w32 (args .self .a) a) (sym (live (args .minutes) (args .self) (not-false (framed (args .minutes) (args .self)) (c .before .before .before .before .before .before .before .if1 .left)) (c .before .before .before .before .before .if2 .taken) (c .before .before .before .if3 .left)))
+    let frame = not-false (framed (args .minutes) (args .self)) (c .before .before .before .before .before .before .if1 .left) in
+    rw (c .within .ensures, toZ-ofZ w32 (args .self .a) a)
+    (sym (live (args .minutes) (args .self) frame (c .before .before .before .before .if2 .taken) (c .before .before .if3 .left)))
 
 within-requires-2 : tie.Need-within-requires-2
 within-requires-2 c κs = search needs
 
 returns-4 : tie.Need-returns-4
-unfolding allows
+unfolding limitsAllow
 returns-4 c =
     let args = c .before .before .before .before .before .before .before .before .before .before .before .before .args in
     let a : SFits w32 (args .self .a) = search needs in
-    rw (c .within2 .ensures, toZ-ofZ w32 (args .self .a) a) (sym (struck (args .minutes) (args .self) (not-false (framed (args .minutes) (args .self)) (c .before .before .before .before .before .before .if1 .left)) (c .before .before .before .before .if2 .left)))
+    let frame = not-false (framed (args .minutes) (args .self)) (c .before .before .before .before .before .before .if1 .left) in
+    rw (c .within2 .ensures, toZ-ofZ w32 (args .self .a) a) (sym (struck (args .minutes) (args .self) frame (c .before .before .before .before .if2 .left)))
 
 pub is-sound-spec : {M : Type 1} → statement M
 is-sound-spec =
@@ -61,7 +60,6 @@ is-sound-spec =
     add-end
     returns
     returns-2
-    cast-within
     within-requires
     returns-3
     within-requires-2

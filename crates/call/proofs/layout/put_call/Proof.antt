@@ -1,4 +1,3 @@
--- `call::layout::put_call` meets its contract.
 use mathlib.Core.Path.{refl}
 use Prim.Native.Nat.{_+_}
 use Rattle.le.specs.Le.{leBytes}
@@ -29,10 +28,11 @@ same-length c = search needs
 returns : tie.Need-returns
 unfolding callBytes keyBytes timeBytes leBytes
 returns c =
-    let at = c .before .before .before .before .before .before .before .before .before .before .before .before .before .args .at in
-    then (at + 16) refl
-    (then (at + 8) refl (c .before .before .before .before .before .before .before .before .before .before .put-key .ensures) (c .before .before .before .before .before .before .put-time .ensures))
-    (c .before .before .put-terms .ensures)
+    let third = c .before .before in
+    let second = third .before .before .before .before in
+    let first = second .before .before .before .before in
+    let at = first .before .before .before .args .at in
+    then (at + 16) refl (then (at + 8) refl (first .put-key .ensures) (second .put-time .ensures)) (third .put-terms .ensures)
 
 pub put-call-spec : {M : Type 1} → statement M
 put-call-spec =

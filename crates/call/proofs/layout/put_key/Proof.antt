@@ -1,4 +1,3 @@
--- `call::layout::put_key` meets its contract.
 use mathlib.Core.Path.{refl}
 use Prim.Native.Nat.{_+_}
 use Rattle.le.specs.Le.{leBytes}
@@ -35,12 +34,14 @@ same-length c = search needs
 returns : tie.Need-returns
 unfolding keyBytes leBytes
 returns c =
-    let at = c .before .before .before .before .before .before .before .before .before .before .before .before .before .before .before .before .before .args .at in
+    let fourth = c .before .before in
+    let third = fourth .before .before .before .before in
+    let second = third .before .before .before .before in
+    let first = second .before .before .before .before in
+    let at = first .before .before .before .args .at in
     then (at + 4) refl
-    (then (at + 3) refl
-    (then (at + 2) refl (c .before .before .before .before .before .before .before .before .before .before .before .before .before .before .put-u16 .ensures) (c .before .before .before .before .before .before .before .before .before .before .put-u8 .ensures))
-    (c .before .before .before .before .before .before .put-u82 .ensures))
-    (c .before .before .put-u32 .ensures)
+    (then (at + 3) refl (then (at + 2) refl (first .put-u16 .ensures) (second .put-u8 .ensures)) (third .put-u82 .ensures))
+    (fourth .put-u32 .ensures)
 
 pub put-key-spec : {M : Type 1} → statement M
 put-key-spec =

@@ -1,4 +1,3 @@
--- `call::layout::put_terms` meets its contract.
 use mir.Syntax.{w32}
 use mir.Val.{SFits}
 use Rattle.le.proofs.Signs.{stores-signed}
@@ -41,12 +40,13 @@ a-fits c = search needs
 returns : tie.Need-returns
 unfolding termBytes leBytes
 returns c =
-    let at = c .before .before .before .before .before .before .before .before .before .before .before .before .before .before .before .before .before .before .args .at in
-    then (at + 12) refl
-    (then (at + 8) refl
-    (then (at + 4) refl (stores-signed w32 4 _ (a-fits (c .before .before .before .before .before .before .before .before .before .before .before .before .before .before .before)) refl (c .before .before .before .before .before .before .before .before .before .before .before .before .before .before .put-i32 .ensures)) (c .before .before .before .before .before .before .before .before .before .before .put-u32 .ensures))
-    (c .before .before .before .before .before .before .put-u322 .ensures))
-    (c .before .before .put-u323 .ensures)
+    let fourth = c .before .before in
+    let third = fourth .before .before .before .before in
+    let second = third .before .before .before .before in
+    let first = second .before .before .before .before in
+    let at = first .before .before .before .before .args .at in
+    let a = stores-signed w32 4 _ (a-fits (first .before)) refl (first .put-i32 .ensures) in
+    then (at + 12) refl (then (at + 8) refl (then (at + 4) refl a (second .put-u32 .ensures)) (third .put-u322 .ensures)) (fourth .put-u323 .ensures)
 
 pub put-terms-spec : {M : Type 1} → statement M
 put-terms-spec =

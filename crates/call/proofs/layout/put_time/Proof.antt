@@ -1,4 +1,3 @@
--- `call::layout::put_time` meets its contract.
 use mathlib.Core.Path.{refl}
 use Prim.Native.Nat.{_+_}
 use Rattle.le.specs.Le.{leBytes}
@@ -29,10 +28,11 @@ same-length c = search needs
 returns : tie.Need-returns
 unfolding timeBytes leBytes
 returns c =
-    let at = c .before .before .before .before .before .before .before .before .before .before .before .before .before .args .at in
-    then (at + 6) refl
-    (then (at + 4) refl (c .before .before .before .before .before .before .before .before .before .before .put-u32 .ensures) (c .before .before .before .before .before .before .put-u16 .ensures))
-    (c .before .before .put-u162 .ensures)
+    let third = c .before .before in
+    let second = third .before .before .before .before in
+    let first = second .before .before .before .before in
+    let at = first .before .before .before .args .at in
+    then (at + 6) refl (then (at + 4) refl (first .put-u32 .ensures) (second .put-u16 .ensures)) (third .put-u162 .ensures)
 
 pub put-time-spec : {M : Type 1} → statement M
 put-time-spec =

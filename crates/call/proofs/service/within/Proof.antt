@@ -1,4 +1,3 @@
--- `call::service::within` meets its contract.
 use mathlib.Core.Path.{_≡_, refl}
 use Prim.Native.Nat.{_≤_, zero-le}
 use mir.Syntax.{w32}
@@ -62,6 +61,9 @@ row-requires-8 c κs = search needs
 
 allow-requires-8 : tie.Need-allow-requires-8
 allow-requires-8 c κs = search needs
+
+cast-row : tie.Need-cast-row
+cast-row c = search needs
 
 row-requires-9 : tie.Need-row-requires-9
 row-requires-9 c κs = search needs
@@ -134,8 +136,9 @@ returns-11 c = rw (c .allow11 .ensures, c .before .row11 .ensures, c .before .be
 returns-12 : tie.Need-returns-12
 returns-12 c =
     let not = c .before .before .match .rest in
-    let past : 11 ≤ c .before .before .before .args .service =
-    next (next (next (next (next (next (next (next (next (next (next (zero-le) (not .0 .0 .0 .0 .0 .0 .0 .0 .0 .0 .1)) (not .0 .0 .0 .0 .0 .0 .0 .0 .0 .1)) (not .0 .0 .0 .0 .0 .0 .0 .0 .1)) (not .0 .0 .0 .0 .0 .0 .0 .1)) (not .0 .0 .0 .0 .0 .0 .1)) (not .0 .0 .0 .0 .0 .1)) (not .0 .0 .0 .0 .1)) (not .0 .0 .0 .1)) (not .0 .0 .1)) (not .0 .1)) (not .1) in
+    let upTo5 = next (next (next (next (next (next zero-le (not .0 .0 .0 .0 .0 .0 .0 .0 .0 .0 .1)) (not .0 .0 .0 .0 .0 .0 .0 .0 .0 .1)) (not .0 .0 .0 .0 .0 .0 .0 .0 .1)) (not .0 .0 .0 .0 .0 .0 .0 .1))
+    (not .0 .0 .0 .0 .0 .0 .1)) (not .0 .0 .0 .0 .0 .1) in
+    let past = next (next (next (next (next upTo5 (not .0 .0 .0 .0 .1)) (not .0 .0 .0 .1)) (not .0 .0 .1)) (not .0 .1)) (not .1) in
     rw (c .allow12 .ensures, c .before .row12 .ensures, no-service _ past, kept (c .before .before .before)) refl
 
 pub within-spec : {M : Type 1} → statement M
@@ -158,6 +161,7 @@ within-spec =
     allow-requires-7
     row-requires-8
     allow-requires-8
+    cast-row
     row-requires-9
     allow-requires-9
     row-requires-10

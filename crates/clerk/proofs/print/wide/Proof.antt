@@ -1,4 +1,3 @@
--- `clerk::print::wide` meets its contract.
 use Rattle.pay.proofs.Signed.{wide-fits}
 use borrow.Author.Needs.{needs}
 use Rattle.clerk.proofs.print.wide.Statement.{statement}

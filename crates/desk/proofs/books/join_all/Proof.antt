@@ -1,13 +1,12 @@
--- `desk::books::join_all` meets its contract.
 use mathlib.Core.Path.{_≡_}
-use Prim.Native.Nat.{_≤_, _-_}
+use Prim.Native.Nat.{_-_}
 use lib.ListN.{length}
 use borrow.Author.Needs.{needs}
 use Rattle.desk.proofs.books.join_all.Statement.{statement}
 use Rattle.desk.proofs.books.join_all.Tie as tie
 
 abbrev Inv-loop : tie.InvT-loop
-Inv-loop from all₀ count held₀ i₀ all held i = (held .n ≤ length all) × (length all ≡ length all₀)
+Inv-loop from all₀ count held₀ i₀ all held i = length all ≡ length all₀
 
 abbrev μ-loop : tie.MeasureT-loop
 μ-loop from all₀ count held₀ i₀ all held i = count - i
@@ -15,8 +14,11 @@ abbrev μ-loop : tie.MeasureT-loop
 arg-count-requires : tie.Need-arg-count-requires Inv-loop μ-loop
 arg-count-requires c κs = search needs
 
-none-requires : tie.Need-none-requires Inv-loop μ-loop
-none-requires c κs = search needs
+open-requires : tie.Need-open-requires Inv-loop μ-loop
+open-requires c κs = search needs
+
+add-i : tie.Need-add-i Inv-loop μ-loop
+add-i c = search needs
 
 loop-holds : tie.Need-loop-holds Inv-loop μ-loop
 loop-holds c = search needs
@@ -24,8 +26,8 @@ loop-holds c = search needs
 join-next-requires : tie.Need-join-next-requires Inv-loop μ-loop
 join-next-requires c κs = search needs
 
-add-i : tie.Need-add-i Inv-loop μ-loop
-add-i c = search needs
+add-i-2 : tie.Need-add-i-2 Inv-loop μ-loop
+add-i-2 c = search needs
 
 loop-less : tie.Need-loop-less Inv-loop μ-loop
 loop-less c = search needs
@@ -46,10 +48,11 @@ join-all-spec =
     Inv-loop
     μ-loop
     arg-count-requires
-    none-requires
+    open-requires
+    add-i
     loop-holds
     join-next-requires
-    add-i
+    add-i-2
     loop-less
     loop-again
     same-length

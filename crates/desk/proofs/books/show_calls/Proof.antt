@@ -1,4 +1,3 @@
--- `desk::books::show_calls` meets its contract.
 use Prim.Native.Nat.{_≤_, _-_}
 use borrow.Author.Needs.{needs}
 use Rattle.desk.proofs.books.show_calls.Statement.{statement}

@@ -1,4 +1,3 @@
--- `desk::month::score_all` meets its contract.
 use Prim.Native.Nat.{_≤_, _-_}
 use borrow.Author.Needs.{needs}
 use Rattle.desk.proofs.month.score_all.Statement.{statement}
@@ -10,8 +9,8 @@ Inv-loop register book count s₀ i₀ s i = (i ≤ count) × (count ≤ 64)
 abbrev μ-loop : tie.MeasureT-loop
 μ-loop register book count s₀ i₀ s i = count - i
 
-at-most-64-requires : tie.Need-at-most-64-requires Inv-loop μ-loop
-at-most-64-requires c κs = search needs
+at-most-requires : tie.Need-at-most-requires Inv-loop μ-loop
+at-most-requires c κs = search needs
 
 no-scores-requires : tie.Need-no-scores-requires Inv-loop μ-loop
 no-scores-requires c κs = search needs
@@ -40,7 +39,7 @@ score-all-spec =
     (tie.spec
     Inv-loop
     μ-loop
-    at-most-64-requires
+    at-most-requires
     no-scores-requires
     loop-holds
     score-next-requires

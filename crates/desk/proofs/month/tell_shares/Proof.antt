@@ -1,4 +1,3 @@
--- `desk::month::tell_shares` meets its contract.
 use Prim.Native.Nat.{_≤_, _-_}
 use borrow.Author.Needs.{needs}
 use Rattle.desk.proofs.month.tell_shares.Statement.{statement}

@@ -1,6 +1,6 @@
--- `lines::Reader::finish` meets its contract.
 use mathlib.Core.Path.{sym, _∙_}
 use Rattle.lines.proofs.Sheets.{end-open, end-shut}
+use Rattle.lines.proofs.Stream.{read-answer}
 use borrow.Author.Needs.{needs}
 use Rattle.lines.proofs.Reader.finish.Statement.{statement}
 use Rattle.lines.proofs.Reader.finish.Tie as tie
@@ -17,7 +17,8 @@ answer-requires c κs = search needs
 returns : tie.Need-returns
 returns c =
     let begun = sym (c .before .before .before .is-begun .ensures) ∙ c .before .before .if1 .taken in
-    c .answer .ensures ∙ end-open (c .before .before .before .before .before .before .args .self) (c .before .with .result) begun (c .before .with .ensures)
+    let s = c .before .before .before .before .before .before .args .self in
+    read-answer s (c .answer .result) (c .answer .ensures ∙ end-open s (c .before .with .result) begun (c .before .with .ensures))
 
 answer-requires-2 : tie.Need-answer-requires-2
 answer-requires-2 c κs = search needs
@@ -25,7 +26,8 @@ answer-requires-2 c κs = search needs
 returns-2 : tie.Need-returns-2
 returns-2 c =
     let shut = sym (c .before .before .is-begun .ensures) ∙ c .before .if1 .left in
-    c .answer2 .ensures ∙ end-shut (c .before .before .before .before .before .args .self) shut
+    let s = c .before .before .before .before .before .args .self in
+    read-answer s (c .answer2 .result) (c .answer2 .ensures ∙ end-shut s shut)
 
 pub finish-spec : {M : Type 1} → statement M
 finish-spec =

@@ -1,20 +1,26 @@
--- `lines::Reader::is_settled` meets its contract.
 use mathlib.Core.Path.{_≡_, sym, _∙_}
+use mathlib.Core.Bool.{true, false, not}
+use Prim.Native.Nat.{_-_}
+use native.Mathlib.Omega.{arith}
 use lib.ListN.{length}
+use Rattle.row.specs.Meaning.{mostColumns}
 use borrow.Author.Needs.{needs}
 use borrow.Author.Tests.{not-true, not-false}
 use Rattle.lines.proofs.Settling.{tells-refused, tells-shut, tells-open}
+use Rattle.lines.proofs.Stream.{read-settled}
 use Rattle.lines.proofs.Reader.is_settled.Statement.{statement}
 use Rattle.lines.proofs.Reader.is_settled.Tie as tie
 
 returns : tie.Need-returns
-returns c = tells-refused (c .before .before .before .args .self) (c .if1 .taken)
+returns c = let s = c .before .before .before .args .self in read-settled s true (tells-refused s (c .if1 .taken))
 
 is-begun-requires : tie.Need-is-begun-requires
 is-begun-requires c κs = tt
 
 returns-2 : tie.Need-returns-2
-returns-2 c = tells-shut (c .before .before .before .before .before .args .self) (c .before .before .if1 .left) (sym (c .before .is-begun .ensures) ∙ not-true _ (c .if2 .taken))
+returns-2 c =
+    let s = c .before .before .before .before .before .args .self in
+    read-settled s false (tells-shut s (c .before .before .if1 .left) (sym (c .before .is-begun .ensures) ∙ not-true _ (c .if2 .taken)))
 
 best-requires : tie.Need-best-requires
 best-requires c κs = tt
@@ -25,9 +31,10 @@ takes-requires c κs = tt
 returns-3 : tie.Need-returns-3
 returns-3 c =
     let s = c .before .before .before .before .before .before .before .args .self in
-    let long : length (s .row .ended) ≡ 5 = search needs in
+    let long : length (s .row .ended) ≡ mostColumns - 1 = search needs in
     let begun = sym (c .before .before .before .is-begun .ensures) ∙ not-false _ (c .before .before .if2 .left) in
-    tells-open s (c .before .before .before .before .if1 .left) begun (c .before .best .result) (c .takes .result) long (c .before .best .ensures) (c .takes .ensures)
+    let t = c .takes .result in
+    read-settled s (not t) (tells-open s (c .before .before .before .before .if1 .left) begun (c .before .best .result) t (omega (arith, long)) (c .before .best .ensures) (c .takes .ensures))
 
 pub is-settled-spec : {M : Type 1} → statement M
 is-settled-spec =

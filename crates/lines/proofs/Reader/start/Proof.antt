@@ -1,4 +1,3 @@
--- `lines::Reader::start` meets its contract.
 use Rattle.lines.proofs.Sheets.{starts}
 use borrow.Author.Needs.{needs}
 use Rattle.lines.proofs.Reader.start.Statement.{statement}
@@ -11,7 +10,8 @@ start-requires-2 : tie.Need-start-requires-2
 start-requires-2 c κs = search needs
 
 returns : tie.Need-returns
-returns c = starts (c .before .start .result) (c .start2 .result) (c .before .start .ensures) (c .start2 .ensures)
+returns c =
+    record { says = starts (c .before .start .result) (c .start2 .result) (c .before .start .ensures) (c .start2 .ensures) }
 
 pub start-spec : {M : Type 1} → statement M
 start-spec = tie.close (tie.spec start-requires start-requires-2 returns)

@@ -1,4 +1,3 @@
--- `lines::Taken::shared` meets its contract.
 use mathlib.Core.Path.{_∙_}
 use Rattle.lines.proofs.Sheets.{shared-yes, shared-no}
 use borrow.Author.Needs.{needs}

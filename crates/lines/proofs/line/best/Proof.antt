@@ -1,11 +1,9 @@
--- `lines::line::best` meets its contract.
 use mathlib.Core.Path.{_≡_, refl, ap, sym, _∙_}
 use mathlib.Core.List.{_∷_}
 use Prim.Native.Nat.{ℕ, suc, _+_, _-_}
 use native.Mathlib.Omega.{arith}
 use borrow.Author.Needs.{needs}
-use Rattle.lines.specs.Meaning.{rowLine}
-use Rattle.lines.specs.Settling.{zeros}
+use Rattle.lines.specs.Meaning.{rowLine, zeros}
 use Rattle.lines.proofs.line.best.Statement.{statement}
 use Rattle.lines.proofs.line.best.Tie as tie
 

@@ -1,10 +1,8 @@
--- `lines::line::numbered` meets its contract.
 use mathlib.Core.Path.{_≡_, refl, ap, sym, _∙_}
 use mathlib.Core.List.{List, [], _∷_, _++_}
 use Prim.Native.Nat.{ℕ}
 use Rattle.row.specs.declared.Row.{Row}
-use Rattle.lines.specs.Meaning.{rowLine}
-use Rattle.lines.specs.Settling.{numberBytes}
+use Rattle.lines.specs.Meaning.{rowLine, numberBytes}
 use Rattle.lines.proofs.Settling.{number-has, number-zero, number-64, number-9, number-4, number-none}
 use borrow.Author.Needs.{needs}
 use Rattle.lines.proofs.line.numbered.Statement.{statement}
@@ -34,7 +32,8 @@ stepped-requires-3 c κs = search needs
 returns-3 : tie.Need-returns-3
 returns-3 c =
     let row = c .before .before .before .before .before .before .args .row in
-    ends _ row (54 ∷ 52 ∷ []) (number-64 row (c .before .before .before .before .if1 .left) (c .before .before .if3 .taken)) (λ rest. c .stepped3 .ensures .line rest ∙ c .before .stepped2 .ensures .line (52 ∷ rest))
+    ends _ row (54 ∷ 52 ∷ []) (number-64 row (c .before .before .before .before .if1 .left) (c .before .before .if3 .taken))
+    (λ rest. c .stepped3 .ensures .line rest ∙ c .before .stepped2 .ensures .line (52 ∷ rest))
 
 stepped-requires-4 : tie.Need-stepped-requires-4
 stepped-requires-4 c κs = search needs
@@ -50,12 +49,16 @@ stepped-requires-5 c κs = search needs
 returns-5 : tie.Need-returns-5
 returns-5 c =
     let row = c .before .before .before .before .before .before .before .before .before .args .row in
-    ends _ row (52 ∷ []) (number-4 row (c .before .before .before .before .before .before .before .if1 .left) (c .before .before .before .before .before .if3 .left) (c .before .before .before .if4 .left) (c .before .if5 .taken)) (c .stepped5 .ensures .line)
+    ends _ row (52 ∷ [])
+    (number-4 row (c .before .before .before .before .before .before .before .if1 .left) (c .before .before .before .before .before .if3 .left)
+    (c .before .before .before .if4 .left) (c .before .if5 .taken)) (c .stepped5 .ensures .line)
 
 returns-6 : tie.Need-returns-6
 returns-6 c =
     let row = c .before .before .before .before .before .before .before .before .args .row in
-    ends _ row [] (number-none row (c .before .before .before .before .before .before .if1 .left) (c .before .before .before .before .if3 .left) (c .before .before .if4 .left) (c .if5 .left)) (λ rest. refl)
+    ends _ row []
+    (number-none row (c .before .before .before .before .before .before .if1 .left) (c .before .before .before .before .if3 .left)
+    (c .before .before .if4 .left) (c .if5 .left)) (λ rest. refl)
 
 pub numbered-spec : {M : Type 1} → statement M
 numbered-spec =

@@ -1,5 +1,4 @@
--- `lines::line::typed` meets its contract.
-use mathlib.Core.Path.{_≡_, _∙_}
+use mathlib.Core.Path.{_≡_, sym, _∙_}
 use native.Mathlib.Omega.{arith}
 use lib.ListN.{length}
 use Rattle.lines.proofs.Lines.{Casts, five-limits, five-sound, five-bad}
@@ -19,35 +18,40 @@ array-read-e c = search needs
 array-read-c : tie.Need-array-read-c
 array-read-c c = search needs
 
-limits : (c : tie.Then1) → Casts (c .before .args .t1) (c .before .args .assessed)
-limits c = five-limits (c .before .args .t1) (c .before .args .assessed) (c .if1 .taken)
+numbers-are-sound-requires : tie.Need-numbers-are-sound-requires
+numbers-are-sound-requires c κs = search needs
 
-cast-t28 : tie.Need-cast-t28
-cast-t28 c = record { fits = omega (arith, limits c .0) }
+limits : (c : tie.Then1) → let a = c .before .before .args in Casts (a .t1) (a .assessed)
+limits c =
+    let a = c .before .before .args in
+    five-limits (a .t1) (a .assessed) (sym (c .before .numbers-are-sound .ensures) ∙ c .if1 .taken)
 
-cast-t29 : tie.Need-cast-t29
-cast-t29 c = record { fits = omega (arith, limits c .1) }
+cast-t18 : tie.Need-cast-t18
+cast-t18 c = record { fits = omega (arith, limits c .0) }
 
-cast-t30 : tie.Need-cast-t30
-cast-t30 c = record { fits = omega (arith, limits c .2) }
+cast-t19 : tie.Need-cast-t19
+cast-t19 c = record { fits = omega (arith, limits c .1) }
 
-cast-t33 : tie.Need-cast-t33
-cast-t33 c = record { fits = omega (arith, limits c .3) }
+cast-t20 : tie.Need-cast-t20
+cast-t20 c = record { fits = omega (arith, limits c .2) }
+
+cast-t23 : tie.Need-cast-t23
+cast-t23 c = record { fits = omega (arith, limits c .3) }
 
 returns : tie.Need-returns
 returns c =
-    let a = c .before .args in
+    let a = c .before .before .args in
     let long : length (a .t1) ≡ 5 = search needs in
-    five-sound (a .t1) (a .assessed) long (c .if1 .taken)
+    five-sound (a .t1) (a .assessed) long (sym (c .before .numbers-are-sound .ensures) ∙ c .if1 .taken)
 
 blank-line-requires : tie.Need-blank-line-requires
 blank-line-requires c κs = search needs
 
 returns-2 : tie.Need-returns-2
 returns-2 c =
-    let a = c .before .before .args in
+    let a = c .before .before .before .args in
     let long : length (a .t1) ≡ 5 = search needs in
-    c .blank-line .ensures ∙ five-bad (a .t1) (a .assessed) long (c .before .if1 .left)
+    c .blank-line .ensures ∙ five-bad (a .t1) (a .assessed) long (sym (c .before .before .numbers-are-sound .ensures) ∙ c .before .if1 .left)
 
 pub typed-spec : {M : Type 1} → statement M
 typed-spec =
@@ -57,10 +61,11 @@ typed-spec =
     array-read-s
     array-read-e
     array-read-c
-    cast-t28
-    cast-t29
-    cast-t30
-    cast-t33
+    numbers-are-sound-requires
+    cast-t18
+    cast-t19
+    cast-t20
+    cast-t23
     returns
     blank-line-requires
     returns-2)

@@ -1,4 +1,3 @@
--- `pay::event::added` meets its contract.
 use native.Mathlib.Omega.{arith}
 use lib.IntN.{_+ℤ_}
 use Rattle.pay.proofs.Signed.{mag-plus, back64}

@@ -1,4 +1,3 @@
--- `pay::event::month_pay` meets its contract.
 use native.Mathlib.Omega.{arith}
 use mathlib.Core.Path.{_≡_}
 use mathlib.Core.Bool.{true, false}

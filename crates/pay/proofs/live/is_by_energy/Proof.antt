@@ -1,6 +1,5 @@
--- `pay::live::is_by_energy` meets its contract.
 use mathlib.Core.Path.{refl}
-use Rattle.pay.specs.Inner.{byEnergy}
+use Rattle.pay.specs.Inner.{isByEnergy}
 use borrow.Author.Needs.{needs}
 use Rattle.pay.proofs.live.is_by_energy.Statement.{statement}
 use Rattle.pay.proofs.live.is_by_energy.Tie as tie
@@ -9,7 +8,7 @@ is-by-rate-requires : tie.Need-is-by-rate-requires
 is-by-rate-requires c κs = search needs
 
 returns : tie.Need-returns
-unfolding byEnergy
+unfolding isByEnergy
 returns c = rw (c .before .is-by-rate .ensures) refl
 
 pub is-by-energy-spec : {M : Type 1} → statement M

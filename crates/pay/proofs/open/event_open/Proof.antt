@@ -1,20 +1,29 @@
--- `pay::open::event_open` meets its contract.
-use mathlib.Core.Path.{_≡_}
+use mathlib.Core.Path.{_≡_, refl}
+use mathlib.Core.Bool.{Bool, true, false, cond, not, _&&_, _||_}
+use lib.Dec.{leb}
+use Rattle.pay.specs.Member.{isByRate}
 use Rattle.pay.specs.Open.{isZero, eventOpen}
 use Rattle.pay.proofs.Signed.{back32}
 use borrow.Author.Needs.{needs}
 use Rattle.pay.proofs.open.event_open.Statement.{statement}
 use Rattle.pay.proofs.open.event_open.Tie as tie
 
+by-cases : (t u : Bool) → (not t || u) ≡ cond t u true
+by-cases true u = refl
+by-cases false u = refl
+
 is-zero-requires : tie.Need-is-zero-requires
 is-zero-requires c κs = search needs
+
+is-by-rate-requires : tie.Need-is-by-rate-requires
+is-by-rate-requires c κs = search needs
 
 returns : tie.Need-returns
 unfolding eventOpen
 returns c =
-    let s = c .before in
-    let e : c .is-zero .result ≡ isZero (s .args .a) = simp (back32 (s .args .a) (s .fits .a .sfits)) at (c .is-zero .ensures) in
-    simp e
+    let s = c .before .before in
+    let e : c .before .is-zero .result ≡ isZero (s .args .a) = simp (back32 (s .args .a) (s .fits .a .sfits)) at (c .before .is-zero .ensures) in
+    rw (e, c .is-by-rate .ensures) (by-cases (isByRate (s .args .kind)) (isZero (s .args .a) && leb (s .args .b) 10000))
 
 pub event-open-spec : {M : Type 1} → statement M
-event-open-spec = tie.close (tie.spec is-zero-requires returns)
+event-open-spec = tie.close (tie.spec is-zero-requires is-by-rate-requires returns)

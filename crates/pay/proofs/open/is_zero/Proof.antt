@@ -1,4 +1,3 @@
--- `pay::open::is_zero` meets its contract.
 use Rattle.pay.proofs.Signed.{zero-bits}
 use Rattle.pay.proofs.open.is_zero.Statement.{statement}
 use Rattle.pay.proofs.open.is_zero.Tie as tie

@@ -1,19 +1,17 @@
--- `pay::open::open_to` meets its contract.
 use borrow.Author.Tests.{ne-eqb}
 use native.Mathlib.Omega.{arith}
 use mathlib.Core.Path.{_≡_}
 use Rattle.pay.specs.Open.{reserveOpen, eventOpen, openTo}
-use Rattle.pay.specs.Member.{byRate}
 use Rattle.pay.proofs.Signed.{back32}
 use borrow.Author.Needs.{needs}
 use Rattle.pay.proofs.open.open_to.Statement.{statement}
 use Rattle.pay.proofs.open.open_to.Tie as tie
 
-is-by-rate-requires : tie.Need-is-by-rate-requires
-is-by-rate-requires c κs = search needs
-
 reserve-open-requires : tie.Need-reserve-open-requires
 reserve-open-requires c κs = search needs
+
+has-availability-requires : tie.Need-has-availability-requires
+has-availability-requires c κs = search needs
 
 event-open-requires : tie.Need-event-open-requires
 event-open-requires c κs = search needs
@@ -25,7 +23,7 @@ returns c = simp (c .match .keys1)
 returns-2 : tie.Need-returns-2
 unfolding openTo
 returns-2 c =
-    let a = c .before .before .before .before .args in
+    let a = c .before .before .before .args in
     let e : c .reserve-open .result ≡ reserveOpen (a .member .kind) (a .member .rated .0) (a .x .a) = simp (back32 (a .x .a) (omega arith)) at (c .reserve-open .ensures) in
     simp (c .before .before .match .keys2, e)
 
@@ -39,27 +37,55 @@ returns-4 c = simp (c .match .keys4)
 
 returns-5 : tie.Need-returns-5
 unfolding openTo
-returns-5 c = simp (c .match .keys5, c .before .is-by-rate .ensures)
+returns-5 c = simp (c .match .keys5)
 
 returns-6 : tie.Need-returns-6
 unfolding openTo
-returns-6 c =
-    let a = c .before .before .before .before .args in
-    let e : c .event-open .result ≡ eventOpen (byRate (a .member .kind)) (a .x .a) (a .x .b) = simp (back32 (a .x .a) (omega arith), c .before .before .before .is-by-rate .ensures) at (c .event-open .ensures) in
-    simp (c .before .before .match .keys6, e)
+returns-6 c = simp (c .before .match .keys6, c .has-availability .ensures)
 
 returns-7 : tie.Need-returns-7
 unfolding openTo
-returns-7 c =
+returns-7 c = simp (c .match .keys7)
+
+returns-8 : tie.Need-returns-8
+unfolding openTo
+returns-8 c =
+    let a = c .before .before .before .args in
+    let e : c .event-open .result ≡ eventOpen (a .member .kind) (a .x .a) (a .x .b) = simp (back32 (a .x .a) (omega arith)) at (c .event-open .ensures) in
+    simp (c .before .before .match .keys8, e)
+
+returns-9 : tie.Need-returns-9
+unfolding openTo
+returns-9 c = simp (c .match .keys9)
+
+returns-10 : tie.Need-returns-10
+unfolding openTo
+returns-10 c = simp (c .match .keys10)
+
+returns-11 : tie.Need-returns-11
+unfolding openTo
+returns-11 c =
     let r = c .match .rest in
-    simp (ne-eqb _ _ (r .0 .0 .0 .0 .0 .1), ne-eqb _ _ (r .0 .0 .0 .0 .1), ne-eqb _ _ (r .0 .0 .0 .1), ne-eqb _ _ (r .0 .0 .1), ne-eqb _ _ (r .0 .1), ne-eqb _ _ (r .1))
+    let q = r .0 .0 .0 .0 .0 in
+    simp (
+      ne-eqb _ _ (q .0 .0 .0 .0 .1),
+      ne-eqb _ _ (q .0 .0 .0 .1),
+      ne-eqb _ _ (q .0 .0 .1),
+      ne-eqb _ _ (q .0 .1),
+      ne-eqb _ _ (q .1),
+      ne-eqb _ _ (r .0 .0 .0 .0 .1),
+      ne-eqb _ _ (r .0 .0 .0 .1),
+      ne-eqb _ _ (r .0 .0 .1),
+      ne-eqb _ _ (r .0 .1),
+      ne-eqb _ _ (r .1),
+    )
 
 pub open-to-spec : {M : Type 1} → statement M
 open-to-spec =
     tie.close
     (tie.spec
-    is-by-rate-requires
     reserve-open-requires
+    has-availability-requires
     event-open-requires
     returns
     returns-2
@@ -67,4 +93,8 @@ open-to-spec =
     returns-4
     returns-5
     returns-6
-    returns-7)
+    returns-7
+    returns-8
+    returns-9
+    returns-10
+    returns-11)

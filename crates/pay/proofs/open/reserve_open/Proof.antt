@@ -1,4 +1,3 @@
--- `pay::open::reserve_open` meets its contract.
 use borrow.Author.Tests.{ne-eqb}
 use native.Mathlib.Omega.{arith}
 use mathlib.Core.Path.{_≡_}

@@ -1,4 +1,3 @@
--- `pay::rate::event_band` meets its contract.
 use borrow.Author.Tests.{lt-ltb, le-ltb, ne-eqb}
 use Rattle.pay.specs.Rate.{eventBand}
 use borrow.Author.Needs.{needs}

@@ -1,58 +1,57 @@
--- `pay::rate::rate_of` meets its contract.
 use borrow.Author.Tests.{ne-eqb}
 use Rattle.pay.specs.Rate.{rateOf}
 use borrow.Author.Needs.{needs}
 use Rattle.pay.proofs.rate.rate_of.Statement.{statement}
 use Rattle.pay.proofs.rate.rate_of.Tie as tie
 
-start-stop-requires : tie.Need-start-stop-requires
-start-stop-requires c κs = search needs
+start-stop-rate-requires : tie.Need-start-stop-rate-requires
+start-stop-rate-requires c κs = search needs
 
-standby-days-requires : tie.Need-standby-days-requires
-standby-days-requires c κs = search needs
+standby-rate-requires : tie.Need-standby-rate-requires
+standby-rate-requires c κs = search needs
 
-black-start-requires : tie.Need-black-start-requires
-black-start-requires c κs = search needs
+black-start-rate-requires : tie.Need-black-start-rate-requires
+black-start-rate-requires c κs = search needs
 
-available-requires : tie.Need-available-requires
-available-requires c κs = search needs
+availability-rate-requires : tie.Need-availability-rate-requires
+availability-rate-requires c κs = search needs
 
-contributed-requires : tie.Need-contributed-requires
-contributed-requires c κs = search needs
+contribution-rate-requires : tie.Need-contribution-rate-requires
+contribution-rate-requires c κs = search needs
 
-event-band-requires : tie.Need-event-band-requires
-event-band-requires c κs = search needs
+event-rate-requires : tie.Need-event-rate-requires
+event-rate-requires c κs = search needs
 
-avc-minutes-requires : tie.Need-avc-minutes-requires
-avc-minutes-requires c κs = search needs
+avc-rate-requires : tie.Need-avc-rate-requires
+avc-rate-requires c κs = search needs
 
 returns : tie.Need-returns
 unfolding rateOf
-returns c = simp (c .before .match .keys1, c .start-stop .ensures)
+returns c = simp (c .before .match .keys1, c .start-stop-rate .ensures)
 
 returns-2 : tie.Need-returns-2
 unfolding rateOf
-returns-2 c = simp (c .before .match .keys2, c .standby-days .ensures)
+returns-2 c = simp (c .before .match .keys2, c .standby-rate .ensures)
 
 returns-3 : tie.Need-returns-3
 unfolding rateOf
-returns-3 c = simp (c .before .match .keys3, c .black-start .ensures)
+returns-3 c = simp (c .before .match .keys3, c .black-start-rate .ensures)
 
 returns-4 : tie.Need-returns-4
 unfolding rateOf
-returns-4 c = simp (c .before .match .keys4, c .available .ensures)
+returns-4 c = simp (c .before .match .keys4, c .availability-rate .ensures)
 
 returns-5 : tie.Need-returns-5
 unfolding rateOf
-returns-5 c = simp (c .before .match .keys5, c .contributed .ensures)
+returns-5 c = simp (c .before .match .keys5, c .contribution-rate .ensures)
 
 returns-6 : tie.Need-returns-6
 unfolding rateOf
-returns-6 c = simp (c .before .match .keys6, c .event-band .ensures)
+returns-6 c = simp (c .before .match .keys6, c .event-rate .ensures)
 
 returns-7 : tie.Need-returns-7
 unfolding rateOf
-returns-7 c = simp (c .before .match .keys7, c .avc-minutes .ensures)
+returns-7 c = simp (c .before .match .keys7, c .avc-rate .ensures)
 
 returns-8 : tie.Need-returns-8
 unfolding rateOf
@@ -62,19 +61,20 @@ returns-9 : tie.Need-returns-9
 unfolding rateOf
 returns-9 c =
     let r = c .match .rest in
-    simp (ne-eqb _ _ (r .0 .0 .0 .0 .0 .0 .0 .1), ne-eqb _ _ (r .0 .0 .0 .0 .0 .0 .1), ne-eqb _ _ (r .0 .0 .0 .0 .0 .1), ne-eqb _ _ (r .0 .0 .0 .0 .1), ne-eqb _ _ (r .0 .0 .0 .1), ne-eqb _ _ (r .0 .0 .1), ne-eqb _ _ (r .0 .1), ne-eqb _ _ (r .1))
+    let q = r .0 .0 .0 .0 in
+    simp (ne-eqb _ _ (q .0 .0 .0 .1), ne-eqb _ _ (q .0 .0 .1), ne-eqb _ _ (q .0 .1), ne-eqb _ _ (q .1), ne-eqb _ _ (r .0 .0 .0 .1), ne-eqb _ _ (r .0 .0 .1), ne-eqb _ _ (r .0 .1), ne-eqb _ _ (r .1))
 
 pub rate-of-spec : {M : Type 1} → statement M
 rate-of-spec =
     tie.close
     (tie.spec
-    start-stop-requires
-    standby-days-requires
-    black-start-requires
-    available-requires
-    contributed-requires
-    event-band-requires
-    avc-minutes-requires
+    start-stop-rate-requires
+    standby-rate-requires
+    black-start-rate-requires
+    availability-rate-requires
+    contribution-rate-requires
+    event-rate-requires
+    avc-rate-requires
     returns
     returns-2
     returns-3

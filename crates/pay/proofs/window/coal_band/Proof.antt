@@ -1,4 +1,3 @@
--- `pay::window::coal_band` meets its contract.
 use borrow.Author.Tests.{lt-ltb, le-ltb}
 use Rattle.pay.specs.Window.{coalBand}
 use borrow.Author.Needs.{needs}

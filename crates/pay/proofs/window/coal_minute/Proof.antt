@@ -1,6 +1,6 @@
--- `pay::window::coal_minute` meets its contract.
 use borrow.Author.Tests.{ltb-true}
 use native.Mathlib.Omega.{arith}
+use mathlib.Core.Bool.{Bool}
 use mathlib.Core.List.{[], _∷_}
 use mathlib.Core.Path.{sym}
 use lib.Dec.{ltb}
@@ -13,8 +13,14 @@ use Rattle.pay.proofs.window.coal_minute.Statement.{statement}
 use Rattle.pay.proofs.window.coal_minute.Tie as tie
 
 -- above half of the rating, and below the called power
-within : (c : tie.After-coal-band) → Hold (ltb (5 * (c .before .before .before .before .before .args .rated .0)) (10 * (c .before .before .before .before .before .args .p .0)) ∷ ltb (10 * (c .before .before .before .before .before .args .p .0)) (10 * (c .before .before .before .before .before .args .top .0)) ∷ [])
-within c = let a = c .before .before .before .before .before .args in each (ltb (5 * (a .rated .0)) (10 * (a .p .0))) (ltb (10 * (a .p .0)) (10 * (a .top .0)) ∷ []) (c .before .if1 .taken)
+abbrev half-passed : tie.Start → Bool
+half-passed s = ltb (5 * s .args .rated .0) (10 * s .args .p .0)
+
+abbrev top-ahead : tie.Start → Bool
+top-ahead s = ltb (10 * s .args .p .0) (10 * s .args .top .0)
+
+within : (c : tie.After-coal-band) → Hold (half-passed (c .before .before .before .before .before) ∷ top-ahead (c .before .before .before .before .before) ∷ [])
+within c = let s = c .before .before .before .before .before in each (half-passed s) (top-ahead s ∷ []) (c .before .if1 .taken)
 
 cast-half : tie.Need-cast-half
 cast-half c = search needs

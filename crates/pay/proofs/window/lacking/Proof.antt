@@ -1,4 +1,3 @@
--- `pay::window::lacking` meets its contract.
 use native.Mathlib.Omega.{arith}
 use mathlib.Core.Path.{sym}
 use Rattle.pay.proofs.Runs.{lack-some, lack-none}

@@ -1,7 +1,6 @@
--- `pay::window::run_coal` meets its contract.
 use native.Mathlib.Omega.{arith}
-use mathlib.Core.Path.{_≡_, sym}
-use Prim.Native.Nat.{_+_, _-_, _≤_}
+use mathlib.Core.Path.{_≡_, sym, ap}
+use Prim.Native.Nat.{ℕ, _+_, _-_, _*_, _≤_}
 use lib.ListN.{getD}
 use Rattle.pay.specs.Sum.{total}
 use Rattle.pay.specs.Inner.{coalAt}
@@ -48,8 +47,13 @@ loop-again : tie.Need-loop-again Inv-loop μ-loop
 unfolding coalAt
 loop-again c = (search needs, total-step _ _ _ (c .before .before .before .before .loop .inv .1) (c .before .coal-minute .ensures))
 
+mul-t15 : tie.Need-mul-t15 Inv-loop μ-loop
+mul-t15 c =
+    let a = c .before .before .before .args in
+    omega (arith, coal-run-most (a .rated .0) (a .top .0) (a .series .now) (a .from) (c .before .loop .k) (omega arith))
+
 returns : tie.Need-returns Inv-loop μ-loop
-returns c = let e : c .before .loop .k ≡ c .before .before .before .args .count = omega arith in rw (← e) (c .before .loop .inv .1)
+returns c = let e : c .before .loop .k ≡ c .before .before .before .args .count = omega arith in rw (← e) (ap (λ (n : ℕ). n * 15) (c .before .loop .inv .1))
 
 pub run-coal-spec : {M : Type 1} → statement M
 run-coal-spec =
@@ -66,4 +70,5 @@ run-coal-spec =
     add-k
     loop-less
     loop-again
+    mul-t15
     returns)

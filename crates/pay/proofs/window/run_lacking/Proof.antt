@@ -1,4 +1,3 @@
--- `pay::window::run_lacking` meets its contract.
 use native.Mathlib.Omega.{arith}
 use mathlib.Core.Path.{_≡_, sym}
 use Prim.Native.Nat.{_+_, _-_, _≤_}
@@ -53,7 +52,11 @@ unfolding lackingAt
 loop-again c = (search needs, total-step _ _ _ (c .before .before .before .before .loop .inv .1) (c .before .lacking .ensures))
 
 returns : tie.Need-returns Inv-loop μ-loop
-returns c = let e : c .before .loop .k ≡ c .before .before .before .before .args .count = omega arith in rw (← e) (c .before .loop .inv .1)
+returns c =
+    let l = c .before .loop in
+    let a = c .before .before .before .before .args in
+    let e : l .k ≡ a .count = omega arith in
+    (rw (← e) (l .inv .1), omega (arith, lacking-run-most (a .level .0) (a .series .now) (a .from) (l .k) (omega arith)))
 
 pub run-lacking-spec : {M : Type 1} → statement M
 run-lacking-spec =

@@ -1,8 +1,7 @@
--- `pay::window::window_pay` meets its contract.
-use native.Mathlib.Omega.{arith}
-use mathlib.Core.Path.{sym, _∙_, ap}
-use Prim.Native.Nat.{ℕ, _*_, _/_}
-use Rattle.pay.proofs.Runs.{lacking-run-most, coal-run-most, deep-window, coal-window, water-window}
+use mathlib.Core.Path.{refl, sym, _∙_}
+use borrow.Author.Tests.{ne-eqb}
+use Rattle.pay.specs.Window.{deepPeakMinute, reserveMinute, minutePay}
+use Rattle.pay.proofs.Runs.{deep-window, coal-window, gas-hydro-window, none-window}
 use borrow.Author.Needs.{needs}
 use Rattle.pay.proofs.window.window_pay.Statement.{statement}
 use Rattle.pay.proofs.window.window_pay.Tie as tie
@@ -13,44 +12,51 @@ cast-from c = search needs
 cast-count : tie.Need-cast-count
 cast-count c = search needs
 
-mul-half : tie.Need-mul-half
-mul-half c = search needs
-
-run-lacking-requires : tie.Need-run-lacking-requires
-run-lacking-requires c κs = search needs
-
-mul-deep : tie.Need-mul-deep
-mul-deep c =
-    let a = c .before .before .before .before .before .args in
-    omega (arith, lacking-run-most (5 * (a .member .rated .0)) (a .series .now) (a .start / 15) (a .minutes / 15) (omega arith))
-
-returns : tie.Need-returns
-returns c = ap (λ (k : ℕ). k * 45000) (c .before .run-lacking .ensures) ∙ sym (deep-window _ _ _ _ _ _ (c .before .before .if1 .taken))
+run-deep-peak-requires : tie.Need-run-deep-peak-requires
+run-deep-peak-requires c κs = search needs
 
 run-coal-requires : tie.Need-run-coal-requires
 run-coal-requires c κs = search needs
 
-mul-coal : tie.Need-mul-coal
-mul-coal c =
-    let a = c .before .before .before .before .before .before .before .args in
-    omega (arith, coal-run-most (a .member .rated .0) (a .top .0) (a .series .now) (a .start / 15) (a .minutes / 15) (omega arith))
+run-gas-hydro-requires : tie.Need-run-gas-hydro-requires
+run-gas-hydro-requires c κs = search needs
+
+run-gas-hydro-requires-2 : tie.Need-run-gas-hydro-requires-2
+run-gas-hydro-requires-2 c κs = search needs
+
+returns : tie.Need-returns
+returns c =
+    let k = c .before .before .match .keys1 in
+    rw k (c .run-deep-peak .ensures ∙ sym (deep-window _ _ _ _ _ (c .before .match2 .keys1)))
 
 returns-2 : tie.Need-returns-2
-returns-2 c = ap (λ (k : ℕ). k * 15) (c .before .run-coal .ensures) ∙ sym (coal-window _ _ _ _ _ _ (c .before .before .before .before .if1 .left) (c .before .before .if2 .taken))
-
-mul-edge : tie.Need-mul-edge
-mul-edge c = search needs
-
-run-lacking-requires-2 : tie.Need-run-lacking-requires-2
-run-lacking-requires-2 c κs = search needs
-
-mul-water : tie.Need-mul-water
-mul-water c =
-    let a = c .before .before .before .before .before .before .before .args in
-    omega (arith, lacking-run-most (7 * (a .member .rated .0)) (a .series .now) (a .start / 15) (a .minutes / 15) (omega arith))
+unfolding minutePay deepPeakMinute
+returns-2 c = rw (c .before .match .keys1) (sym (none-window _ _ _ _ _ _ (λ p. simp (ne-eqb _ _ (c .match2 .rest .1)))))
 
 returns-3 : tie.Need-returns-3
-returns-3 c = ap (λ (k : ℕ). k * 150) (c .before .run-lacking2 .ensures) ∙ sym (water-window _ _ _ _ _ _ (c .before .before .before .before .if1 .left) (c .before .before .if2 .left))
+returns-3 c = rw (c .before .before .match .keys2) (c .run-coal .ensures ∙ sym (coal-window _ _ _ _ _ (c .before .match3 .keys1)))
+
+returns-4 : tie.Need-returns-4
+returns-4 c =
+    let k = c .before .match3 .keys2 in
+    rw (c .before .before .match .keys2) (c .run-gas-hydro .ensures ∙ sym (gas-hydro-window _ _ _ _ _ (rw k refl) (rw k refl)))
+
+returns-5 : tie.Need-returns-5
+returns-5 c =
+    let k = c .before .match3 .keys3 in
+    rw (c .before .before .match .keys2) (c .run-gas-hydro2 .ensures ∙ sym (gas-hydro-window _ _ _ _ _ (rw k refl) (rw k refl)))
+
+returns-6 : tie.Need-returns-6
+unfolding minutePay reserveMinute
+returns-6 c =
+    let r = c .match3 .rest in
+    rw (c .before .match .keys2) (sym (none-window _ _ _ _ _ _ (λ p. simp (ne-eqb _ _ (r .0 .0 .1), ne-eqb _ _ (r .0 .1), ne-eqb _ _ (r .1)))))
+
+returns-7 : tie.Need-returns-7
+unfolding minutePay
+returns-7 c =
+    let r = c .match .rest in
+    sym (none-window _ _ _ _ _ _ (λ p. simp (ne-eqb _ _ (r .0 .1), ne-eqb _ _ (r .1))))
 
 pub window-pay-spec : {M : Type 1} → statement M
 window-pay-spec =
@@ -58,14 +64,14 @@ window-pay-spec =
     (tie.spec
     cast-from
     cast-count
-    mul-half
-    run-lacking-requires
-    mul-deep
-    returns
+    run-deep-peak-requires
     run-coal-requires
-    mul-coal
+    run-gas-hydro-requires
+    run-gas-hydro-requires-2
+    returns
     returns-2
-    mul-edge
-    run-lacking-requires-2
-    mul-water
-    returns-3)
+    returns-3
+    returns-4
+    returns-5
+    returns-6
+    returns-7)

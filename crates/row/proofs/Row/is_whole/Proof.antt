@@ -1,4 +1,3 @@
--- `row::Row::is_whole` meets its contract.
 use Rattle.row.proofs.Rows.{is-whole}
 use Rattle.row.proofs.Row.is_whole.Statement.{statement}
 use Rattle.row.proofs.Row.is_whole.Tie as tie

@@ -1,9 +1,9 @@
--- `row::Row::parted` meets its contract.
 use mathlib.Core.Path.{_≡_}
-use Prim.Native.Nat.{_<_}
+use Prim.Native.Nat.{_-_, _<_}
 use native.Mathlib.Omega.{arith}
 use lib.ListN.{length}
 use borrow.Author.Tests.{not-true, not-false}
+use Rattle.row.specs.Meaning.{mostColumns}
 use Rattle.row.proofs.Rows.{by-spoiling, parted-early, parted-late, by-separator}
 use borrow.Author.Needs.{needs}
 use Rattle.row.proofs.Row.parted.Statement.{statement}
@@ -42,7 +42,7 @@ returns-3 : tie.Need-returns-3
 returns-3 c =
     let s = c .before .before .before .before .before in
     let row = s .args .self in
-    let long : length (row .ended) ≡ 5 = search needs in
+    let long : length (row .ended) ≡ mostColumns - 1 = search needs in
     let room : row .at < length (row .ended) = omega (arith, s .pre, c .before .before .if2 .left) in
     by-separator (s .args .last) row (not-false _ (c .before .before .before .if1 .left)) room (c .hold .result) (c .hold .ensures)
 

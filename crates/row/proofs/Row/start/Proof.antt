@@ -1,4 +1,3 @@
--- `row::Row::start` meets its contract.
 use mathlib.Core.Path.{refl}
 use Rattle.row.proofs.Rows.{start-fresh}
 use Rattle.row.proofs.Row.start.Statement.{statement}

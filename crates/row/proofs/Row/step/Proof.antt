@@ -1,9 +1,8 @@
--- `row::Row::step` meets its contract.
-use mathlib.Core.Path.{sym, subst}
+use mathlib.Core.Path.{sym, subst, _∙_}
 use Prim.Native.Nat.{ℕ}
-use Rattle.row.specs.Meaning.{Follows}
-use Rattle.row.proofs.Texts.{under-digit, over-digit}
-use Rattle.row.proofs.Rows.{by-spoiling, foreign}
+use borrow.Author.Tests.{not-true, not-false}
+use Rattle.row.specs.Meaning.{RowFollows}
+use Rattle.row.proofs.Rows.{by-spoiling, by-digit, foreign}
 use borrow.Author.Needs.{needs}
 use Rattle.row.proofs.Row.step.Statement.{statement}
 use Rattle.row.proofs.Row.step.Tie as tie
@@ -14,33 +13,29 @@ parted-requires c κs = search needs
 returns : tie.Need-returns
 returns c =
     let a = c .before .before .args in
-    subst (λ (b : ℕ). Follows (a .separator) (a .last) (a .self) b (c .parted .result)) (sym (c .before .if1 .taken)) (c .parted .ensures (a .separator))
+    subst (λ (b : ℕ). RowFollows (a .separator) (a .last) (a .self) b (c .parted .result)) (sym (c .before .if1 .taken)) (c .parted .ensures (a .separator))
+
+is-digit-requires : tie.Need-is-digit-requires
+is-digit-requires c κs = search needs
 
 spoilt-requires : tie.Need-spoilt-requires
 spoilt-requires c κs = search needs
 
 returns-2 : tie.Need-returns-2
 returns-2 c =
-    let a = c .before .before .before .args in
+    let a = c .before .before .before .before .args in
+    let no = sym (c .before .before .is-digit .ensures) ∙ not-true _ (c .before .if2 .taken) in
     by-spoiling (a .separator) (a .last) (a .self) (c .spoilt .result) (a .b) (c .spoilt .ensures)
-    (foreign (a .separator) (a .last) (a .self) (a .b) (c .before .before .if1 .left) (under-digit (a .b) (c .before .if2 .taken)))
+    (foreign (a .separator) (a .last) (a .self) (a .b) (c .before .before .before .if1 .left) no)
 
-spoilt-requires-2 : tie.Need-spoilt-requires-2
-spoilt-requires-2 c κs = search needs
+grown-requires : tie.Need-grown-requires
+grown-requires c κs = sym (c .before .is-digit .ensures) ∙ not-false _ (c .if2 .left)
 
 returns-3 : tie.Need-returns-3
 returns-3 c =
     let a = c .before .before .before .before .args in
-    by-spoiling (a .separator) (a .last) (a .self) (c .spoilt2 .result) (a .b) (c .spoilt2 .ensures)
-    (foreign (a .separator) (a .last) (a .self) (a .b) (c .before .before .before .if1 .left) (over-digit (a .b) (c .before .if3 .taken)))
-
-grown-requires : tie.Need-grown-requires
-grown-requires c κs = search needs
-
-returns-4 : tie.Need-returns-4
-returns-4 c =
-    let a = c .before .before .before .before .args in
-    c .grown .ensures (a .separator) (a .last) (c .before .before .before .if1 .left)
+    let yes = sym (c .before .before .is-digit .ensures) ∙ not-false _ (c .before .if2 .left) in
+    by-digit (a .separator) (a .last) (a .self) (a .b) (c .grown .result) (c .before .before .before .if1 .left) yes (c .grown .ensures)
 
 pub step-spec : {M : Type 1} → statement M
 step-spec =
@@ -48,9 +43,8 @@ step-spec =
     (tie.spec
     parted-requires
     returns
+    is-digit-requires
     spoilt-requires
     returns-2
-    spoilt-requires-2
-    returns-3
     grown-requires
-    returns-4)
+    returns-3)

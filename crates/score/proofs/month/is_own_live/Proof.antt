@@ -1,11 +1,10 @@
--- `score::month::is_own_live` meets its contract.
 use mathlib.Core.Path.{refl}
-use Rattle.score.specs.Scoring.{ownLive}
+use Rattle.score.specs.Scoring.{isOwnLive}
 use Rattle.score.proofs.month.is_own_live.Statement.{statement}
 use Rattle.score.proofs.month.is_own_live.Tie as tie
 
 returns : tie.Need-returns
-unfolding ownLive
+unfolding isOwnLive
 returns c = refl
 
 pub is-own-live-spec : {M : Type 1} → statement M

@@ -1,10 +1,10 @@
--- `score::month::turn_of` meets its contract.
 use mathlib.Core.Path.{_≡_, sym, _∙_, ap}
 use mathlib.Core.Bool.{true}
 use borrow.Author.Tests.{not-true, not-false}
-use Rattle.book.specs.Book.{callOf}
-use Rattle.pay.specs.Inner.{byEnergy}
-use Rattle.score.specs.Scoring.{ownLive}
+use Rattle.call.specs.declared.Call.{Call}
+use Rattle.book.specs.Book.{recordAt}
+use Rattle.pay.specs.Inner.{isByEnergy}
+use Rattle.score.specs.Scoring.{isOwnLive}
 use Rattle.score.proofs.Turns.{state-low}
 use Rattle.score.proofs.Energy.{idle-turned}
 use borrow.Author.Needs.{needs}
@@ -12,14 +12,18 @@ use Rattle.score.proofs.month.turn_of.Statement.{statement}
 use Rattle.score.proofs.month.turn_of.Tie as tie
 
 -- the tests are ones of record i
-own : (c : tie.After-is-own-live) → c .is-own-live .result ≡ ownLive (c .before .before .before .before .args .member) (callOf (c .before .before .before .before .args .b .now) (c .before .before .before .before .args .i))
-own c = c .is-own-live .ensures ∙ ap (ownLive (c .before .before .before .before .args .member)) (c .before .record-at .ensures)
+abbrev at : tie.Start → Call
+at s = recordAt (s .args .b .now) (s .args .i)
 
-is-own : (c : tie.Else1) → ownLive (c .before .before .before .before .before .args .member) (callOf (c .before .before .before .before .before .args .b .now) (c .before .before .before .before .before .args .i)) ≡ true
+own : (c : tie.After-is-own-live) → c .is-own-live .result ≡ isOwnLive (c .before .before .before .before .args .member) (at (c .before .before .before .before))
+own c = c .is-own-live .ensures ∙ ap (isOwnLive (c .before .before .before .before .args .member)) (c .before .record-at .ensures)
+
+is-own : (c : tie.Else1) → isOwnLive (c .before .before .before .before .before .args .member) (at (c .before .before .before .before .before)) ≡ true
 is-own c = sym (own (c .before)) ∙ not-false (c .before .is-own-live .result) (c .if1 .left)
 
-energy : (c : tie.After-is-by-energy) → c .is-by-energy .result ≡ byEnergy (c .before .before .before .before .before .before .args .member .kind) (callOf (c .before .before .before .before .before .before .args .b .now) (c .before .before .before .before .before .before .args .i))
-energy c = c .is-by-energy .ensures ∙ ap (byEnergy (c .before .before .before .before .before .before .args .member .kind)) (c .before .before .before .record-at .ensures)
+energy : (c : tie.After-is-by-energy)
+    → c .is-by-energy .result ≡ isByEnergy (c .before .before .before .before .before .before .args .member .kind) (at (c .before .before .before .before .before .before))
+energy c = c .is-by-energy .ensures ∙ ap (isByEnergy (c .before .before .before .before .before .before .args .member .kind)) (c .before .before .before .record-at .ensures)
 
 record-at-requires : tie.Need-record-at-requires
 record-at-requires c κs = search needs
@@ -33,23 +37,25 @@ idle-refusal-requires c κs = search needs
 returns : tie.Need-returns
 returns c =
     let s = c .before .before .before .before .before .before in
+    let a = s .args in
     let o = c .before .before .is-own-live in
-    idle-turned (s .args .member) (s .args .series .now) (callOf (s .args .b .now)) (s .args .i) (state-low _ _ (s .pre .3)) (sym (own (c .before .before)) ∙ not-true (o .result) (c .before .if1 .taken)) _
+    idle-turned (a .month) (a .member) (a .series .now) (recordAt (a .b .now)) (a .i) (state-low _ _ (s .pre .1 .1 .0))
+    (sym (own (c .before .before)) ∙ not-true (o .result) (c .before .if1 .taken)) _
     (rw (← c .before .before .before .record-at .ensures) (c .idle-refusal .ensures))
 
 is-by-energy-requires : tie.Need-is-by-energy-requires
 is-by-energy-requires c κs = search needs
 
 energy-turn-requires : tie.Need-energy-turn-requires
-energy-turn-requires c κs = (c .before .before .before .before .before .before .before .pre .2, is-own (c .before .before), sym (energy (c .before)) ∙ c .if2 .taken)
+energy-turn-requires c κs = (c .before .before .before .before .before .before .before .pre .1 .0, (is-own (c .before .before), sym (energy (c .before)) ∙ c .if2 .taken))
 
 returns-2 : tie.Need-returns-2
-returns-2 c = c .energy-turn .ensures (c .before .before .before .before .before .before .before .before .args .series .now)
+returns-2 c = let a = c .before .before .before .before .before .before .before .before .args in c .energy-turn .ensures (a .month) (a .series .now)
 
 live-turn-requires : tie.Need-live-turn-requires
 live-turn-requires c κs =
-    let s = c .before .before .before .before .before .before .before in
-    (s .pre .0, s .pre .1, s .pre .2, s .pre .3, s .pre .4, is-own (c .before .before), sym (energy (c .before)) ∙ c .if2 .left)
+    let p = c .before .before .before .before .before .before .before .pre in
+    (p .0, (p .1 .0, (p .1 .1 .0, (p .1 .1 .1, (is-own (c .before .before), sym (energy (c .before)) ∙ c .if2 .left)))))
 
 returns-3 : tie.Need-returns-3
 returns-3 c = search needs

@@ -1,21 +1,21 @@
--- `score::refusal::clash_before` meets its contract.
 use mathlib.Core.Bool.{_||_, false}
-use lib.Dec.{ltb}
+use lib.Dec.{leb}
 use Rattle.score.proofs.Turns.{none-before, none-free}
-use borrow.Author.Tests.{not-true, not-false}
+use borrow.Author.Tests.{not-true}
 use native.Mathlib.Omega.{arith}
 use mathlib.Core.Path.{_≡_, sym, _∙_}
 use Prim.Native.Nat.{_-_}
 use Rattle.score.specs.First.{anyBelow}
 use Rattle.score.proofs.First.{any-more, any-hit, any-less}
 use Rattle.score.specs.Refusing.{clashAt}
-use Rattle.book.specs.Book.{callOf}
+use Rattle.call.specs.Services.{standby}
+use Rattle.book.specs.Book.{recordAt}
 use borrow.Author.Needs.{needs}
 use Rattle.score.proofs.refusal.clash_before.Statement.{statement}
 use Rattle.score.proofs.refusal.clash_before.Tie as tie
 
 abbrev Inv-loop : tie.InvT-loop
-Inv-loop b first i number x second j₀ j = anyBelow (clashAt number x (callOf b)) j ≡ false
+Inv-loop b first i number x second j₀ j = anyBelow (clashAt number x (recordAt b)) j ≡ false
 
 abbrev μ-loop : tie.MeasureT-loop
 μ-loop b first i number x second j₀ j = i - j
@@ -26,25 +26,26 @@ is-once-requires c κs = search needs
 returns : tie.Need-returns Inv-loop μ-loop
 returns c =
     let a = c .before .before .before .before .args in
-    sym (none-free (a .number) (a .x) (callOf (a .b .now)) (a .i) (rw (c .before .before .is-once .ensures) at (not-true (ltb (a .x .service) 5 || c .before .before .is-once .result) (c .if1 .taken))))
+    let o = c .before .before .is-once in
+    sym (none-free (a .number) (a .x) (recordAt (a .b .now)) (a .i) (rw (o .ensures) at (not-true (leb (a .x .service) standby || o .result) (c .if1 .taken))))
 
 loop-holds : tie.Need-loop-holds Inv-loop μ-loop
-loop-holds c = let s = c .before .before .before .before in none-before (s .args .number) (s .args .x) (callOf (s .args .b .now)) (s .args .first) (s .pre .1)
+loop-holds c =
+    let s = c .before .before .before .before in
+    none-before (s .args .number) (s .args .x) (recordAt (s .args .b .now)) (s .args .first) (s .pre .1)
 
 record-at-requires : tie.Need-record-at-requires Inv-loop μ-loop
 record-at-requires c κs = search needs
 
 clashes-requires : tie.Need-clashes-requires Inv-loop μ-loop
-clashes-requires c κs =
-    let o = c .before .before .before .before .before .is-once in
-    rw (o .ensures) at (not-false (ltb (c .before .before .before .before .before .before .before .args .x .service) 5 || o .result) (c .before .before .before .if1 .left))
+clashes-requires c κs = search needs
 
 returns-2 : tie.Need-returns-2 Inv-loop μ-loop
 unfolding clashAt
 returns-2 c =
     let l = c .before .before .before .before .loop in
     let a = c .before .before .before .before .before .before .before .before .before .args in
-    let f = clashAt (a .number) (a .x) (callOf (a .b .now)) in
+    let f = clashAt (a .number) (a .x) (recordAt (a .b .now)) in
     sym (any-hit f (l .j) (a .i) (omega arith) (rw (← c .before .before .record-at .ensures) (sym (c .before .clashes .ensures) ∙ c .if2 .taken)))
 
 add-j : tie.Need-add-j Inv-loop μ-loop
@@ -58,14 +59,14 @@ unfolding clashAt
 loop-again c =
     let l = c .before .before .before .before .loop in
     let a = c .before .before .before .before .before .before .before .before .before .args in
-    let f = clashAt (a .number) (a .x) (callOf (a .b .now)) in
+    let f = clashAt (a .number) (a .x) (recordAt (a .b .now)) in
     any-more f (l .j) (l .inv) (rw (← c .before .before .record-at .ensures) (sym (c .before .clashes .ensures) ∙ c .if2 .left))
 
 returns-3 : tie.Need-returns-3 Inv-loop μ-loop
 returns-3 c =
     let l = c .before .loop in
     let a = c .before .before .before .before .before .before .args in
-    sym (any-less (clashAt (a .number) (a .x) (callOf (a .b .now))) (a .i) (l .j) (omega arith) (l .inv))
+    sym (any-less (clashAt (a .number) (a .x) (recordAt (a .b .now))) (a .i) (l .j) (omega arith) (l .inv))
 
 pub clash-before-spec : {M : Type 1} → statement M
 clash-before-spec =

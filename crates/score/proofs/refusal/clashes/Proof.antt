@@ -1,19 +1,36 @@
--- `score::refusal::clashes` meets its contract.
-use mathlib.Core.Path.{sym, _∙_}
+use mathlib.Core.Path.{refl}
+use mathlib.Core.Bool.{Bool, _&&_}
+use lib.Dec.{eqb}
 use borrow.Author.Tests.{not-true, not-false}
-use Rattle.score.proofs.Turns.{clash-apart, clash-shared}
+use Rattle.call.specs.declared.Call.{Call}
+use Rattle.call.specs.Revising.{live}
+use Prim.Native.Nat.{ℕ}
+use Rattle.score.specs.Refusing.{clashes}
 use borrow.Author.Needs.{needs}
 use Rattle.score.proofs.refusal.clashes.Statement.{statement}
 use Rattle.score.proofs.refusal.clashes.Tie as tie
 
-shares-requires : tie.Need-shares-requires
-shares-requires c κs = search needs
+abbrev one : ℕ → Call → Call → Bool
+one number x y = eqb (y .participant) number && eqb (y .state) live && eqb (y .service) (x .service)
 
 returns : tie.Need-returns
-returns c = let s = c .before .before in sym (clash-apart (s .args .number) (s .args .x) (s .args .y) (s .pre) (sym (c .before .shares .ensures) ∙ not-true (c .before .shares .result) (c .if1 .taken)))
+unfolding clashes
+returns c =
+    let a = c .before .before .before .before .before .args in
+    rw (not-true (one (a .number) (a .x) (a .y)) (c .if1 .taken)) refl
+
+overlaps-requires : tie.Need-overlaps-requires
+overlaps-requires c κs = search needs
+
+is-once-requires : tie.Need-is-once-requires
+is-once-requires c κs = search needs
 
 returns-2 : tie.Need-returns-2
-returns-2 c = let s = c .before .before .before .before .before .before in sym (clash-shared (s .args .number) (s .args .x) (s .args .y) (s .pre) (sym (c .before .before .before .before .before .shares .ensures) ∙ not-false (c .before .before .before .before .before .shares .result) (c .before .before .before .before .if1 .left)))
+unfolding clashes
+returns-2 c =
+    let s = c .before .before in
+    let a = s .before .before .before .before .before .before .args in
+    rw (not-false (one (a .number) (a .x) (a .y)) (s .before .if1 .left), s .overlaps .ensures, c .before .is-once .ensures) refl
 
 pub clashes-spec : {M : Type 1} → statement M
-clashes-spec = tie.close (tie.spec shares-requires returns returns-2)
+clashes-spec = tie.close (tie.spec returns overlaps-requires is-once-requires returns-2)

@@ -1,19 +1,18 @@
--- `score::refusal::first_own` meets its contract.
 use Rattle.score.proofs.Turns.{own-yes, own-not}
 use Rattle.call.specs.declared.Call.{Call}
 use native.Mathlib.Omega.{arith}
 use mathlib.Core.Path.{_≡_, sym, _∙_, ap}
 use Prim.Native.Nat.{_-_, _≤_}
-use Rattle.score.specs.First.{firstBad}
+use Rattle.score.specs.First.{firstNonzero}
 use Rattle.score.proofs.First.{first-none, first-more, first-hit}
-use Rattle.score.specs.Refusing.{ownAt}
-use Rattle.book.specs.Book.{callOf}
+use Rattle.score.specs.Refusing.{ownAt, firstOwn}
+use Rattle.book.specs.Book.{recordAt}
 use borrow.Author.Needs.{needs}
 use Rattle.score.proofs.refusal.first_own.Statement.{statement}
 use Rattle.score.proofs.refusal.first_own.Tie as tie
 
 abbrev Inv-loop : tie.InvT-loop
-Inv-loop b count number i₀ i = (i ≤ count) × (firstBad (ownAt number (callOf b)) i ≡ i)
+Inv-loop b count number i₀ i = (i ≤ count) × (firstNonzero (ownAt number (recordAt b)) i ≡ i)
 
 abbrev μ-loop : tie.MeasureT-loop
 μ-loop b count number i₀ i = count - i
@@ -25,11 +24,13 @@ record-at-requires : tie.Need-record-at-requires Inv-loop μ-loop
 record-at-requires c κs = search needs
 
 returns : tie.Need-returns Inv-loop μ-loop
+unfolding firstOwn
 returns c =
     let l = c .before .before .before .before .loop in
     let a = c .before .before .before .before .before .before .args in
     let x = ap (λ (y : Call). y .participant) (c .before .before .record-at .ensures) in
-    sym (first-hit (ownAt (a .number) (callOf (a .b .now))) (l .i) (a .count) (omega arith) (l .inv .1) (own-yes (a .number) (callOf (a .b .now)) (l .i) (sym x ∙ c .if1 .taken)))
+    let book = recordAt (a .b .now) in
+    sym (first-hit (ownAt (a .number) book) (l .i) (a .count) (omega arith) (l .inv .1) (own-yes (a .number) book (l .i) (sym x ∙ c .if1 .taken)))
 
 add-i : tie.Need-add-i Inv-loop μ-loop
 add-i c = search needs
@@ -42,9 +43,11 @@ loop-again c =
     let l = c .before .before .before .before .loop in
     let a = c .before .before .before .before .before .before .args in
     let x = ap (λ (y : Call). y .participant) (c .before .before .record-at .ensures) in
-    (search needs, first-more (ownAt (a .number) (callOf (a .b .now))) (l .i) (l .inv .1) (own-not (a .number) (callOf (a .b .now)) (l .i) (λ e. c .if1 .left (x ∙ e))))
+    let book = recordAt (a .b .now) in
+    (search needs, first-more (ownAt (a .number) book) (l .i) (l .inv .1) (own-not (a .number) book (l .i) (λ e. c .if1 .left (x ∙ e))))
 
 returns-2 : tie.Need-returns-2 Inv-loop μ-loop
+unfolding firstOwn
 returns-2 c =
     let l = c .before .loop in
     let e : l .i ≡ c .before .before .before .args .count = omega arith in

@@ -1,11 +1,10 @@
--- `score::refusal::is_once` meets its contract.
 use mathlib.Core.Path.{refl}
-use Rattle.score.specs.Refusing.{once}
+use Rattle.score.specs.Refusing.{isOnce}
 use Rattle.score.proofs.refusal.is_once.Statement.{statement}
 use Rattle.score.proofs.refusal.is_once.Tie as tie
 
 returns : tie.Need-returns
-unfolding once
+unfolding isOnce
 returns c = refl
 
 pub is-once-spec : {M : Type 1} → statement M

@@ -1,12 +1,17 @@
--- `score::refusal::overlaps` meets its contract.
-use mathlib.Core.Path.{sym}
-use Rattle.score.proofs.Turns.{overlap-apart, overlap-begun}
+use mathlib.Core.Path.{refl}
+use Rattle.score.specs.Refusing.{overlaps}
 use borrow.Author.Needs.{needs}
 use Rattle.score.proofs.refusal.overlaps.Statement.{statement}
 use Rattle.score.proofs.refusal.overlaps.Tie as tie
 
 cast-from : tie.Need-cast-from
 cast-from c = search needs
+
+cast-to : tie.Need-cast-to
+cast-to c = search needs
+
+add-to : tie.Need-add-to
+add-to c = search needs
 
 cast-since : tie.Need-cast-since
 cast-since c = search needs
@@ -18,17 +23,9 @@ add-until : tie.Need-add-until
 add-until c = search needs
 
 returns : tie.Need-returns
-returns c = let a = c .before .before .before .before .args in sym (overlap-apart (a .x) (a .y) (c .if1 .taken))
-
-cast-to : tie.Need-cast-to
-cast-to c = search needs
-
-add-to : tie.Need-add-to
-add-to c = search needs
-
-returns-2 : tie.Need-returns-2
-returns-2 c = let a = c .before .before .before .before .before .args in sym (overlap-begun (a .x) (a .y) (c .before .if1 .left))
+unfolding overlaps
+returns c = refl
 
 pub overlaps-spec : {M : Type 1} → statement M
 overlaps-spec =
-    tie.close (tie.spec cast-from cast-since cast-until add-until returns cast-to add-to returns-2)
+    tie.close (tie.spec cast-from cast-to add-to cast-since cast-until add-until returns)

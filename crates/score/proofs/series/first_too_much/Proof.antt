@@ -1,18 +1,17 @@
--- `score::series::first_too_much` meets its contract.
 use Rattle.score.proofs.Turns.{much-yes, much-not}
 use native.Mathlib.Omega.{arith}
 use mathlib.Core.Path.{_≡_, sym}
 use Prim.Native.Nat.{_-_, _≤_}
 use lib.ListN.{length}
-use Rattle.score.specs.First.{firstBad}
+use Rattle.score.specs.First.{firstNonzero}
 use Rattle.score.proofs.First.{first-none, first-more, first-hit}
-use Rattle.score.specs.Series.{tooMuch}
+use Rattle.score.specs.Series.{tooMuch, firstTooMuch}
 use borrow.Author.Needs.{needs}
 use Rattle.score.proofs.series.first_too_much.Statement.{statement}
 use Rattle.score.proofs.series.first_too_much.Tie as tie
 
 abbrev Inv-loop : tie.InvT-loop
-Inv-loop series i₀ i = (i ≤ length series) × (firstBad (tooMuch series) i ≡ i)
+Inv-loop series i₀ i = (i ≤ length series) × (firstNonzero (tooMuch series) i ≡ i)
 
 abbrev μ-loop : tie.MeasureT-loop
 μ-loop series i₀ i = length series - i
@@ -27,6 +26,7 @@ shared-slice-read-if1 : tie.Need-shared-slice-read-if1 Inv-loop μ-loop
 shared-slice-read-if1 c = search needs
 
 returns : tie.Need-returns Inv-loop μ-loop
+unfolding firstTooMuch
 returns c =
     let l = c .before .before .before .loop in
     let s = c .before .before .before .before .args .series .now in
@@ -45,6 +45,7 @@ loop-again c =
     (search needs, first-more (tooMuch s) (l .i) (l .inv .1) (much-not s (l .i) (c .if1 .left)))
 
 returns-2 : tie.Need-returns-2 Inv-loop μ-loop
+unfolding firstTooMuch
 returns-2 c =
     let l = c .before .loop in
     let e : l .i ≡ length (c .before .before .args .series .now) = omega arith in

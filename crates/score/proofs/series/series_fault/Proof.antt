@@ -1,4 +1,3 @@
--- `score::series::series_fault` meets its contract.
 use mathlib.Core.Path.{sym, _∙_}
 use native.Mathlib.Nat.{le-refl}
 use borrow.Author.Tests.{not-true}
@@ -32,13 +31,17 @@ refused-requires-3 : tie.Need-refused-requires-3
 refused-requires-3 c κs = search needs
 
 returns-3 : tie.Need-returns-3
-returns-3 c = c .refused3 .ensures ∙ sym (series-value _ _ (c .before .before .before .before .before .if1 .left) _ (c .before .before .first-too-much .ensures) (c .before .if3 .taken))
+returns-3 c =
+    let f = c .before .before .first-too-much in
+    c .refused3 .ensures ∙ sym (series-value _ _ (c .before .before .before .before .before .if1 .left) _ (f .ensures) (c .before .if3 .taken))
 
 refused-requires-4 : tie.Need-refused-requires-4
 refused-requires-4 c κs = search needs
 
 returns-4 : tie.Need-returns-4
-returns-4 c = c .refused4 .ensures ∙ sym (series-good _ _ (c .before .before .before .before .before .if1 .left) _ (c .before .before .first-too-much .ensures) (c .before .if3 .left))
+returns-4 c =
+    let f = c .before .before .first-too-much in
+    c .refused4 .ensures ∙ sym (series-good _ _ (c .before .before .before .before .before .if1 .left) _ (f .ensures) (c .before .if3 .left))
 
 pub series-fault-spec : {M : Type 1} → statement M
 series-fault-spec =

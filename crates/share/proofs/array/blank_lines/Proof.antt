@@ -1,4 +1,3 @@
--- `share::array::blank_lines` meets its contract.
 use mathlib.Core.Path.{ap}
 use lib.ListN.{replicate}
 use Rattle.share.specs.declared.Line.{Line}

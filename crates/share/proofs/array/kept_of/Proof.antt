@@ -1,4 +1,3 @@
--- `share::array::kept_of` meets its contract.
 use native.Mathlib.Omega.{arith}
 use borrow.Author.Tests.{eq-eqb, ne-eqb}
 use Rattle.share.proofs.array.kept_of.Statement.{statement}

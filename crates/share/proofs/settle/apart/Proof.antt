@@ -1,4 +1,3 @@
--- `share::settle::apart` meets its contract.
 use Rattle.share.proofs.Signs.{abs-down, abs-up}
 use borrow.Author.Needs.{needs}
 use Rattle.share.proofs.settle.apart.Statement.{statement}

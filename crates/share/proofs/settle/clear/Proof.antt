@@ -1,18 +1,17 @@
--- `share::settle::clear` meets its contract.
 use mathlib.Core.Path.{_≡_, refl, sym, _∙_}
 use mathlib.Core.List.{map}
 use Prim.Native.Nat.{_-_, _≤_}
 use native.Mathlib.Omega.{arith}
 use lib.ListN.{length, length-set, length-map}
 use Rattle.apportion.proofs.Loops.{over, over-step, over-end}
-use Rattle.share.specs.Forms.{blank, cleared}
+use Rattle.share.specs.Forms.{blankLine, cleared, clear}
 use Rattle.share.proofs.Lists.{getD-mapped}
 use borrow.Author.Needs.{needs}
 use Rattle.share.proofs.settle.clear.Statement.{statement}
 use Rattle.share.proofs.settle.clear.Tie as tie
 
 abbrev Inv-loop : tie.InvT-loop
-Inv-loop lines out₀ i₀ out i = (i ≤ 64) × (length out ≡ 64) × (out ≡ over lines (map (λ l. cleared l) lines) i)
+Inv-loop lines out₀ i₀ out i = (i ≤ 64) × (length out ≡ 64) × (out ≡ over lines (clear lines) i)
 
 abbrev μ-loop : tie.MeasureT-loop
 μ-loop lines out₀ i₀ out i = 64 - i
@@ -26,8 +25,8 @@ mul-l c = search needs
 array-copy-out-l : tie.Need-array-copy-out-l Inv-loop μ-loop
 array-copy-out-l c = search needs
 
-with-requires : tie.Need-with-requires Inv-loop μ-loop
-with-requires c κs = search needs
+filled-requires : tie.Need-filled-requires Inv-loop μ-loop
+filled-requires c κs = search needs
 
 mul-out : tie.Need-mul-out Inv-loop μ-loop
 mul-out c = search needs
@@ -49,8 +48,8 @@ loop-again c =
     let lm = length-map (s .args .t1) (λ l. cleared l) in (
       omega arith,
       simp length-set (l .inv .1),
-      over-step (s .args .t1) (map (λ l. cleared l) (s .args .t1)) (l .out) (l .i) blank _ (l .inv .2) (omega arith) (omega arith)
-          (getD-mapped (λ l. cleared l) (s .args .t1) (l .i) blank blank (omega arith) ∙ sym (c .with .ensures)),
+      over-step (s .args .t1) (clear (s .args .t1)) (l .out) (l .i) blankLine _ (l .inv .2) (omega arith) (omega arith)
+          (getD-mapped (λ l. cleared l) (s .args .t1) (l .i) blankLine blankLine (omega arith) ∙ sym (c .filled .ensures)),
     )
 
 returns : tie.Need-returns Inv-loop μ-loop
@@ -59,7 +58,7 @@ returns c =
     let l = c .before .loop in
     let long : length (s .args .t1) ≡ 64 = search needs in
     let lm = length-map (s .args .t1) (λ l. cleared l) in
-    over-end (s .args .t1) (map (λ l. cleared l) (s .args .t1)) (l .out) (l .i) (l .inv .2) (omega arith) (omega arith)
+    over-end (s .args .t1) (clear (s .args .t1)) (l .out) (l .i) (l .inv .2) (omega arith) (omega arith)
 
 pub clear-spec : {M : Type 1} → statement M
 clear-spec =
@@ -70,7 +69,7 @@ clear-spec =
     loop-holds
     mul-l
     array-copy-out-l
-    with-requires
+    filled-requires
     mul-out
     array-set-from-out
     add-i

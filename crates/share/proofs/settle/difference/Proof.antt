@@ -1,4 +1,3 @@
--- `share::settle::difference` meets its contract.
 use mir.Syntax.{w64}
 use mir.Facts.{toZ-ofZ, toZ-pos}
 use Rattle.share.proofs.Signs.{diff-fits}

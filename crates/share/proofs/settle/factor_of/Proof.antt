@@ -1,4 +1,3 @@
--- `share::settle::factor_of` meets its contract.
 use native.Mathlib.Omega.{arith}
 use borrow.Author.Tests.{eq-eqb, ne-eqb}
 use Rattle.share.proofs.settle.factor_of.Statement.{statement}

@@ -1,4 +1,3 @@
--- `share::settle::fill_in` meets its contract.
 use mathlib.Core.Path.{_≡_, refl, sym, _∙_}
 use mathlib.Core.List.{map}
 use Prim.Native.Nat.{_-_, _≤_}
@@ -6,7 +5,7 @@ use native.Mathlib.Omega.{arith}
 use lib.ListN.{length, take, length-set}
 use Rattle.apportion.proofs.Loops.{over, over-step}
 use Rattle.share.specs.Sharing.{partsBy}
-use Rattle.share.specs.Forms.{blank, cleared, fill}
+use Rattle.share.specs.Forms.{blankLine, fillIn, clear}
 use Rattle.share.proofs.Lines.{within-at, length-filled, filled-at, filled-all}
 use borrow.Author.Needs.{needs}
 use Rattle.share.proofs.settle.fill_in.Statement.{statement}
@@ -14,7 +13,7 @@ use Rattle.share.proofs.settle.fill_in.Tie as tie
 
 abbrev Inv-loop : tie.InvT-loop
 Inv-loop count negative lines out₀ ss i₀ out i =
-    (i ≤ count) × (length out ≡ 64) × (out ≡ over out₀ (fill (partsBy negative (take count lines) (take count ss)) (map (λ l. cleared l) lines)) i)
+    (i ≤ count) × (length out ≡ 64) × (out ≡ over out₀ (fillIn (partsBy negative (take count lines) (take count ss)) (clear lines)) i)
 
 abbrev μ-loop : tie.MeasureT-loop
 μ-loop count negative lines out₀ ss i₀ out i = count - i
@@ -42,7 +41,7 @@ finish-requires c κs =
     let s = c .before .before .before .before .before in
     let i = c .before .before .loop .i in
     let long : length (s .args .t1) ≡ 64 = search needs in
-    (within-at (s .args .t1) (s .args .count) i blank (s .pre .0 .1) (omega arith) (omega arith), s .pre .1 i (omega arith))
+    (within-at (s .args .t1) (s .args .count) i blankLine (s .pre .0 .1) (omega arith) (omega arith), s .pre .1 i (omega arith))
 
 mul-out : tie.Need-mul-out Inv-loop μ-loop
 mul-out c = search needs
@@ -63,12 +62,12 @@ loop-again c =
     let long : length (s .args .t1) ≡ 64 = search needs in
     let long₂ : length (s .args .shares .0) ≡ 64 = search needs in
     let long₃ : length (c .before .before .before .before .before .clear .result) ≡ 64 = search needs in
-    let f = fill (partsBy (s .args .negative) (take (s .args .count) (s .args .t1)) (take (s .args .count) (s .args .shares .0))) (map (λ l. cleared l) (s .args .t1)) in
+    let f = fillIn (partsBy (s .args .negative) (take (s .args .count) (s .args .t1)) (take (s .args .count) (s .args .shares .0))) (clear (s .args .t1)) in
     let lf : length f ≡ 64 = length-filled (partsBy (s .args .negative) (take (s .args .count) (s .args .t1)) (take (s .args .count) (s .args .shares .0))) (s .args .t1) ∙ long in (
       omega arith,
       simp length-set (l .inv .1),
-      over-step (c .before .before .before .before .before .clear .result) f (l .out) (l .i) blank _ (l .inv .2) (omega arith) (omega arith)
-          (filled-at (s .args .negative) (s .args .t1) (s .args .shares .0) (s .args .count) (l .i) blank (omega arith) (omega arith) (omega arith) ∙ sym (c .finish .ensures)),
+      over-step (c .before .before .before .before .before .clear .result) f (l .out) (l .i) blankLine _ (l .inv .2) (omega arith) (omega arith)
+          (filled-at (s .args .negative) (s .args .t1) (s .args .shares .0) (s .args .count) (l .i) blankLine (omega arith) (omega arith) (omega arith) ∙ sym (c .finish .ensures)),
     )
 
 returns : tie.Need-returns Inv-loop μ-loop

@@ -1,4 +1,3 @@
--- `share::settle::finish` meets its contract.
 use mathlib.Core.Path.{ap, sym, _∙_}
 use mathlib.Core.Bool.{Bool}
 use Prim.Native.Nat.{ℕ, _+_}
@@ -25,11 +24,14 @@ add-t13 c =
 
 difference-requires-2 : tie.Need-difference-requires-2
 difference-requires-2 c κs =
-    let f = c .before .before .before .to-fen .ensures in
-    (omega (arith, c .before .before .before .before .pre .0 .compensation), omega (arith, f, fen-le (c .before .before .before .before .args .l) (c .before .before .before .before .pre .0), c .before .before .before .before .pre .1))
+    let f = c .before .before .before .to-fen .ensures in (
+      omega (arith, c .before .before .before .before .pre .0 .compensation),
+      omega
+          (arith, f, fen-le (c .before .before .before .before .args .l) (c .before .before .before .before .pre .0), c .before .before .before .before .pre .1),
+    )
 
-with-requires : tie.Need-with-requires
-with-requires c κs = search needs
+filled-requires : tie.Need-filled-requires
+filled-requires c κs = search needs
 
 difference-requires-3 : tie.Need-difference-requires-3
 difference-requires-3 c κs = search needs
@@ -39,18 +41,21 @@ add-t18 c = search needs
 
 difference-requires-4 : tie.Need-difference-requires-4
 difference-requires-4 c κs =
-    let f = c .before .before .to-fen .ensures in
-    (omega (arith, c .before .before .before .pre .0 .compensation, c .before .before .before .pre .1), omega (arith, f, fen-le (c .before .before .before .args .l) (c .before .before .before .pre .0)))
+    let f = c .before .before .to-fen .ensures in (
+      omega (arith, c .before .before .before .pre .0 .compensation, c .before .before .before .pre .1),
+      omega
+          (arith, f, fen-le (c .before .before .before .args .l) (c .before .before .before .pre .0)),
+    )
 
-with-requires-2 : tie.Need-with-requires-2
-with-requires-2 c κs = search needs
+filled-requires-2 : tie.Need-filled-requires-2
+filled-requires-2 c κs = search needs
 
 returns : tie.Need-returns
 returns c =
     let a = c .before .before .before .before .before .before .args in
     let l = a .l in
     let s = a .s .0 in
-    c .with .ensures ∙ filled-is (a .negative) l s _ _
+    c .filled .ensures ∙ filled-is (a .negative) l s _ _
     (c .before .before .before .difference .ensures ∙ share-down s ∙ ap (λ (b : Bool). signed b s) (sym (c .before .before .before .before .if1 .taken)))
     (c .before .difference2 .ensures ∙ ap (λ (f : ℕ). pos (l .compensation .0) -ℤ pos (f + s)) (c .before .before .before .before .before .to-fen .ensures)
     ∙ amount-down (l .compensation .0) (assessmentFen l) s
@@ -61,7 +66,7 @@ returns-2 c =
     let a = c .before .before .before .before .before .args in
     let l = a .l in
     let s = a .s .0 in
-    c .with2 .ensures ∙ filled-is (a .negative) l s _ _
+    c .filled2 .ensures ∙ filled-is (a .negative) l s _ _
     (c .before .before .difference3 .ensures ∙ share-up s ∙ ap (λ (b : Bool). signed b s) (sym (c .before .before .before .if1 .left)))
     (c .before .difference4 .ensures ∙ ap (λ (f : ℕ). pos (l .compensation .0 + s) -ℤ pos f) (c .before .before .before .before .to-fen .ensures)
     ∙ amount-up (l .compensation .0) (assessmentFen l) s
@@ -75,10 +80,10 @@ finish-spec =
     difference-requires
     add-t13
     difference-requires-2
-    with-requires
+    filled-requires
     difference-requires-3
     add-t18
     difference-requires-4
-    with-requires-2
+    filled-requires-2
     returns
     returns-2)

@@ -1,4 +1,3 @@
--- `share::settle::part` meets its contract.
 use mathlib.Core.Bool.{Bool}
 use mathlib.Core.Path.{_≡_, refl, ap, sym, _∙_, subst}
 use mathlib.Core.List.{List}
@@ -9,7 +8,7 @@ use native.Mathlib.Omega.{arith}
 use lib.ListN.{length, take}
 use lib.Seq.{length-take-le}
 use Rattle.apportion.specs.Apportion.{total, apportion}
-use Rattle.share.specs.Sharing.{Outcome, weightsBy, allWeights}
+use Rattle.share.specs.Sharing.{SharingOutcome, weightsOf, allWeights}
 use Rattle.share.specs.declared.settle.Carried.{Carried}
 use Rattle.share.specs.Inner.{Carries}
 use Rattle.share.proofs.Bounds.{weights-le}
@@ -30,10 +29,12 @@ sum-fits c =
 -- past the test there is a weight where there is something to share
 weighty : (c : tie.Joined1) → let s = c .before .before .before .before .before in
     0 < s .args .amount .0 → 0 < total (take (s .args .count) (c .before .before .before .before .weights-of .result))
-weighty c h = ⊎-elim (λ w. omega (arith, c .before .before .sum-of .ensures, w .1 .left)) (λ w. omega (arith, w .left)) (c .if1 .came)
+weighty c h = ⊎-elim (λ w. omega (arith, c .before .before .total .ensures, w .1 .left)) (λ w. omega (arith, w .left)) (c .if1 .came)
 
-all-is : (c : tie.After-weights-of) → total (take (c .before .args .count) (c .weights-of .result)) ≡ allWeights (take (c .before .args .count) (c .before .args .lines))
-all-is c = ap total (c .weights-of .ensures) ∙ ap (λ (b : Bool). total (weightsBy b (take (c .before .args .count) (c .before .args .lines)))) (c .before .pre .1 .1)
+all-is : (c : tie.After-weights-of) → let a = c .before .args in total (take (a .count) (c .weights-of .result)) ≡ allWeights (take (a .count) (a .lines))
+all-is c =
+    let a = c .before .args in
+    ap total (c .weights-of .ensures) ∙ ap (λ (b : Bool). total (weightsOf b (take (a .count) (a .lines)))) (c .before .pre .1 .1 .1 .1)
 
 weights-of-requires : tie.Need-weights-of-requires
 weights-of-requires c κs = search needs
@@ -41,13 +42,13 @@ weights-of-requires c κs = search needs
 array-share-prefix-ws : tie.Need-array-share-prefix-ws
 array-share-prefix-ws c = search needs
 
-slice-aggregate-sum-of : tie.Need-slice-aggregate-sum-of
-slice-aggregate-sum-of c =
+slice-aggregate-total : tie.Need-slice-aggregate-total
+slice-aggregate-total c =
     let long : length (c .before .weights-of .result) ≡ 64 = search needs in
     sym (length-take-le (c .before .before .args .count) (c .before .weights-of .result) (omega arith))
 
-sum-of-requires : tie.Need-sum-of-requires
-sum-of-requires c κs = omega (arith, sum-fits (c .before))
+total-requires : tie.Need-total-requires
+total-requires c κs = omega (arith, sum-fits (c .before))
 
 refusal-requires : tie.Need-refusal-requires
 refusal-requires c κs = search needs
@@ -56,37 +57,38 @@ returns : tie.Need-returns
 returns c =
     let s = c .before .before .before .before .before .before .before in
     let ls = take (s .args .count) (s .args .lines) in
-    subst (λ (o : Outcome). Carries (s .args .lines) (s .args .count) o (c .refusal .result))
-    (settled-16 ls (s .pre .0 .3) (omega (arith, s .pre .1 .0, c .before .before .if1 .taken))
-    (sym (all-is (c .before .before .before .before .before .before)) ∙ sym (c .before .before .before .before .sum-of .ensures) ∙ c .before .if2 .taken))
+    subst (λ (o : SharingOutcome). Carries (s .args .lines) (s .args .count) o (c .refusal .result))
+    (settled-16 ls (s .pre .1 .0) (omega (arith, s .pre .1 .1 .1 .0, c .before .before .if1 .taken))
+    (sym (all-is (c .before .before .before .before .before .before)) ∙ sym (c .before .before .before .before .total .ensures) ∙ c .before .if2 .taken))
     (c .refusal .ensures (s .args .lines) (s .args .count))
 
 shares-of-requires : tie.Need-shares-of-requires
 shares-of-requires c κs =
     let s = c .before .before .before .before .before in
-    ((s .pre .0 .0, omega (arith, s .pre .0 .2), sum-fits (c .before .before .before .before)), weighty c)
+    (s .pre .0 .0, (omega (arith, s .pre .1 .1 .0), (sum-fits (c .before .before .before .before), weighty c)))
 
 returns-2 : tie.Need-returns-2
 returns-2 c =
     let s = c .before .before .before .before .before .before in
     let a = s .args in
     let ls = take (a .count) (a .lines) in
+    let g = s .pre .1 .1 .1 in
     let ss = take (a .count) (c .shares-of .result .0) in
-    let es : ss ≡ apportion (a .amount .0) (weightsBy (a .negative) ls) =
+    let ws = take (a .count) (c .before .before .before .before .before .weights-of .result) in
+    let es : ss ≡ apportion (a .amount .0) (weightsOf (a .negative) ls) =
     c .shares-of .ensures ∙ ap (λ (ws : List ℕ). apportion (a .amount .0) ws) (c .before .before .before .before .before .weights-of .ensures) in
     let r : Carried = record { number = 0; place = 0; gap = a .whole; negative = a .negative; shares = c .shares-of .result } in
-    subst (λ (o : Outcome). Carries (a .lines) (a .count) o r)
-    (settled-on ls (s .pre .0 .3) (λ h. omega (arith, weighty (c .before) (omega (arith, s .pre .1 .0)), all-is (c .before .before .before .before .before))))
+    subst (λ (o : SharingOutcome). Carries (a .lines) (a .count) o r)
+    (settled-on ls (s .pre .1 .0) (λ h. omega (arith, weighty (c .before) (omega (arith, g .0)), all-is (c .before .before .before .before .before))))
     (record {
       number = refl;
       place = refl;
-      gap = s .pre .1 .2;
+      gap = g .2;
       given = λ z.
           record {
-            few = s .pre .0 .0;
-            within = s .pre .0 .1;
-            small = λ k h. le-trans (share-le (a .amount .0) k (a .count) (c .shares-of .result .0) (take (a .count) (c .before .before .before .before .before .weights-of .result)) (c .shares-of .ensures) (weighty (c .before)) h) (s .pre .0 .2);
-            parts = parts-are ls (a .amount .0) (a .negative) ss (s .pre .1 .0) (s .pre .1 .1) es;
+            within = s .pre .0;
+            small = λ k h. le-trans (share-le (a .amount .0) k (a .count) (c .shares-of .result .0) ws (c .shares-of .ensures) (weighty (c .before)) h) (s .pre .1 .1 .0);
+            parts = parts-are ls (a .amount .0) (a .negative) ss (g .0) (g .1) es;
           };
     })
 
@@ -96,8 +98,8 @@ part-spec =
     (tie.spec
     weights-of-requires
     array-share-prefix-ws
-    slice-aggregate-sum-of
-    sum-of-requires
+    slice-aggregate-total
+    total-requires
     refusal-requires
     returns
     shares-of-requires

@@ -1,4 +1,3 @@
--- `share::settle::refusal` meets its contract.
 use mathlib.Core.Path.{refl}
 use native.Mathlib.Omega.{arith}
 use Rattle.share.proofs.settle.refusal.Statement.{statement}

@@ -1,5 +1,3 @@
--- `share::settle::refuse` meets its contract.
-
 use borrow.Author.Needs.{needs}
 use Rattle.share.proofs.settle.refuse.Statement.{statement}
 use Rattle.share.proofs.settle.refuse.Tie as tie

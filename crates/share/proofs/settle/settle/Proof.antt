@@ -1,4 +1,3 @@
--- `share::settle::settle` meets its contract.
 use mathlib.Core.Path.{_≡_, ap, ap₂, _∙_, subst}
 use Prim.Native.Nat.{ℕ, _≤_}
 use native.Mathlib.Omega.{arith}
@@ -6,7 +5,7 @@ use lib.Dec.{ltb}
 use lib.IntN.{pos, natAbs, _-ℤ_}
 use lib.ListN.{length, take}
 use lib.Seq.{length-take-le}
-use Rattle.share.specs.Sharing.{Outcome, compensated, assessed, gap}
+use Rattle.share.specs.Sharing.{SharingOutcome, compensated, assessed, gap}
 use Rattle.share.specs.Inner.{Carries}
 use Rattle.share.proofs.Signs.{abs-most}
 use Rattle.share.proofs.Bounds.{compensated-le, assessed-le}
@@ -28,7 +27,7 @@ sums-requires c κs =
     let ls = take (c .args .count) (c .args .lines) in
     let long : length (c .args .lines) ≡ 64 = search needs in
     let l = length-take-le (c .args .count) (c .args .lines) (omega arith) in
-    (c .pre .0, omega (arith, compensated-le ls (c .pre .1)), omega (arith, assessed-fits c))
+    (c .pre .0, (omega (arith, compensated-le ls (c .pre .1)), omega (arith, assessed-fits c)))
 
 refusal-requires : tie.Need-refusal-requires
 refusal-requires c κs = search needs
@@ -36,7 +35,7 @@ refusal-requires c κs = search needs
 returns : tie.Need-returns
 returns c =
     let s = c .before .before .before in
-    subst (λ (o : Outcome). Carries (s .args .lines) (s .args .count) o (c .refusal .result))
+    subst (λ (o : SharingOutcome). Carries (s .args .lines) (s .args .count) o (c .refusal .result))
     (settled-15 (take (s .args .count) (s .args .lines)) (omega (arith, c .before .before .sums .ensures .0, c .before .if1 .taken)))
     (c .refusal .ensures (s .args .lines) (s .args .count))
 
@@ -59,8 +58,8 @@ part-requires c κs =
     let le = assessed-fits s in
     let top : d ≤ 100000000000 = c .before .before .if1 .left in
     let size : c .before .apart .result .0 ≡ natAbs (pos a -ℤ pos d) = c .before .apart .ensures in (
-      (s .pre .0, s .pre .1, omega (arith, size, abs-most a d 100000000000 (omega (arith, le, ea)) top), omega arith),
-      (size ∙ ap natAbs eg, ap₂ ltb ea ed, c .difference .ensures ∙ eg),
+      s .pre,
+      (omega arith, (omega (arith, size, abs-most a d 100000000000 (omega (arith, le, ea)) top), (size ∙ ap natAbs eg, ap₂ ltb ea ed, c .difference .ensures ∙ eg))),
     )
 
 returns-2 : tie.Need-returns-2

@@ -1,4 +1,3 @@
--- `share::settle::shares_of` meets its contract.
 use mathlib.Core.Path.{_≡_, sym, _∙_}
 use Prim.Native.Nat.{ℕ}
 use native.Mathlib.Omega.{arith}
@@ -38,7 +37,7 @@ apportion-into-requires c κs =
     let long : length (s .args .t2) ≡ 64 = search needs in
     let lw = length-take-le n (s .args .t2) (omega arith) in
     let lz = length-take-le {A = ℕ} n (replicate 64 0) (omega arith) in
-    (omega arith, s .pre .1 (omega arith), s .pre .0 .2, lz ∙ sym lw, lz ∙ sym lw)
+    ((omega arith, s .pre .1 .1 .1 (omega arith), s .pre .1 .1 .0), (lz ∙ sym lw, lz ∙ sym lw))
 
 returns : tie.Need-returns
 returns c =

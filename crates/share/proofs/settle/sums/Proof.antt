@@ -1,9 +1,8 @@
--- `share::settle::sums` meets its contract.
 use mathlib.Core.Path.{_≡_, ap}
 use Prim.Native.Nat.{_+_, _-_, _≤_}
 use native.Mathlib.Omega.{arith}
 use lib.ListN.{take, drop, length}
-use Rattle.share.specs.Forms.{blank}
+use Rattle.share.specs.Forms.{blankLine}
 use Rattle.share.specs.Sharing.{compensated, assessed}
 use Rattle.share.proofs.Lists.{part-step, part-end}
 use borrow.Author.Needs.{needs}
@@ -35,7 +34,7 @@ add-c c =
     let s = c .before .before .before .before .before in
     let i = c .before .before .before .before .loop .i in
     let long : length (s .args .t1) ≡ 64 = search needs in
-    let e = ap compensated (part-step (s .args .t1) (s .args .count) i blank (omega arith) (omega arith)) in
+    let e = ap compensated (part-step (s .args .t1) (s .args .count) i blankLine (omega arith) (omega arith)) in
     record { fits = omega arith }
 
 add-a : tie.Need-add-a Inv-loop μ-loop
@@ -43,7 +42,7 @@ add-a c =
     let s = c .before .before .before .before .before .before in
     let i = c .before .before .before .before .before .loop .i in
     let long : length (s .args .t1) ≡ 64 = search needs in
-    let e = ap assessed (part-step (s .args .t1) (s .args .count) i blank (omega arith) (omega arith)) in
+    let e = ap assessed (part-step (s .args .t1) (s .args .count) i blankLine (omega arith) (omega arith)) in
     record { fits = omega (arith, c .before .before .to-fen .ensures) }
 
 add-i : tie.Need-add-i Inv-loop μ-loop
@@ -57,8 +56,8 @@ loop-again c =
     let s = c .before .before .before .before .before .before in
     let i = c .before .before .before .before .before .loop .i in
     let long : length (s .args .t1) ≡ 64 = search needs in
-    let e = ap compensated (part-step (s .args .t1) (s .args .count) i blank (omega arith) (omega arith)) in
-    let f = ap assessed (part-step (s .args .t1) (s .args .count) i blank (omega arith) (omega arith)) in
+    let e = ap compensated (part-step (s .args .t1) (s .args .count) i blankLine (omega arith) (omega arith)) in
+    let f = ap assessed (part-step (s .args .t1) (s .args .count) i blankLine (omega arith) (omega arith)) in
     (omega arith, omega arith, omega (arith, c .before .before .to-fen .ensures))
 
 returns : tie.Need-returns Inv-loop μ-loop

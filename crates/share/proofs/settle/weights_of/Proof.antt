@@ -1,19 +1,18 @@
--- `share::settle::weights_of` meets its contract.
 use mathlib.Core.Path.{_≡_, refl, ap, sym, _∙_}
 use Prim.Native.Nat.{_-_, _≤_}
 use native.Mathlib.Omega.{arith}
 use lib.ListN.{length, take, drop, length-set, replicate}
 use lib.Seq.{take-all, take-at}
 use Rattle.apportion.proofs.Loops.{over, over-step}
-use Rattle.share.specs.Forms.{blank}
-use Rattle.share.specs.Sharing.{weightsBy}
+use Rattle.share.specs.Forms.{blankLine}
+use Rattle.share.specs.Sharing.{weightsOf}
 use Rattle.share.proofs.Lines.{within-at, length-weights, weight-of}
 use borrow.Author.Needs.{needs}
 use Rattle.share.proofs.settle.weights_of.Statement.{statement}
 use Rattle.share.proofs.settle.weights_of.Tie as tie
 
 abbrev Inv-loop : tie.InvT-loop
-Inv-loop count negative lines ws₀ i₀ ws i = (i ≤ count) × (length ws ≡ 64) × (ws ≡ over (replicate 64 0) (weightsBy negative (take count lines)) i)
+Inv-loop count negative lines ws₀ i₀ ws i = (i ≤ count) × (length ws ≡ 64) × (ws ≡ over (replicate 64 0) (weightsOf negative (take count lines)) i)
 
 abbrev μ-loop : tie.MeasureT-loop
 μ-loop count negative lines ws₀ i₀ ws i = count - i
@@ -27,11 +26,11 @@ mul-l c = search needs
 array-copy-out-l : tie.Need-array-copy-out-l Inv-loop μ-loop
 array-copy-out-l c = search needs
 
-weight-requires : tie.Need-weight-requires Inv-loop μ-loop
-weight-requires c κs =
+weight-of-requires : tie.Need-weight-of-requires Inv-loop μ-loop
+weight-of-requires c κs =
     let s = c .before .before .before in
     let long : length (s .args .t1) ≡ 64 = search needs in
-    within-at (s .args .t1) (s .args .count) (c .before .before .loop .i) blank (s .pre .1) (omega arith) (omega arith) .energy
+    within-at (s .args .t1) (s .args .count) (c .before .before .loop .i) blankLine (s .pre .1) (omega arith) (omega arith) .energy
 
 mul-ws : tie.Need-mul-ws Inv-loop μ-loop
 mul-ws c = search needs
@@ -53,8 +52,8 @@ loop-again c =
     let lw = length-weights (s .args .negative) (s .args .t1) (s .args .count) (omega arith) in (
       omega arith,
       simp length-set (l .inv .1),
-      over-step (replicate 64 0) (weightsBy (s .args .negative) (take (s .args .count) (s .args .t1))) (l .ws) (l .i) 0 _ (l .inv .2) (omega arith) (omega arith)
-          (weight-of (s .args .negative) (s .args .t1) (s .args .count) (l .i) blank (omega arith) (omega arith) ∙ sym (c .weight .ensures)),
+      over-step (replicate 64 0) (weightsOf (s .args .negative) (take (s .args .count) (s .args .t1))) (l .ws) (l .i) 0 _ (l .inv .2) (omega arith) (omega arith)
+          (weight-of (s .args .negative) (s .args .t1) (s .args .count) (l .i) blankLine (omega arith) (omega arith) ∙ sym (c .weight-of .ensures)),
     )
 
 returns : tie.Need-returns Inv-loop μ-loop
@@ -62,7 +61,7 @@ returns c =
     let s = c .before .before in
     let l = c .before .loop in
     let long : length (s .args .t1) ≡ 64 = search needs in
-    let w = weightsBy (s .args .negative) (take (s .args .count) (s .args .t1)) in
+    let w = weightsOf (s .args .negative) (take (s .args .count) (s .args .t1)) in
     let lw = length-weights (s .args .negative) (s .args .t1) (s .args .count) (omega arith) in
     ap (take (s .args .count)) (l .inv .2 ∙ rw (take-all (l .i) w (omega arith))) ∙ take-at w (drop (l .i) (replicate 64 0)) (s .args .count) lw
 
@@ -75,7 +74,7 @@ weights-of-spec =
     loop-holds
     mul-l
     array-copy-out-l
-    weight-requires
+    weight-of-requires
     mul-ws
     array-write-ws
     add-i

@@ -1,8 +1,7 @@
--- `tables::register::blank_entries` meets its contract.
 use mathlib.Core.Path.{ap}
 use lib.ListN.{replicate}
+use Rattle.row.specs.Judging.{filledUp}
 use Rattle.tables.specs.declared.register.Entry.{Entry}
-use Rattle.tables.specs.Register.{arrayFrom}
 use borrow.Author.Needs.{needs}
 use Rattle.tables.proofs.register.blank_entries.Statement.{statement}
 use Rattle.tables.proofs.register.blank_entries.Tie as tie
@@ -11,7 +10,7 @@ blank-entry-requires : tie.Need-blank-entry-requires
 blank-entry-requires c κs = search needs
 
 returns : tie.Need-returns
-unfolding arrayFrom
+unfolding filledUp
 returns c = ap (λ (e : Entry). replicate 64 e) (c .blank-entry .ensures)
 
 pub blank-entries-spec : {M : Type 1} → statement M

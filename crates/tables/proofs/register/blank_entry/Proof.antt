@@ -1,4 +1,3 @@
--- `tables::register::blank_entry` meets its contract.
 use mathlib.Core.Path.{refl}
 use Rattle.tables.specs.Register.{asEntry}
 use Rattle.tables.proofs.register.blank_entry.Statement.{statement}

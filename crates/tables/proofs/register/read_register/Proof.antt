@@ -1,4 +1,3 @@
--- `tables::register::read_register` meets its contract.
 use mathlib.Core.Path.{_≡_, _∙_}
 use mathlib.Core.Logic.{⊎-elim}
 use Prim.Native.Nat.{_-_, _≤_, _<_}
@@ -6,13 +5,13 @@ use native.Mathlib.Omega.{arith}
 use lib.ListN.{length, drop}
 use Rattle.row.specs.Numbers.{linesOf}
 use Rattle.tables.specs.Register.{readRegister}
-use Rattle.tables.specs.Meaning.{rowsFrom, outcome}
+use Rattle.tables.specs.Meaning.{entriesLeft, rollOutcome}
 use Rattle.tables.proofs.Judging.{register-line, register-byte, register-end, starts}
 use Rattle.tables.proofs.register.read_register.Statement.{statement}
 use Rattle.tables.proofs.register.read_register.Tie as tie
 
 abbrev Inv-loop : tie.InvT-loop
-Inv-loop text cells₀ roll₀ i₀ cells roll i = (i ≤ length text) × (outcome roll (rowsFrom 5 cells (linesOf (drop i text))) ≡ readRegister text)
+Inv-loop text cells₀ roll₀ i₀ cells roll i = (i ≤ length text) × (rollOutcome roll (entriesLeft cells (linesOf (drop i text))) ≡ readRegister text)
 
 abbrev μ-loop : tie.MeasureT-loop
 μ-loop text cells₀ roll₀ i₀ cells roll i = length text - i

@@ -1,4 +1,3 @@
--- `tables::series::put_output` meets its contract.
 use Rattle.tables.proofs.Filling.{put-one, put-none}
 use mathlib.Core.List.{[]}
 use Rattle.tables.specs.Meaning.{cellNumbers}

@@ -1,4 +1,3 @@
--- `tables::series::read_series` meets its contract.
 use mathlib.Core.Path.{_≡_, refl, ap, sym, _∙_}
 use mathlib.Core.List.{List, []}
 use mathlib.Core.Logic.{⊎-elim}
@@ -7,7 +6,7 @@ use native.Mathlib.Omega.{arith}
 use lib.ListN.{length, drop}
 use Rattle.row.specs.Numbers.{linesOf}
 use Rattle.tables.specs.Series.{seriesOf, filledWith}
-use Rattle.tables.specs.Meaning.{rowsFrom, fillFrom}
+use Rattle.tables.specs.Meaning.{rowsLeft, fillFrom}
 use Rattle.tables.proofs.Texts.{fresh-rows}
 use Rattle.tables.proofs.Filling.{filled, series-line, series-byte, series-open, series-shut}
 use borrow.Author.Needs.{needs}
@@ -17,7 +16,7 @@ use Rattle.tables.proofs.series.read_series.Tie as tie
 abbrev Inv-loop : tie.InvT-loop
 Inv-loop text out₀ cells₀ n₀ i₀ out cells n i =
     (i ≤ length text) × (length out ≡ length out₀)
-    × (fillFrom out n (rowsFrom 0 cells (linesOf (drop i text))) ≡ filledWith out₀ (seriesOf text))
+    × (fillFrom out n (rowsLeft 0 cells (linesOf (drop i text))) ≡ filledWith out₀ (seriesOf text))
 
 abbrev μ-loop : tie.MeasureT-loop
 μ-loop text out₀ cells₀ n₀ i₀ out cells n i = length text - i

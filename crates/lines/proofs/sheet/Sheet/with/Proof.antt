@@ -1,18 +1,18 @@
--- `lines::sheet::Sheet::with` meets its contract.
 use mathlib.Core.List.{[]}
 use native.Mathlib.Omega.{arith}
 use Rattle.row.proofs.Judging.{with-refused, with-bad, with-full, with-sound}
-use Rattle.lines.specs.Meaning.{inTurn, standing, rowLine}
+use Rattle.lines.specs.Text.{sharingLines}
+use Rattle.lines.specs.Meaning.{sheetSoFar, rowLine}
 use Rattle.lines.proofs.Lines.{lawful}
 use borrow.Author.Needs.{needs}
 use Rattle.lines.proofs.sheet.Sheet.with.Statement.{statement}
 use Rattle.lines.proofs.sheet.Sheet.with.Tie as tie
 
 returns : tie.Need-returns
-returns c = let a = c .before .args in with-refused inTurn lawful (standing (a .self)) (rowLine (a .row) []) (c .if1 .taken)
+returns c = let a = c .before .args in with-refused sharingLines lawful (sheetSoFar (a .self)) (rowLine (a .row) []) (c .if1 .taken)
 
-line-of-requires : tie.Need-line-of-requires
-line-of-requires c κs = search needs
+line-in-requires : tie.Need-line-in-requires
+line-in-requires c κs = search needs
 
 refuse-requires : tie.Need-refuse-requires
 refuse-requires c κs = search needs
@@ -20,9 +20,9 @@ refuse-requires c κs = search needs
 returns-2 : tie.Need-returns-2
 returns-2 c =
     let a = c .before .before .before .before .before .before .args in
-    let l = c .before .before .before .before .line-of in
-    with-bad inTurn lawful (standing (a .self)) (rowLine (a .row) []) (c .before .before .before .before .before .if1 .left) (l .result) (l .ensures)
-    (standing (c .refuse .result)) (c .refuse .ensures) (c .before .if2 .taken)
+    let l = c .before .before .before .before .line-in in
+    with-bad sharingLines lawful (sheetSoFar (a .self)) (rowLine (a .row) []) (c .before .before .before .before .before .if1 .left) (l .result) (l .ensures)
+    (sheetSoFar (c .refuse .result)) (c .refuse .ensures) (c .before .if2 .taken)
 
 refuse-requires-2 : tie.Need-refuse-requires-2
 refuse-requires-2 c κs = search needs
@@ -30,8 +30,8 @@ refuse-requires-2 c κs = search needs
 returns-3 : tie.Need-returns-3
 returns-3 c =
     let a = c .before .before .before .before .before .before .before .args in
-    with-full inTurn lawful (standing (a .self)) (rowLine (a .row) []) (c .before .before .before .before .before .before .if1 .left)
-    (standing (c .refuse2 .result)) (c .refuse2 .ensures) (c .before .if3 .taken)
+    with-full sharingLines lawful (sheetSoFar (a .self)) (rowLine (a .row) []) (c .before .before .before .before .before .before .if1 .left)
+    (sheetSoFar (c .refuse2 .result)) (c .refuse2 .ensures) (c .before .if3 .taken)
 
 mul-lines : tie.Need-mul-lines
 mul-lines c = search needs
@@ -45,8 +45,8 @@ add-t7 c = search needs
 returns-4 : tie.Need-returns-4
 returns-4 c =
     let a = c .before .before .before .before .before .before .before .args in
-    let l = c .before .before .before .before .before .line-of in
-    with-sound inTurn lawful (standing (a .self)) (rowLine (a .row) []) (c .before .before .before .before .before .before .if1 .left) (l .result) (l .ensures)
+    let l = c .before .before .before .before .before .line-in in
+    with-sound sharingLines lawful (sheetSoFar (a .self)) (rowLine (a .row) []) (c .before .before .before .before .before .before .if1 .left) (l .result) (l .ensures)
     (c .before .before .if2 .left) (omega (arith, c .before .if3 .left))
 
 pub with-spec : {M : Type 1} → statement M
@@ -54,7 +54,7 @@ with-spec =
     tie.close
     (tie.spec
     returns
-    line-of-requires
+    line-in-requires
     refuse-requires
     returns-2
     refuse-requires-2

@@ -1,4 +1,3 @@
--- `tables::cells::Cells::is_begun` meets its contract.
 use mathlib.Core.Path.{ap}
 use mathlib.Core.Bool.{Bool, _||_}
 use borrow.Author.Needs.{needs}

@@ -1,4 +1,3 @@
--- `tables::cells::Cells::start` meets its contract.
 use Rattle.tables.proofs.Reading.{start-fresh}
 use borrow.Author.Needs.{needs}
 use Rattle.tables.proofs.cells.Cells.start.Statement.{statement}

@@ -1,17 +1,16 @@
--- `tables::cells::Cells::step` meets its contract.
 use mathlib.Core.Path.{_≡_, sym, subst}
 use mathlib.Core.Bool.{Bool, true, false}
 use Prim.Native.Nat.{ℕ}
 use Rattle.tables.specs.declared.cells.Cells.{Cells}
-use Rattle.tables.specs.Meaning.{Follows}
+use Rattle.tables.specs.Meaning.{CellsFollow}
 use Rattle.tables.proofs.Reading.{by-shut, by-return, by-byte}
 use borrow.Author.Needs.{needs}
 use Rattle.tables.proofs.cells.Cells.step.Statement.{statement}
 use Rattle.tables.proofs.cells.Cells.step.Tie as tie
 
 -- cells that are known to be shut or not
-known : (last : ℕ) (cells : Cells) (b : ℕ) (r : Cells) (t : Bool) → cells .shut ≡ t → Follows last (record { row = cells .row; shut = t }) b r → Follows last cells b r
-known last cells b r t e f = subst (λ (s : Bool). Follows last (record { row = cells .row; shut = s }) b r) (sym e) f
+known : (last : ℕ) (cells : Cells) (b : ℕ) (r : Cells) (t : Bool) → cells .shut ≡ t → CellsFollow last (record { row = cells .row; shut = t }) b r → CellsFollow last cells b r
+known last cells b r t e f = subst (λ (s : Bool). CellsFollow last (record { row = cells .row; shut = s }) b r) (sym e) f
 
 spoilt-requires : tie.Need-spoilt-requires
 spoilt-requires c κs = search needs
@@ -24,7 +23,7 @@ returns c =
 returns-2 : tie.Need-returns-2
 returns-2 c =
     let a = c .before .before .before .args in
-    subst (λ (b : ℕ). Follows (a .last) (a .self) b (record { row = a .self .row; shut = true })) (sym (c .if2 .taken))
+    subst (λ (b : ℕ). CellsFollow (a .last) (a .self) b (record { row = a .self .row; shut = true })) (sym (c .if2 .taken))
     (known (a .last) (a .self) 13 _ false (c .before .if1 .left) (by-return (a .last) (a .self .row)))
 
 step-requires : tie.Need-step-requires

@@ -1,4 +1,3 @@
--- `tables::cells::Cells::told` meets its contract.
 use mathlib.Core.Path.{sym, _∙_}
 use Rattle.tables.proofs.Reading.{told-is, told-not}
 use borrow.Author.Needs.{needs}

@@ -1,11 +1,10 @@
--- `tables::register::Entry::line` meets its contract.
 use mathlib.Core.Path.{refl}
-use Rattle.tables.specs.Register.{lineFor}
+use Rattle.tables.specs.Register.{entryLine}
 use Rattle.tables.proofs.register.Entry.line.Statement.{statement}
 use Rattle.tables.proofs.register.Entry.line.Tie as tie
 
 returns : tie.Need-returns
-unfolding lineFor
+unfolding entryLine
 returns c = refl
 
 pub line-spec : {M : Type 1} → statement M

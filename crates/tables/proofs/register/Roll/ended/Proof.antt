@@ -1,4 +1,3 @@
--- `tables::register::Roll::ended` meets its contract.
 use mathlib.Core.Path.{sym, _∙_}
 use Rattle.tables.proofs.Judging.{end-open, end-shut}
 use borrow.Author.Needs.{needs}

@@ -1,11 +1,10 @@
--- `tables::register::Roll::with` meets its contract.
 use mathlib.Core.List.{[], map}
 use native.Mathlib.Omega.{arith}
 use Rattle.row.proofs.Judging.{with-refused, with-bad, with-full, with-sound}
 use Rattle.tables.specs.declared.cells.Cells.{Cells}
 use Rattle.tables.specs.declared.register.Entry.{Entry}
-use Rattle.tables.specs.Register.{asEntry}
-use Rattle.tables.specs.Meaning.{cellNumbers, inTurn, standing}
+use Rattle.tables.specs.Register.{asEntry, registerEntries}
+use Rattle.tables.specs.Meaning.{entryNumbers, rollSoFar}
 use Rattle.tables.proofs.Entries.{lawful}
 use borrow.Author.Needs.{needs}
 use Rattle.tables.proofs.register.Roll.with.Statement.{statement}
@@ -13,13 +12,13 @@ use Rattle.tables.proofs.register.Roll.with.Tie as tie
 
 -- the entry as its line says it
 abbrev said : Cells → Entry
-said cells = asEntry (cellNumbers 5 cells [])
+said cells = asEntry (entryNumbers cells [])
 
 returns : tie.Need-returns
-returns c = let a = c .before .args in λ rows. with-refused inTurn lawful (standing (a .self)) (said (a .cells)) (c .if1 .taken) (map asEntry rows)
+returns c = let a = c .before .args in λ rows. with-refused registerEntries lawful (rollSoFar (a .self)) (said (a .cells)) (c .if1 .taken) (map asEntry rows)
 
-entry-of-requires : tie.Need-entry-of-requires
-entry-of-requires c κs = search needs
+entry-in-requires : tie.Need-entry-in-requires
+entry-in-requires c κs = search needs
 
 refuse-requires : tie.Need-refuse-requires
 refuse-requires c κs = search needs
@@ -27,9 +26,9 @@ refuse-requires c κs = search needs
 returns-2 : tie.Need-returns-2
 returns-2 c =
     let a = c .before .before .before .before .before .before .args in
-    let e = c .before .before .before .before .entry-of in
-    λ rows. with-bad inTurn lawful (standing (a .self)) (said (a .cells)) (c .before .before .before .before .before .if1 .left) (e .result) (e .ensures)
-    (standing (c .refuse .result)) (c .refuse .ensures) (c .before .if2 .taken) (map asEntry rows)
+    let e = c .before .before .before .before .entry-in in
+    λ rows. with-bad registerEntries lawful (rollSoFar (a .self)) (said (a .cells)) (c .before .before .before .before .before .if1 .left) (e .result) (e .ensures)
+    (rollSoFar (c .refuse .result)) (c .refuse .ensures) (c .before .if2 .taken) (map asEntry rows)
 
 refuse-requires-2 : tie.Need-refuse-requires-2
 refuse-requires-2 c κs = search needs
@@ -37,8 +36,8 @@ refuse-requires-2 c κs = search needs
 returns-3 : tie.Need-returns-3
 returns-3 c =
     let a = c .before .before .before .before .before .before .before .args in
-    λ rows. with-full inTurn lawful (standing (a .self)) (said (a .cells)) (c .before .before .before .before .before .before .if1 .left)
-    (standing (c .refuse2 .result)) (c .refuse2 .ensures) (c .before .if3 .taken) (map asEntry rows)
+    λ rows. with-full registerEntries lawful (rollSoFar (a .self)) (said (a .cells)) (c .before .before .before .before .before .before .if1 .left)
+    (rollSoFar (c .refuse2 .result)) (c .refuse2 .ensures) (c .before .if3 .taken) (map asEntry rows)
 
 mul-entries : tie.Need-mul-entries
 mul-entries c = search needs
@@ -52,8 +51,8 @@ add-t7 c = search needs
 returns-4 : tie.Need-returns-4
 returns-4 c =
     let a = c .before .before .before .before .before .before .before .args in
-    let e = c .before .before .before .before .before .entry-of in
-    λ rows. with-sound inTurn lawful (standing (a .self)) (said (a .cells)) (c .before .before .before .before .before .before .if1 .left) (e .result) (e .ensures)
+    let e = c .before .before .before .before .before .entry-in in
+    λ rows. with-sound registerEntries lawful (rollSoFar (a .self)) (said (a .cells)) (c .before .before .before .before .before .before .if1 .left) (e .result) (e .ensures)
     (c .before .before .if2 .left) (omega (arith, c .before .if3 .left)) (map asEntry rows)
 
 pub with-spec : {M : Type 1} → statement M
@@ -61,7 +60,7 @@ with-spec =
     tie.close
     (tie.spec
     returns
-    entry-of-requires
+    entry-in-requires
     refuse-requires
     returns-2
     refuse-requires-2
