@@ -14,7 +14,7 @@ use Rattle.le.proofs.Tests.{each, all}
 use Rattle.call.specs.Limits.{table, limitsOf, limitsAllow, callIsSound}
 use Rattle.units.specs.Month.{minutesPerQuarter, mostMinutes}
 use Rattle.call.specs.Revising.{live, contested, withdrawn}
-use Rattle.call.specs.Services.{mostParticipant, mostCalled, mostMoved, leastMoved, any, stabilityTrip}
+use Rattle.call.specs.Services.{mostParticipant, mostCalled, mostMoved, leastMoved, anyMinutes, stabilityTrip}
 use Rattle.call.specs.Service.{Window, NoTime, Blank, Stated, is-live, is-contested, is-withdrawn, CallWithin}
 use Rattle.call.specs.Service.{ServiceRow, is-deep-peak, is-reserve, is-start-stop, is-standby, is-black-start}
 use Rattle.call.specs.Service.{is-agc-availability, is-agc-contribution, is-frequency-event, is-avc, is-stability-trip}
@@ -125,7 +125,7 @@ module _ (c : Call) where
   blank-of e t = record { service = e; time = no-time (t .latest) (t .longest); no-a = no-a _ (t .low) (t .high); no-b = none _ (t .most-b); no-c = none _ (t .most-c) }
 
 -- and back
-fits-any : (c : Call) (m : ℕ) → m ≤ mostMinutes → c .start + c .length ≤ m → (c .start ≤ any) × (c .length ≤ any)
+fits-any : (c : Call) (m : ℕ) → m ≤ mostMinutes → c .start + c .length ≤ m → (c .start ≤ anyMinutes) × (c .length ≤ anyMinutes)
 fits-any c m k h = (omega arith, omega arith)
 
 from-a : {a : ℤ} (n k : ℕ) → a ≡ pos n → n ≤ k → (leZ (pos 0) a ≡ true) × (leZ a (pos k) ≡ true)
@@ -149,7 +149,7 @@ tests : (c : Call) (l : Limits) → (l .quarters ≡ true → (c .start % minute
     → c .length ≤ l .longest → (leZ (l .low) (c .a) ≡ true) × (leZ (c .a) (l .high) ≡ true) → c .b ≤ l .b → c .c ≤ l .c → Allowed l c
 tests c l q s f t a b d = record { quarters = q; latest = s; shortest = f; longest = t; low = a .0; high = a .1; most-b = b; most-c = d }
 
-module _ (c : Call) (start : c .start ≤ any) (long : c .length ≤ any) where
+module _ (c : Call) (start : c .start ≤ anyMinutes) (long : c .length ≤ anyMinutes) where
   abbrev Meets : Type 0
   Meets = (1 ≤ c .service) × (limitsAllow (limitsOf (c .service)) c ≡ true)
 

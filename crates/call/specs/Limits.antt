@@ -10,7 +10,7 @@ use Rattle.call.specs.declared.Call.{Call}
 use Rattle.call.specs.declared.service.Limits.{Limits}
 use Rattle.units.specs.Month.{minutesPerQuarter}
 use Rattle.call.specs.Revising.{live, withdrawn}
-use Rattle.call.specs.Services.{mostParticipant, mostRate, mostCalled, mostMoved, leastMoved, any}
+use Rattle.call.specs.Services.{mostParticipant, mostRate, mostCalled, mostMoved, leastMoved, anyMinutes}
 
 -- whether start and length are multiples of 15; the latest start; the shortest and the longest length; a from and to; the largest b and c
 abbrev pub row : Bool → ℕ → ℕ → ℕ → ℤ → ℤ → ℕ → ℕ → Limits
@@ -30,16 +30,16 @@ row quarters latest shortest longest low high b c =
 unfoldable pub table : List Limits
 table =
     row false 0 0 0 (pos 0) (pos 0) 0 0
-    ∷ row true any minutesPerQuarter any (pos 0) (pos 0) 0 0
-    ∷ row true any minutesPerQuarter any (pos 0) (pos mostCalled) 0 0
-    ∷ row false any 1 any (pos 0) (pos 0) 0 0
-    ∷ row false any 1 any (pos 0) (pos 0) 0 0
+    ∷ row true anyMinutes minutesPerQuarter anyMinutes (pos 0) (pos 0) 0 0
+    ∷ row true anyMinutes minutesPerQuarter anyMinutes (pos 0) (pos mostCalled) 0 0
+    ∷ row false anyMinutes 1 anyMinutes (pos 0) (pos 0) 0 0
+    ∷ row false anyMinutes 1 anyMinutes (pos 0) (pos 0) 0 0
     ∷ row false 0 0 0 (pos 0) (pos 0) 0 0
     ∷ row false 0 0 0 (pos 0) (pos 0) mostRate 0
     ∷ row false 0 0 0 (pos 0) (pos 0) mostRate 0
-    ∷ row false any 0 any leastMoved (pos mostMoved) mostMoved 1
-    ∷ row false 0 0 any (pos 0) (pos 0) mostRate mostRate
-    ∷ row false any 0 0 (pos 0) (pos 0) 0 0
+    ∷ row false anyMinutes 0 anyMinutes leastMoved (pos mostMoved) mostMoved 1
+    ∷ row false 0 0 anyMinutes (pos 0) (pos 0) mostRate mostRate
+    ∷ row false anyMinutes 0 0 (pos 0) (pos 0) 0 0
     ∷ []
 
 -- there is no service past 10: no length is both 1 and 0

@@ -51,6 +51,6 @@ mostMoved = 1000000000
 abbrev pub leastMoved : ℤ
 leastMoved = negℤ (pos mostMoved)
 
--- any start or length: a field of 16 bits holds no more
-abbrev pub any : ℕ
-any = 65535
+-- anyMinutes start or length: a field of 16 bits holds no more
+abbrev pub anyMinutes : ℕ
+anyMinutes = 65535

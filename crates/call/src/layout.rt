@@ -45,28 +45,28 @@ pub fn call_at(s: &[u8], at: usize) -> Call
 
 // A field alone, of the record in the 32 bytes from `at` on: for what compares records and needs no more of them.
 pub fn participant_at(s: &[u8], at: usize) -> u16
-    requires { ⌜ at + 32 ≤ length (now s) ⌝ }
+    requires { ⌜ at + recordSize ≤ length (now s) ⌝ }
     ensures { λ r. ⌜ r ≡ callAt (now (s .entry)) at .participant ⌝ }
 {
     u16_at(s, at)
 }
 
 pub fn state_at(s: &[u8], at: usize) -> u8
-    requires { ⌜ at + 32 ≤ length (now s) ⌝ }
+    requires { ⌜ at + recordSize ≤ length (now s) ⌝ }
     ensures { λ r. ⌜ r ≡ callAt (now (s .entry)) at .state ⌝ }
 {
     u8_at(s, at + 3)
 }
 
 pub fn call_number_at(s: &[u8], at: usize) -> u32
-    requires { ⌜ at + 32 ≤ length (now s) ⌝ }
+    requires { ⌜ at + recordSize ≤ length (now s) ⌝ }
     ensures { λ r. ⌜ r ≡ callAt (now (s .entry)) at .number ⌝ }
 {
     u32_at(s, at + 4)
 }
 
 pub fn revision_at(s: &[u8], at: usize) -> u32
-    requires { ⌜ at + 32 ≤ length (now s) ⌝ }
+    requires { ⌜ at + recordSize ≤ length (now s) ⌝ }
     ensures { λ r. ⌜ r ≡ callAt (now (s .entry)) at .revision ⌝ }
 {
     u32_at(s, at + 8)

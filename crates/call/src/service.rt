@@ -41,7 +41,7 @@ pub const MOST_MOVED: u32 = 1_000_000_000;
 pub const LEAST_MOVED: i32 = -1_000_000_000;
 
 // Any start or length: a field of 16 bits holds no more.
-pub const ANY: u16 = 65535;
+pub const ANY_MINUTES: u16 = 65535;
 
 // What a service asks of start, length, a, b and c.
 pub struct Limits {
@@ -117,25 +117,43 @@ fn within(service: u8, start: u16, minutes: u16, a: i32, b: u32, c: u32) -> bool
     };
     match service {
         0 => row(false, 0, 0, 0, 0, 0, 0, 0).allow(x),
-        DEEP_PEAK => row(true, ANY, MINUTES_PER_QUARTER, ANY, 0, 0, 0, 0).allow(x),
-        RESERVE => row(true, ANY, MINUTES_PER_QUARTER, ANY, 0, MOST_CALLED, 0, 0).allow(x),
-        START_STOP => row(false, ANY, 1, ANY, 0, 0, 0, 0).allow(x),
-        STANDBY => row(false, ANY, 1, ANY, 0, 0, 0, 0).allow(x),
+        DEEP_PEAK => row(
+            true,
+            ANY_MINUTES,
+            MINUTES_PER_QUARTER,
+            ANY_MINUTES,
+            0,
+            0,
+            0,
+            0,
+        ).allow(x),
+        RESERVE => row(
+            true,
+            ANY_MINUTES,
+            MINUTES_PER_QUARTER,
+            ANY_MINUTES,
+            0,
+            MOST_CALLED,
+            0,
+            0,
+        ).allow(x),
+        START_STOP => row(false, ANY_MINUTES, 1, ANY_MINUTES, 0, 0, 0, 0).allow(x),
+        STANDBY => row(false, ANY_MINUTES, 1, ANY_MINUTES, 0, 0, 0, 0).allow(x),
         BLACK_START => row(false, 0, 0, 0, 0, 0, 0, 0).allow(x),
         AGC_AVAILABILITY => row(false, 0, 0, 0, 0, 0, MOST_RATE, 0).allow(x),
         AGC_CONTRIBUTION => row(false, 0, 0, 0, 0, 0, MOST_RATE, 0).allow(x),
         FREQUENCY_EVENT => row(
             false,
-            ANY,
+            ANY_MINUTES,
             0,
-            ANY,
+            ANY_MINUTES,
             LEAST_MOVED,
             MOST_MOVED as i32,
             MOST_MOVED,
             1,
         ).allow(x),
-        AVC => row(false, 0, 0, ANY, 0, 0, MOST_RATE, MOST_RATE).allow(x),
-        STABILITY_TRIP => row(false, ANY, 0, 0, 0, 0, 0, 0).allow(x),
+        AVC => row(false, 0, 0, ANY_MINUTES, 0, 0, MOST_RATE, MOST_RATE).allow(x),
+        STABILITY_TRIP => row(false, ANY_MINUTES, 0, 0, 0, 0, 0, 0).allow(x),
         _ => row(false, 0, 1, 0, 0, 0, 0, 0).allow(x),
     }
 }

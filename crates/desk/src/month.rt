@@ -18,11 +18,12 @@ use clerk::shelf::records;
 use clerk::shelf::refused_at;
 use pay::Member;
 use score::answer::Score;
-use share::Line;
 use share::Shared;
 use tables::register::Register;
 use tables::register::read_register;
 use tables::series::read_series;
+use text::month::month_text;
+use text::record::score_text;
 use units::Fen;
 use units::Grains;
 use units::Kw;
@@ -114,9 +115,9 @@ fn score_of(member: Member) {
     let k = os::arg(5, &mut name);
     let scored = score_with(member, first(&book, n), &name[0..k], first(&series, m));
     if let Scored::Score(grains, fen) = scored {
-        print::field(b"grains ", grains.0);
-        print::field(b"\nfen ", fen.0);
-        say::text(b"\n");
+        let mut out = io::buffer();
+        let size = score_text(grains, fen, &mut out);
+        say::text(&out[..size]);
         print::done();
     }
 }
@@ -220,57 +221,13 @@ fn no_scores() -> Scores {
     }
 }
 
-fn tell_scored(member: u16, grains: Grains, fen: Fen) {
-    print::field(b"member ", member as u64);
-    print::field(b" grains ", grains.0);
-    print::field(b" fen ", fen.0);
-    say::text(b"\n");
-}
-
-fn tell_shared(l: Line) {
-    print::field(b"member ", l.number as u64);
-    say::text(b" share ");
-    say::money(l.share);
-    say::text(b" amount ");
-    say::money(l.amount);
-    say::text(b"\n");
-}
-
-fn tell_scores(lines: [Line; MEMBERS], s: Scores, count: usize)
-    requires { ⌜ count ≤ 64 ⌝ }
-{
-    let grains = s.grains;
-    let fens = s.fens;
-    let mut i: usize = 0;
-    while i < count {
-        let l = lines[i];
-        let points = grains[i];
-        let money = fens[i];
-        tell_scored(l.number, points, money);
-        i += 1;
-    }
-}
-
-fn tell_shares(lines: [Line; MEMBERS], count: usize)
-    requires { ⌜ count ≤ 64 ⌝ }
-{
-    let mut i: usize = 0;
-    while i < count {
-        let l = lines[i];
-        tell_shared(l);
-        i += 1;
-    }
-}
-
 // The statement: what each member was scored, R, and each member's share and amount.
 fn tell_statement(shared: Shared, s: Scores, members: usize) {
-    let count = at_most(members);
-    let lines = shared.lines;
-    tell_scores(lines, s, count);
-    say::text(b"total ");
-    say::money(shared.gap);
-    say::text(b"\n");
-    tell_shares(lines, count);
+    let grains = s.grains;
+    let fens = s.fens;
+    let mut out = io::large_buffer();
+    let n = month_text(shared, grains, fens, members, &mut out);
+    say::text(&out[..n]);
     print::done();
 }
 

@@ -22,7 +22,7 @@ use Rattle.rule.specs.Keys.{recordOf}
 use Rattle.rule.specs.Joined.{joinedAt, joinCalls}
 use Rattle.call.specs.Key.{callKey}
 use Rattle.rule.specs.Standing.{isWithdrawn}
-use Rattle.rule.specs.Whole.{leaf, node, leaves, joined}
+use Rattle.rule.specs.Whole.{leaf, node, leaves, treeJoined}
 use Rattle.rule.proofs.Keyed.{in-find}
 use Rattle.rule.proofs.Orders.{stays-withdrawn}
 use Rattle.rule.proofs.Joins.{join-find}
@@ -63,7 +63,7 @@ one-header h k e =
     path : h .area ≡ k .area → h .year ≡ k .year → h .month ≡ k .month → h ≡ k
     path a y m = λ i. record { area = a i; year = y i; month = m i }
 
--- Two sound books, joined
+-- Two sound books, treeJoined
 module _ (a b out : List ℕ) (p : Sound a) (q : Sound b) (z : joining a b out .number ≡ 0) where
   first-calls : Calls (headerMinutes (headerAt a)) (callsOf a)
   first-calls = sound-calls a p
@@ -81,7 +81,7 @@ module _ (a b out : List ℕ) (p : Sound a) (q : Sound b) (z : joining a b out .
   written-bytes : written (joining a b out) ≡ bookBytes version (headerAt a) (joinedOf a b)
   written-bytes = ap written (accepts a b out z .is) ∙ take-append-seam (bookBytes version (headerAt a) (joinedOf a b)) _
 
-  -- the joined book is sound, and its calls are the join of the calls
+  -- the treeJoined book is sound, and its calls are the join of the calls
   pub joined-sound : Sound (written (joining a b out))
   joined-sound = rw written-bytes (book-sound (headerAt a) (joinedOf a b) heads (accepts a b out z .few) joined-calls)
 
@@ -89,14 +89,14 @@ module _ (a b out : List ℕ) (p : Sound a) (q : Sound b) (z : joining a b out .
   unfolding joinedOf
   reads-joined = ap callsOf written-bytes ∙ reads-back (headerAt a) (joinedOf a b) heads (accepts a b out z .few) (joined-calls .within) .1
 
-  -- one key in the joined book
+  -- one key in the treeJoined book
   pub record-joined : (k : ℕ) → recordOf k (callsOf (written (joining a b out))) ≡ joinedAt (recordOf k (callsOf a)) (recordOf k (callsOf b))
   record-joined k = ap (recordOf k) reads-joined ∙ join-find (callsOf a) (callsOf b) k
 
   -- a call that the second book withdraws is withdrawn
   pub second-withdrawn : (w : Call) → In w (callsOf b) → isWithdrawn w ≡ true
       → (r : Call) × (recordOf (callKey w) (callsOf (written (joining a b out))) ≡ some r) × (isWithdrawn r ≡ true)
-  unfolding leaves joined
+  unfolding leaves treeJoined
   second-withdrawn w i t =
       let xs = callsOf a in
       let ys = callsOf b in

@@ -16,7 +16,7 @@ use Rattle.book.specs.Check.{accepted, headerIsSound, isHeaded, headerMinutes, 
 use Rattle.book.specs.Sound.{Rises}
 use Rattle.book.proofs.Records.{judge-zero, went-on}
 use Rattle.book.proofs.Exact.{accepted-tests}
-use Rattle.pair.specs.Screening.{Accepted}
+use Rattle.pair.specs.Screening.{IsAccepted}
 use Rattle.join.specs.Steps.{RecordLies}
 
 zeros : (m : ℕ) (b : List ℕ) (n low i : ℕ) → checkRecords m b low i n ≡ accepted → (j : ℕ) → j < n → reservedAt b (sizeOf (i + j)) ≡ 0
@@ -38,7 +38,7 @@ rise m b (suc n) low i e =
     let p = went-on (judge m b low i) i _ e in
     (judge-zero m b low i (p .0) .2, rise m b n (suc (callKey (recordAt b i))) (suc i) (p .1))
 
-module _ (b : List ℕ) (e : Accepted b) where
+module _ (b : List ℕ) (e : IsAccepted b) where
   pub long : 16 ≤ length b
   long = accepted-tests b e .long
 

@@ -1,4 +1,4 @@
--- Demand 3 on bytes: the order in which books are joined cannot be seen in the result. Assumes nothing.
+-- Demand 3 on bytes: the order in which books are treeJoined cannot be seen in the result. Assumes nothing.
 use mathlib.Core.Path.{_≡_, sym, _∙_, ap, subst}
 use mathlib.Core.Bool.{true}
 use mathlib.Core.List.{List, map, Memᴰ·map, List·Memᴰ as In}
@@ -13,7 +13,7 @@ use Rattle.book.specs.Check.{headerMinutes}
 use Rattle.book.proofs.Records.{length-calls}
 use Rattle.book.proofs.Exact.{reads-back}
 use Rattle.rule.specs.Standing.{isWithdrawn}
-use Rattle.rule.specs.Whole.{joined}
+use Rattle.rule.specs.Whole.{treeJoined}
 use Rattle.rule.proofs.Keyed.{in-find, find-in}
 use Rattle.rule.proofs.Bounds.{Sounds}
 use Rattle.rule.proofs.Orders.{Over}
@@ -38,7 +38,7 @@ module _ (h : Header) (bs : List (List ℕ)) (month : OneMonth h bs) (p : Plan) 
   of-leaves : OneMonth h (books p)
   of-leaves = leaves-month h bs p covers month
 
-  count : length (joined (treeOf p)) ≡ keyCount bs
+  count : length (treeJoined (treeOf p)) ≡ keyCount bs
   unfolding keyCount
   count = number-of-keys (headerMinutes h) (treeOf p) (map callsOf bs) over sounds
 
@@ -50,7 +50,7 @@ module _ (h : Header) (bs : List (List ℕ)) (month : OneMonth h bs) (p : Plan) 
   too-many f = tree-gives .many (omega (arith, count))
 
   module _ (few : keyCount bs ≤ mostRecords version) where
-    given-book : AllAccepted p × (result p .number ≡ 0) × (written (result p) ≡ bookBytes version h (joined (treeOf p)))
+    given-book : AllAccepted p × (result p .number ≡ 0) × (written (result p) ≡ bookBytes version h (treeJoined (treeOf p)))
     given-book = tree-gives .few (omega (arith, count))
 
     -- DEMAND 3: every tree of joins over the books is accepted at every node, and its bytes are those of the rule over the whole list
@@ -59,10 +59,10 @@ module _ (h : Header) (bs : List (List ℕ)) (month : OneMonth h bs) (p : Plan) 
     any-order = (given-book .0, given-book .1, given-book .2 ∙ ap (bookBytes version h) (whole-list.any-order (headerMinutes h) (treeOf p) (map callsOf bs) over sounds))
 
     -- the calls of the result
-    calls : callsOf (written (result p)) ≡ joined (treeOf p)
+    calls : callsOf (written (result p)) ≡ treeJoined (treeOf p)
     calls =
         ap callsOf (given-book .2)
-        ∙ reads-back h (joined (treeOf p)) (heading h p of-leaves) (omega (arith, count)) (tree-calls h p of-leaves .within) .1
+        ∙ reads-back h (treeJoined (treeOf p)) (heading h p of-leaves) (omega (arith, count)) (tree-calls h p of-leaves .within) .1
 
     -- the header's count is the number of different keys
     pub counts-keys : countAt (written (result p)) ≡ keyCount bs
@@ -75,7 +75,7 @@ module _ (h : Header) (bs : List (List ℕ)) (month : OneMonth h bs) (p : Plan) 
     stays-withdrawn b i w j t =
         let listed : In (callsOf b) (map callsOf bs) = Memᴰ·map callsOf i in
         let s = lists.stays-withdrawn (headerMinutes h) (treeOf p) (map callsOf bs) over sounds (callsOf b) listed (callKey w) w (in-find 0 (callsOf b) w (sounds (callsOf b) listed .rises) j) t in
-        let f = find-in (callKey w) (joined (treeOf p)) (s .0) (s .1) in
+        let f = find-in (callKey w) (treeJoined (treeOf p)) (s .0) (s .1) in
         (s .0, subst (λ (l : List Call). In (s .0) l) (sym calls) (f .0), f .1, s .2)
 
 -- any two trees of joins over the same books give the same bytes

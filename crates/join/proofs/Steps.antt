@@ -39,7 +39,7 @@ use Rattle.rule.proofs.Merging.{
 }
 use Rattle.join.specs.declared.Next.{Next}
 use Rattle.join.specs.declared.Reached.{Reached}
-use Rattle.pair.specs.Screening.{Accepted}
+use Rattle.pair.specs.Screening.{IsAccepted}
 use Rattle.join.specs.Joining.{keyCount, keysOfBoth, joinedOf}
 use Rattle.join.specs.Steps.{leftOf, KeySettled, lower, upper, equal, KeyPut, Merged}
 use Rattle.join.proofs.Books.{keys-rise}
@@ -78,7 +78,7 @@ unfolding joinedOf keyCount
 joined-length a b = join-length (callsOf a) (callsOf b)
 
 -- all records of both books
-module _ (a b : List ℕ) (p : Accepted a) (q : Accepted b) where
+module _ (a b : List ℕ) (p : IsAccepted a) (q : IsAccepted b) where
   pub all-left : merge (leftOf a (countAt a) 0) (leftOf b (countAt b) 0) ≡ joinedOf a b
   unfolding leftOf joinedOf callsOf
   all-left =
@@ -244,7 +244,7 @@ one-over a e b f h = go (ltb a e) refl h
     go false p q = inl (ltb-false a e p)
 
 -- the keys of a run, and what is left of both books
-pub counts-all : {s t : List ℕ} {a b k e f : ℕ} → Accepted s → Accepted t → Run s (countAt s) t (countAt t) a b k
+pub counts-all : {s t : List ℕ} {a b k e f : ℕ} → IsAccepted s → IsAccepted t → Run s (countAt s) t (countAt t) a b k
     → e ≡ sizeOf (countAt s) → f ≡ sizeOf (countAt t) → (ltb a e && ltb b f) ≡ false → k + (e - a) / 32 + (f - b) / 32 ≡ keysOfBoth s t
 counts-all {s} {t} {a} {b} {k} {e} {f} ps pt g p q h = go (one-over a e b f h)
   where
@@ -318,7 +318,7 @@ module _ {s t out₀ out : List ℕ} {a b at : ℕ} (w : Writing s t out₀ out 
           written = more-records (w .run .done) (p .call ∷ []) 0 at (omega arith) (w .written) (one-record (p .call) (p .stored));
         }
 
-    pub place-left : Accepted s → Accepted t → 32 * keysOfBoth s t ≤ length out₀ → at + 32 ≤ length out
+    pub place-left : IsAccepted s → IsAccepted t → 32 * keysOfBoth s t ≤ length out₀ → at + 32 ≤ length out
     place-left p q k = let e = w .place in omega (arith, room (w .run) h l, count-left s t p q, same-long (w .written))
 
   pub merged : {r : Reached} {e f : ℕ} → e ≡ sizeOf (countAt s) → f ≡ sizeOf (countAt t) → (ltb a e && ltb b f) ≡ false
@@ -386,7 +386,7 @@ module _ {s : List ℕ} {i k : ℕ} {out₀ out : List ℕ} {l : ℕ} (g : Rest 
       (ap (λ (n : ℕ). k + n) e, rw e at (g .stored))
 
 -- the join up to the end of one book, and the rest of both
-module _ {s t out₀ : List ℕ} {r : Reached} {out : List ℕ} (p : Accepted s) (q : Accepted t) (g : Merged s t out₀ r out) where
+module _ {s t out₀ : List ℕ} {r : Reached} {out : List ℕ} (p : IsAccepted s) (q : IsAccepted t) (g : Merged s t out₀ r out) where
   rests : List Call
   rests = leftOf s (countAt s) (r .first) ++ leftOf t (countAt t) (r .second)
 

@@ -15,7 +15,7 @@ use Rattle.book.specs.Check.{refused, accepted, headerMinutes}
 use Rattle.book.specs.Sound.{Heading, Sound}
 use Rattle.book.proofs.Exact.{sound-accepted, reads-back, sound-reads}
 use Rattle.rule.specs.Joined.{joinCalls}
-use Rattle.rule.specs.Whole.{Tree, leaf, node, leaves, joined}
+use Rattle.rule.specs.Whole.{Tree, leaf, node, leaves, treeJoined}
 use Rattle.rule.proofs.Merging.{join-long}
 use Rattle.rule.proofs.Bounds.{Calls, Sounds, tree-sound}
 use Rattle.rule.proofs.Orders.{Over}
@@ -123,20 +123,20 @@ module _ (h : Header) where
       rw (sym (sound-reads b s .0) ∙ o .header b (here refl)) at (s .heading)
   heading (join l r out) o = heading l (left-month l r out o)
 
-  pub tree-calls : (p : Plan) → OneMonth h (books p) → Calls (headerMinutes h) (joined (treeOf p))
+  pub tree-calls : (p : Plan) → OneMonth h (books p) → Calls (headerMinutes h) (treeJoined (treeOf p))
   tree-calls p o = tree-sound (headerMinutes h) (treeOf p) (λ d i. month-sounds (books p) o d (covers-over p (books p) (own p) .only d i))
 
-  key-count : (p : Plan) → OneMonth h (books p) → length (joined (treeOf p)) ≡ keyCount (books p)
+  key-count : (p : Plan) → OneMonth h (books p) → length (treeJoined (treeOf p)) ≡ keyCount (books p)
   unfolding keyCount
   key-count p o = number-of-keys (headerMinutes h) (treeOf p) (map callsOf (books p)) (covers-over p (books p) (own p)) (month-sounds (books p) o)
 
   -- what a tree gives: the book of its calls, or a refusal 8
   pub record Gives (p : Plan) : Type 0 where
-    pub few : length (joined (treeOf p)) ≤ mostRecords version → AllAccepted p × (result p .number ≡ 0) × (written (result p) ≡ bookBytes version h (joined (treeOf p)))
-    pub many : mostRecords version < length (joined (treeOf p)) → result p .number ≡ 8
+    pub few : length (treeJoined (treeOf p)) ≤ mostRecords version → AllAccepted p × (result p .number ≡ 0) × (written (result p) ≡ bookBytes version h (treeJoined (treeOf p)))
+    pub many : mostRecords version < length (treeJoined (treeOf p)) → result p .number ≡ 8
 
   gives-book : (b : List ℕ) → Sound b → headerAt b ≡ h → Gives (book b)
-  unfolding result treeOf joined
+  unfolding result treeOf treeJoined
   gives-book b s e =
       record {
         few = λ f. (tt, refl, take-length b ∙ sound-bytes b s ∙ ap (λ (k : Header). bookBytes version k (callsOf b)) e);
@@ -158,14 +158,14 @@ module _ (h : Header) where
 
   gives-join : (l r : Plan) (out : List ℕ) → OneMonth h (books (join l r out)) → Gives l → Gives r
       → (keyCount (books (join l r out)) ≤ mostRecords version → sizeOf (keyCount (books (join l r out))) ≤ length out) → Gives (join l r out)
-  unfolding result treeOf joined
+  unfolding result treeOf treeJoined
   gives-join l r out o gl gr room = go (decLe (length xs) (mostRecords version)) (decLe (length ys) (mostRecords version))
     where
       xs : List Call
-      xs = joined (treeOf l)
+      xs = treeJoined (treeOf l)
 
       ys : List Call
-      ys = joined (treeOf r)
+      ys = treeJoined (treeOf r)
 
       count : length (joinCalls xs ys) ≡ keyCount (books (join l r out))
       count = key-count (join l r out) o

@@ -24,7 +24,7 @@ ghost use Rattle.le.specs.Le.{Stores};
 ghost use Rattle.call.specs.Layout.{recordSize, callAt, callBytes};
 ghost use Rattle.book.specs.Book.{version, mostRecords, sizeOf, headerAt, countAt, recordBytes, bookBytes};
 ghost use Rattle.rule.specs.Standing.{given};
-ghost use Rattle.pair.specs.Screening.{Accepted};
+ghost use Rattle.pair.specs.Screening.{IsAccepted};
 ghost use Rattle.join.specs.Joining.{joinOutcome, joinRefused, keysOfBoth, overflow, joinedOf, joining};
 ghost use Rattle.join.specs.Steps.{leftOf, RecordLies, Spells, wordBytes, KeyCounted, KeyPut, Merged};
 
@@ -73,8 +73,8 @@ fn next_from(first: &[u8], a: usize, second: &[u8], b: usize) -> Next
 
 // How many different keys the books have: a step for each key while both books have records, and then the rest of one book.
 fn keys_of_both(first: &[u8], second: &[u8]) -> usize
-    requires { ⌜ Accepted (now first) ⌝ }
-    requires { ⌜ Accepted (now second) ⌝ }
+    requires { ⌜ IsAccepted (now first) ⌝ }
+    requires { ⌜ IsAccepted (now second) ⌝ }
     ensures { λ r. ⌜ r ≡ keysOfBoth (now (first .entry)) (now (second .entry)) ⌝ }
 {
     let e = size_of(count_at(first));
@@ -203,8 +203,8 @@ pub struct Reached {
 
 // The records of the join, each straight to its place, while both books have records.
 fn put_both(first: &[u8], second: &[u8], out: &mut [u8]) -> Reached
-    requires { ⌜ Accepted (now first) ⌝ }
-    requires { ⌜ Accepted (now second) ⌝ }
+    requires { ⌜ IsAccepted (now first) ⌝ }
+    requires { ⌜ IsAccepted (now second) ⌝ }
     requires { ⌜ recordSize * keysOfBoth (now first) (now second) ≤ length (now out) ⌝ }
     ensures { λ r. ⌜ Merged (now (first .entry)) (now (second .entry)) (now (out .entry)) r (now (out .exit)) ⌝ }
 {
@@ -233,7 +233,7 @@ fn put_both(first: &[u8], second: &[u8], out: &mut [u8]) -> Reached
 
 // The rest of a book, from record i on, behind the k records that the output has.
 fn put_rest(s: &[u8], i: usize, out: &mut [u8], k: usize) -> usize
-    requires { ⌜ Accepted (now s) ⌝ }
+    requires { ⌜ IsAccepted (now s) ⌝ }
     requires { ⌜ i ≤ countAt (now s) ⌝ }
     requires { ⌜ recordSize * (k + (countAt (now s) - i)) ≤ length (now out) ⌝ }
     ensures { λ r. ⌜ (r ≡ k + (countAt (now (s .entry)) - i))
@@ -255,8 +255,8 @@ fn put_rest(s: &[u8], i: usize, out: &mut [u8], k: usize) -> usize
 
 // All records of the join. Answers with how many there are.
 fn put_records(first: &[u8], second: &[u8], out: &mut [u8]) -> usize
-    requires { ⌜ Accepted (now first) ⌝ }
-    requires { ⌜ Accepted (now second) ⌝ }
+    requires { ⌜ IsAccepted (now first) ⌝ }
+    requires { ⌜ IsAccepted (now second) ⌝ }
     requires { ⌜ recordSize * keysOfBoth (now first) (now second) ≤ length (now out) ⌝ }
     ensures { λ r. ⌜ (r ≡ keysOfBoth (now (first .entry)) (now (second .entry)))
         × Stores (now (out .entry)) 0 (recordBytes (joinedOf (now (first .entry)) (now (second .entry)))) (now (out .exit)) ⌝ }
@@ -271,8 +271,8 @@ fn put_records(first: &[u8], second: &[u8], out: &mut [u8]) -> usize
 // The joined book: its records, and then the header, which has their number. The part of the output behind the header is lent
 // to the writer of the records. Answers with their number.
 fn put_book(first: &[u8], second: &[u8], out: &mut [u8]) -> usize
-    requires { ⌜ Accepted (now first) ⌝ }
-    requires { ⌜ Accepted (now second) ⌝ }
+    requires { ⌜ IsAccepted (now first) ⌝ }
+    requires { ⌜ IsAccepted (now second) ⌝ }
     requires { ⌜ keysOfBoth (now first) (now second) ≤ mostRecords version ⌝ }
     requires { ⌜ sizeOf (keysOfBoth (now first) (now second)) ≤ length (now out) ⌝ }
     ensures { λ r. ⌜ (r ≡ keysOfBoth (now (first .entry)) (now (second .entry)))
@@ -288,8 +288,8 @@ fn put_book(first: &[u8], second: &[u8], out: &mut [u8]) -> usize
 
 // 8 and 9. The keys are counted only where the records of both books together are too many, or too long for the output.
 fn overflow(first: &[u8], second: &[u8], room: usize) -> Verdict
-    requires { ⌜ Accepted (now first) ⌝ }
-    requires { ⌜ Accepted (now second) ⌝ }
+    requires { ⌜ IsAccepted (now first) ⌝ }
+    requires { ⌜ IsAccepted (now second) ⌝ }
     ensures { λ r. ⌜ r ≡ overflow (keysOfBoth (now (first .entry)) (now (second .entry))) room ⌝ }
 {
     let n = count_at(first);

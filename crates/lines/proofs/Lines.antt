@@ -22,7 +22,7 @@ use Rattle.share.specs.declared.Line.{Line}
 use Rattle.share.specs.Sharing.{lineIsSound, mostNumber, mostStatus, mostEnergy, mostCompensation, mostAssessment}
 use Rattle.share.specs.Forms.{blankLine}
 use Rattle.lines.specs.Text.{space, asLine, lineOf, sharingLines}
-use Rattle.lines.specs.Meaning.{fair, fiveOf, lineIn, wholeLine}
+use Rattle.lines.specs.Meaning.{fairLine, fiveOf, lineIn, wholeLine}
 
 -- Limits
 
@@ -94,23 +94,23 @@ held-same l h =
     let a : hold (l .assessment .0) ≡ l .assessment .0 = omega (arith, leb-true (l .assessment .0) mostAssessment (p .1 .1 .1 .1 .0)) in
     λ i. record { number = n i; status = s i; energy = record { 0 = e i }; compensation = record { 0 = c i }; assessment = record { 0 = a i }; share = l .share; amount = l .amount }
 
-fair-beyond : (l : Line) → within l ≡ false → fair l ≡ blankLine
+fair-beyond : (l : Line) → within l ≡ false → fairLine l ≡ blankLine
 unfolding fairBy
 fair-beyond l h = rw (splits 0 l, h)
 
-fair-held : (l : Line) → fair (heldLine l) ≡ fair l
+fair-held : (l : Line) → fairLine (heldLine l) ≡ fairLine l
 fair-held l = go (within l) refl
   where
-    go : (t : Bool) → within l ≡ t → fair (heldLine l) ≡ fair l
-    go true h = ap (λ (x : Line). fair x) (held-same l h)
+    go : (t : Bool) → within l ≡ t → fairLine (heldLine l) ≡ fairLine l
+    go true h = ap (λ (x : Line). fairLine x) (held-same l h)
     go false h = fair-beyond (heldLine l) (held-within l ∙ h) ∙ sym (fair-beyond l h)
 
 -- HOLDING A NUMBER CHANGES NO JUDGEMENT: a line is sound just where its numbers are as they stand, and a sound line has them so.
-pub holds : (bytes : List ℕ) → fair (wholeLine bytes) ≡ fair (lineOf bytes)
+pub holds : (bytes : List ℕ) → fairLine (wholeLine bytes) ≡ fairLine (lineOf bytes)
 unfolding numbersOf lineOf
 holds bytes =
     let ns = numbersIn 5 (partsOf space bytes) in
-    ap (λ (x : Line). fair x) (held-line ns) ∙ fair-held (asLine ns)
+    ap (λ (x : Line). fairLine x) (held-line ns) ∙ fair-held (asLine ns)
 
 -- Five numbers
 
@@ -150,24 +150,24 @@ module _ (d : List ℕ) (a : ℕ) where
       let p = each (ltb 0 (getD d 0 0)) (five-tests d a) h in
       (leb-true _ _ (p .1 .0), leb-true _ _ (p .1 .1 .0), leb-true _ _ (p .1 .1 .1 .0), leb-true _ _ (p .1 .1 .1 .1 .1 .0))
 
-  fair-five : (t : Bool) → five-test d a ≡ t → fair (lineBy d a) ≡ cond t (lineBy d a) blankLine
+  fair-five : (t : Bool) → five-test d a ≡ t → fairLine (lineBy d a) ≡ cond t (lineBy d a) blankLine
   unfolding fairBy lineIsSound
   fair-five t h = rw h
 
-  pub five-sound : length d ≡ 5 → five-test d a ≡ true → lineBy d a ≡ fair (asLine (fiveOf d a))
-  five-sound l h = sym (fair-five true h) ∙ ap (λ (x : Line). fair x) (line-by d a l)
+  pub five-sound : length d ≡ 5 → five-test d a ≡ true → lineBy d a ≡ fairLine (asLine (fiveOf d a))
+  five-sound l h = sym (fair-five true h) ∙ ap (λ (x : Line). fairLine x) (line-by d a l)
 
-  pub five-bad : length d ≡ 5 → five-test d a ≡ false → blankLine ≡ fair (asLine (fiveOf d a))
-  five-bad l h = sym (fair-five false h) ∙ ap (λ (x : Line). fair x) (line-by d a l)
+  pub five-bad : length d ≡ 5 → five-test d a ≡ false → blankLine ≡ fairLine (asLine (fiveOf d a))
+  five-bad l h = sym (fair-five false h) ∙ ap (λ (x : Line). fairLine x) (line-by d a l)
 
 -- A line that ends
 
 pub line-whole : (row : Row) (five : List ℕ) (v : ℕ) → isRow 4 row [] [] ≡ true → five ≡ rowFirstFive row → v ≡ hold (row .value)
-    → fair (asLine (fiveOf five v)) ≡ lineIn row
+    → fairLine (asLine (fiveOf five v)) ≡ lineIn row
 line-whole row five v h f e =
-    ap (λ (ns : List ℕ). fair (asLine (ns ++ v ∷ []))) (ap (take 4) f ∙ take-take 4 5 (row .ended) (omega arith))
-    ∙ ap (λ (ns : List ℕ). fair (asLine ns)) (sym (whole-row space 4 row v h e))
+    ap (λ (ns : List ℕ). fairLine (asLine (ns ++ v ∷ []))) (ap (take 4) f ∙ take-take 4 5 (row .ended) (omega arith))
+    ∙ ap (λ (ns : List ℕ). fairLine (asLine ns)) (sym (whole-row space 4 row v h e))
 
 pub line-none : (row : Row) → isRow 4 row [] [] ≡ false → blankLine ≡ lineIn row
 unfolding fairBy lineIsSound
-line-none row h = ap (λ (ns : List ℕ). fair (asLine ns)) (sym (none-row space 4 row h))
+line-none row h = ap (λ (ns : List ℕ). fairLine (asLine ns)) (sym (none-row space 4 row h))

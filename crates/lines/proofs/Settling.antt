@@ -10,7 +10,7 @@ use lib.ListN.{length, take, getD, replicate, length-take, length-replicate}
 use borrow.Author.Tests.{ltb-true, ltb-false, leb-true, eqb-true, eqb-false, lt-ltb, le-ltb, le-leb, eq-eqb, ne-eqb, not-true, not-false}
 use Rattle.le.proofs.Tests.{Hold, each, all}
 use Rattle.row.specs.declared.Row.{Row}
-use Rattle.row.specs.Numbers.{onto, partsOf, linesOf, isDigit, digits, some, numbers, value, hold}
+use Rattle.row.specs.Numbers.{onto, partsOf, linesOf, isDigit, digits, notEmpty, numbers, value, hold}
 use Rattle.row.specs.Meaning.{rowIsBegun, isRow, rowAt, rowParts, rowNumbers}
 use Rattle.row.specs.Judging.{refusedAt}
 use Rattle.row.specs.Inner.{judgeFrom, judgedOn}
@@ -42,29 +42,29 @@ module _ (row : Row) where
     unfolding numberBytes
     number-64 e = rw (le-ltb 0 (row .at) h, eq-eqb (row .value) 0 e)
 
-    module _ (some : row .value ≡ 0 → ⊥) where
+    module _ (notEmpty : row .value ≡ 0 → ⊥) where
       pub number-9 : row .value < 6 → numberBytes row ≡ 57 ∷ []
       unfolding numberBytes
-      number-9 k = rw (le-ltb 0 (row .at) h, ne-eqb (row .value) 0 some, lt-ltb (row .value) 6 k)
+      number-9 k = rw (le-ltb 0 (row .at) h, ne-eqb (row .value) 0 notEmpty, lt-ltb (row .value) 6 k)
 
       pub number-4 : 6 ≤ row .value → row .value ≡ 6 → numberBytes row ≡ 52 ∷ []
       unfolding numberBytes
-      number-4 k e = rw (le-ltb 0 (row .at) h, ne-eqb (row .value) 0 some, le-ltb (row .value) 6 k, eq-eqb (row .value) 6 e)
+      number-4 k e = rw (le-ltb 0 (row .at) h, ne-eqb (row .value) 0 notEmpty, le-ltb (row .value) 6 k, eq-eqb (row .value) 6 e)
 
       pub number-none : 6 ≤ row .value → (row .value ≡ 6 → ⊥) → numberBytes row ≡ []
       unfolding numberBytes
-      number-none k e = rw (le-ltb 0 (row .at) h, ne-eqb (row .value) 0 some, le-ltb (row .value) 6 k, ne-eqb (row .value) 6 e)
+      number-none k e = rw (le-ltb 0 (row .at) h, ne-eqb (row .value) 0 notEmpty, le-ltb (row .value) 6 k, ne-eqb (row .value) 6 e)
 
 -- they are digits, there is one, and they make the number no higher
 record Next (row : Row) (p nb : List ℕ) : Type 0 where
   digits : digits nb ≡ true
-  some : (row .digit || some nb) ≡ true
+  some : (row .digit || notEmpty nb) ≡ true
   low : value (row .value) nb ≤ value (row .value) p
 
-next : (row : Row) (p : List ℕ) → 0 < row .at → (row .digit || some p) ≡ true → Next row p (numberBytes row)
+next : (row : Row) (p : List ℕ) → 0 < row .at → (row .digit || notEmpty p) ≡ true → Next row p (numberBytes row)
 next row p h s = go (row .digit) refl p s
   where
-    go : (d : Bool) → row .digit ≡ d → (p : List ℕ) → (row .digit || some p) ≡ true → Next row p (numberBytes row)
+    go : (d : Bool) → row .digit ≡ d → (p : List ℕ) → (row .digit || notEmpty p) ≡ true → Next row p (numberBytes row)
     go true e p s = rw (number-has row h e) (record { digits = refl; some = rw e; low = grows (row .value) p })
     go false e [] s = absurd (true≢false (sym s ∙ rw e))
     go false e (d ∷ p) s =
@@ -73,7 +73,7 @@ next row p h s = go (row .digit) refl p s
 -- of the first number, they make it the highest up to 64
 record First (b : ℕ) (row : Row) (nb : List ℕ) : Type 0 where
   digits : digits nb ≡ true
-  some : (row .digit || some nb) ≡ true
+  some : (row .digit || notEmpty nb) ≡ true
   above : b < value (row .value) nb
   within : value (row .value) nb ≤ 64
 
@@ -91,7 +91,7 @@ whole : (v : ℕ) (p : List ℕ) → 6 < v → value v p ≤ 64 → p ≡ []
 whole v [] k m = refl
 whole v (d ∷ p) k m = absurd (omega (arith, grows (v * 10 + (d - 48)) p))
 
-module _ (b : ℕ) (row : Row) (p : List ℕ) (at : row .at ≤ 0) (ds : digits p ≡ true) (s : (row .digit || some p) ≡ true)
+module _ (b : ℕ) (row : Row) (p : List ℕ) (at : row .at ≤ 0) (ds : digits p ≡ true) (s : (row .digit || notEmpty p) ≡ true)
     (above : b < value (row .value) p) (within : value (row .value) p ≤ 64) where
   first-none : (row .value ≡ 0 → ⊥) → 6 ≤ row .value → (row .value ≡ 6 → ⊥) → First b row (numberBytes row)
   first-none z k e =
@@ -99,7 +99,7 @@ module _ (b : ℕ) (row : Row) (p : List ℕ) (at : row .at ≤ 0) (ds : digits 
       rw (number-none row at z k e)
       (record {
         digits = refl;
-        some = ap (λ (q : List ℕ). row .digit || some q) (sym none) ∙ s;
+        some = ap (λ (q : List ℕ). row .digit || notEmpty q) (sym none) ∙ s;
         above = subst (λ (q : List ℕ). b < value (row .value) q) none above;
         within = subst (λ (q : List ℕ). value (row .value) q ≤ 64) none within;
       })
@@ -150,12 +150,12 @@ in-sound b ns h =
 -- a lower number behind the first, and zeros behind that, keep to the limits
 in-next : (b : ℕ) (pre : List ℕ) (v w : ℕ) (ws zs : List ℕ) → 0 < length pre → length pre ≤ 4 → w ≤ v → ((j : ℕ) → getD zs j 0 ≡ 0)
     → In b (pre ++ v ∷ ws) → In b (pre ++ w ∷ zs)
-in-next b [] v w ws zs some few l z h = absurd (omega arith)
-in-next b (n ∷ []) v w ws zs some few l z h = (h .0, h .1, omega (arith, h .2), omega (arith, z 0), omega (arith, z 1), omega (arith, z 2))
-in-next b (n ∷ s ∷ []) v w ws zs some few l z h = (h .0, h .1, h .2, omega (arith, h .3), omega (arith, z 0), omega (arith, z 1))
-in-next b (n ∷ s ∷ e ∷ []) v w ws zs some few l z h = (h .0, h .1, h .2, h .3, omega (arith, h .4), omega (arith, z 0))
-in-next b (n ∷ s ∷ e ∷ c ∷ []) v w ws zs some few l z h = (h .0, h .1, h .2, h .3, h .4, omega (arith, h .5))
-in-next b (n ∷ s ∷ e ∷ c ∷ a ∷ pre) v w ws zs some few l z h = absurd (omega arith)
+in-next b [] v w ws zs notEmpty few l z h = absurd (omega arith)
+in-next b (n ∷ []) v w ws zs notEmpty few l z h = (h .0, h .1, omega (arith, h .2), omega (arith, z 0), omega (arith, z 1), omega (arith, z 2))
+in-next b (n ∷ s ∷ []) v w ws zs notEmpty few l z h = (h .0, h .1, h .2, omega (arith, h .3), omega (arith, z 0), omega (arith, z 1))
+in-next b (n ∷ s ∷ e ∷ []) v w ws zs notEmpty few l z h = (h .0, h .1, h .2, h .3, omega (arith, h .4), omega (arith, z 0))
+in-next b (n ∷ s ∷ e ∷ c ∷ []) v w ws zs notEmpty few l z h = (h .0, h .1, h .2, h .3, h .4, omega (arith, h .5))
+in-next b (n ∷ s ∷ e ∷ c ∷ a ∷ pre) v w ws zs notEmpty few l z h = absurd (omega arith)
 
 in-first : (b w : ℕ) (zs : List ℕ) → b < w → w ≤ 64 → ((j : ℕ) → getD zs j 0 ≡ 0) → In b (w ∷ zs)
 in-first b w zs h k z = (h, k, omega (arith, z 0), omega (arith, z 1), omega (arith, z 2), omega (arith, z 3))
@@ -204,7 +204,7 @@ five-of b row p ps h = go (isRow 4 row p ps) refl h
     go false e k = absurd (true≢false (sym k ∙ blank-bad b))
 
 five-tests : Row → List ℕ → List (List ℕ) → List Bool
-five-tests row p ps = digits p ∷ (row .digit || some p) ∷ numbers ps ∷ eqb (row .at + length ps) 4 ∷ []
+five-tests row p ps = digits p ∷ (row .digit || notEmpty p) ∷ numbers ps ∷ eqb (row .at + length ps) 4 ∷ []
 
 module _ (b : ℕ) (row : Row) (long : 4 ≤ length (row .ended)) where
   best-at : (p : List ℕ) (ps : List (List ℕ)) → lineIsSound b (asLine (rowAt 4 row p ps)) ≡ true → lineIsSound b (rowLine row (bestBytes row)) ≡ true
@@ -223,7 +223,7 @@ module _ (b : ℕ) (row : Row) (long : 4 ≤ length (row .ended)) where
       few : row .at ≤ 4
       few = omega (arith, eqb-true (row .at + length ps) 4 (t .1 .1 .1 .1 .0))
 
-      end : digits (numberBytes row) ≡ true → (row .digit || some (numberBytes row)) ≡ true
+      end : digits (numberBytes row) ≡ true → (row .digit || notEmpty (numberBytes row)) ≡ true
           → In b (fiveWith row (numberBytes row) (zeroPieces (4 - row .at)))
           → lineIsSound b (rowLine row (bestBytes row)) ≡ true
       end ds s l =

@@ -6,7 +6,7 @@ use Prim.Native.Nat.{ℕ}
 use lib.Dec.{eqb}
 use lib.ListN.{drop}
 use borrow.Author.Tests.{ne-eqb}
-use Rattle.row.specs.Numbers.{onto, partsOf, isDigit, digits, some, isNumber, numbers, numbersIn}
+use Rattle.row.specs.Numbers.{onto, partsOf, isDigit, digits, notEmpty, isNumber, numbers, numbersIn}
 use Rattle.row.proofs.Texts.{and-false}
 use Rattle.share.specs.Forms.{blankLine}
 use Rattle.lines.specs.Text.{lineOf}
@@ -57,9 +57,9 @@ unfolding allDigits
 no-numbers [] h = absurd (true≢false h)
 no-numbers (p ∷ ps) h = go (digits p) h (no-numbers ps)
   where
-    go : (d : Bool) → (d && allDigits ps) ≡ false → (allDigits ps ≡ false → numbers ps ≡ false) → (d && some p && numbers ps) ≡ false
+    go : (d : Bool) → (d && allDigits ps) ≡ false → (allDigits ps ≡ false → numbers ps ≡ false) → (d && notEmpty p && numbers ps) ≡ false
     go false k rec = refl
-    go true k rec = rw (rec k) (and-false (some p))
+    go true k rec = rw (rec k) (and-false (notEmpty p))
 
 foreign : (pre post : List ℕ) (b : ℕ) → isDigit b ≡ false → (b ≡ 32 → ⊥) → allDigits (partsOf 32 (pre ++ b ∷ post)) ≡ false
 unfolding allDigits

@@ -23,12 +23,12 @@ abbrev pub rowLine : Row → List ℕ → Line
 rowLine row rest = asLine (rowNumbers space (lineColumns - 1) row rest)
 
 -- a line that is not sound after no number is as bad as a blank one
-abbrev pub fair : Line → Line
-fair l = fairBy sharingLines l
+abbrev pub fairLine : Line → Line
+fairLine l = fairBy sharingLines l
 
 -- the line, if it ends here
 abbrev pub lineIn : Row → Line
-lineIn row = fair (rowLine row [])
+lineIn row = fairLine (rowLine row [])
 
 -- five numbers, the last of them by itself
 abbrev pub fiveOf : List ℕ → ℕ → List ℕ

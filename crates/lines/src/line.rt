@@ -12,7 +12,7 @@ ghost use mathlib.Core.Path.{_≡_};
 ghost use mathlib.Core.List.{List, [], _++_};
 ghost use Prim.Native.Nat.{ℕ};
 ghost use Rattle.lines.specs.Text.{asLine};
-ghost use Rattle.lines.specs.Meaning.{fair, fiveOf, lineIn, rowLine, LineFollows, bestBytes, numberBytes};
+ghost use Rattle.lines.specs.Meaning.{fairLine, fiveOf, lineIn, rowLine, LineFollows, bestBytes, numberBytes};
 
 // A line is five numbers.
 const COLUMNS: usize = 5;
@@ -66,7 +66,7 @@ pub fn best(start: Row) -> Row
 
 // The line of five numbers, or a blank one where a number is past its limit.
 fn typed(ended: [u64; 5], assessed: u64) -> Line
-    ensures { λ r. ⌜ r ≡ fair (asLine (fiveOf ended assessed)) ⌝ }
+    ensures { λ r. ⌜ r ≡ fairLine (asLine (fiveOf ended assessed)) ⌝ }
 {
     let n = ended[0];
     let s = ended[1];

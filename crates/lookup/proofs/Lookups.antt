@@ -24,7 +24,7 @@ use Rattle.rule.specs.Standing.{sameCall, isContested, isWithdrawn, decide, giv
 use Rattle.rule.specs.Keys.{recordOf}
 use Rattle.rule.specs.Joined.{joinedAt}
 use Rattle.rule.proofs.Joins.{join-find}
-use Rattle.pair.specs.Screening.{Accepted, screen}
+use Rattle.pair.specs.Screening.{IsAccepted, screen}
 use Rattle.pair.proofs.Screening.{Screened, passed-screen, screen-passes}
 use Rattle.join.specs.Joining.{joinedOf, joining}
 use Rattle.join.specs.Trees.{written}
@@ -103,7 +103,7 @@ module _ (a b : List ℕ) (z : screen a b .number ≡ 0) (participant number : �
       go (found i h p f) (found j l q g) = both i j h l f g (decide (recordAt a i) (recordAt b j)) refl (joined-is f g) (place-is p q)
 
 -- the part of a record in an accepted book
-part-of : (b : List ℕ) → IsBytes b → Accepted b → (i : ℕ) → i < countAt b → take recordSize (drop (placeOf i) b) ≡ callBytes (recordAt b i)
+part-of : (b : List ℕ) → IsBytes b → IsAccepted b → (i : ℕ) → i < countAt b → take recordSize (drop (placeOf i) b) ≡ callBytes (recordAt b i)
 unfolding recordAt
 part-of b small e i h = let r = has b e i h in record-part b small (placeOf i) (r .long) (r .zeros)
 

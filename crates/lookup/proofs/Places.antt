@@ -23,7 +23,7 @@ use Rattle.rule.specs.declared.Decision.the-variants.{First, Second, Struck}
 use Rattle.rule.specs.Standing.{decide}
 use Rattle.rule.specs.Keys.{recordOf}
 use Rattle.rule.proofs.Keyed.{find-hit, find-miss}
-use Rattle.pair.specs.Screening.{Accepted, screen}
+use Rattle.pair.specs.Screening.{IsAccepted, screen}
 use Rattle.pair.proofs.Screening.{passed-screen}
 use Rattle.join.proofs.Books.{few, size}
 use Rattle.lookup.specs.declared.Index.{Index}
@@ -97,17 +97,17 @@ has-index b k = go (in-book b k)
 
 abbrev InBooks : List ℕ → List ℕ → Place → Type 0
 InBooks a b Nowhere = Unit {0}
-InBooks a b (InFirst i) = Accepted a × (i < countAt a)
-InBooks a b (InSecond j) = Accepted b × (j < countAt b)
+InBooks a b (InFirst i) = IsAccepted a × (i < countAt a)
+InBooks a b (InSecond j) = IsAccepted b × (j < countAt b)
 
 module _ (a b : List ℕ) where
-  stands : Accepted a → Accepted b → (i j : ℕ) → i < countAt a → j < countAt b → (d : Decision) → InBooks a b (standsAt d i j)
+  stands : IsAccepted a → IsAccepted b → (i j : ℕ) → i < countAt a → j < countAt b → (d : Decision) → InBooks a b (standsAt d i j)
   unfolding standsAt
   stands p q i j h l First = (p, h)
   stands p q i j h l Second = (q, l)
   stands p q i j h l Struck = tt
 
-  chosen : Accepted a → Accepted b → (x y : Index) → HasIndex a x → HasIndex b y → InBooks a b (choose a x b y)
+  chosen : IsAccepted a → IsAccepted b → (x y : Index) → HasIndex a x → HasIndex b y → InBooks a b (choose a x b y)
   unfolding choose
   chosen p q Missing Missing h l = tt
   chosen p q (At i) Missing h l = (p, h)
@@ -137,7 +137,7 @@ pub in-word : (i : ℕ) → i ≤ 65535 → placeOf i < wordLimit
 in-word i h = omega arith
 
 -- its index has a place, and the record's bytes lie within the book
-pub fits : (b : List ℕ) (i : ℕ) → Accepted b → i < countAt b → (i ≤ 65535) × (placeOf i + recordSize ≤ length b)
+pub fits : (b : List ℕ) (i : ℕ) → IsAccepted b → i < countAt b → (i ≤ 65535) × (placeOf i + recordSize ≤ length b)
 fits b i e h = (omega (arith, few b e), omega (arith, size b e))
 
 module _ (a b : List ℕ) (p k : ℕ) (w : Place) (e : w ≡ which a b p k) where

@@ -11,7 +11,7 @@ ghost use mathlib.Core.Path.{_≡_};
 ghost use Prim.Native.Nat.{_<_};
 ghost use Rattle.call.specs.Key.{keyOf, callKey};
 ghost use Rattle.book.specs.Book.{countAt, recordAt};
-ghost use Rattle.pair.specs.Screening.{Accepted};
+ghost use Rattle.pair.specs.Screening.{IsAccepted};
 ghost use Rattle.lookup.specs.Lookup.{indexOf, standsAt, choose, which, Found};
 ghost use Rattle.lookup.specs.Inner.{HasIndex};
 
@@ -36,7 +36,7 @@ fn key_of(participant: u16, number: u32) -> u64
 
 // The key of record i.
 fn key_at(b: &[u8], i: usize) -> u64
-    requires { ⌜ Accepted (now b) ⌝ }
+    requires { ⌜ IsAccepted (now b) ⌝ }
     requires { ⌜ i < countAt (now b) ⌝ }
     ensures { λ r. ⌜ r ≡ callKey (recordAt (now (b .entry)) i) ⌝ }
 {
@@ -47,7 +47,7 @@ fn key_at(b: &[u8], i: usize) -> u64
 }
 
 fn index_of(key: u64, b: &[u8]) -> Index
-    requires { ⌜ Accepted (now b) ⌝ }
+    requires { ⌜ IsAccepted (now b) ⌝ }
     ensures { λ r. ⌜ r ≡ indexOf key (now (b .entry)) ⌝ }
 {
     let n = count_at(b);
@@ -72,8 +72,8 @@ fn stands_at(decision: Decision, i: usize, j: usize) -> Place
 }
 
 fn choose(first: &[u8], i: Index, second: &[u8], j: Index) -> Place
-    requires { ⌜ Accepted (now first) ⌝ }
-    requires { ⌜ Accepted (now second) ⌝ }
+    requires { ⌜ IsAccepted (now first) ⌝ }
+    requires { ⌜ IsAccepted (now second) ⌝ }
     requires { ⌜ HasIndex (now first) i ⌝ }
     requires { ⌜ HasIndex (now second) j ⌝ }
     ensures { λ r. ⌜ r ≡ choose (now (first .entry)) i (now (second .entry)) j ⌝ }

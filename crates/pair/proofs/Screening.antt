@@ -13,7 +13,7 @@ use Rattle.call.specs.Key.{callKey}
 use Rattle.book.specs.declared.Verdict.{Verdict}
 use Rattle.book.specs.Book.{sizeOf, headerAt, countAt, recordAt}
 use Rattle.book.specs.Check.{refused, accepted, isMarked, isVersioned, isHeaded, isRecord, headerMinutes, judge, checkRecords, check}
-use Rattle.pair.specs.Screening.{Accepted, raised, bothSound, sameMonth, screen}
+use Rattle.pair.specs.Screening.{IsAccepted, raised, bothSound, sameMonth, screen}
 
 -- A verdict is acceptance, or one of the numbers 1 to 6
 
@@ -65,12 +65,12 @@ module _ (a b : List ℕ) where
   unfolding bothSound
   both-first v e z = rw (← e, ne-eqb (v .number) 0 z) refl
 
-  module _ (p : Accepted a) where
+  module _ (p : IsAccepted a) where
     pub both-second : (w : Verdict) → w ≡ check b → (w .number ≡ 0 → ⊥) → raised w ≡ bothSound a b
     unfolding bothSound
     both-second w e z = rw (p, ← e, ne-eqb (w .number) 0 z) refl
 
-    pub both-pass : Accepted b → accepted ≡ bothSound a b
+    pub both-pass : IsAccepted b → accepted ≡ bothSound a b
     unfolding bothSound
     both-pass q = rw (p, q) refl
 
@@ -78,7 +78,7 @@ module _ (a b : List ℕ) where
 pub data Both (a b : List ℕ) : Type 0 where
   first-bad : 1 ≤ check a .number → check a .number ≤ 6 → check a ≡ bothSound a b → Both a b
   second-bad : 1 ≤ check b .number → check b .number ≤ 6 → raised (check b) ≡ bothSound a b → Both a b
-  neither-bad : Accepted a → Accepted b → accepted ≡ bothSound a b → Both a b
+  neither-bad : IsAccepted a → IsAccepted b → accepted ≡ bothSound a b → Both a b
 
 pub both : (a b : List ℕ) → Both a b
 both a b = go (check-judged a) (check-judged b)
@@ -88,10 +88,10 @@ both a b = go (check-judged a) (check-judged b)
     go (inl p) (inr q) = let l = q .0 in second-bad l (q .1) (both-second a b p (check b) refl (λ z. omega arith))
     go (inl p) (inl q) = neither-bad p q (both-pass a b p q)
 
-pub passed-both : (a b : List ℕ) → bothSound a b .number ≡ 0 → Accepted a × Accepted b
+pub passed-both : (a b : List ℕ) → bothSound a b .number ≡ 0 → IsAccepted a × IsAccepted b
 passed-both a b z = go (both a b)
   where
-    go : Both a b → Accepted a × Accepted b
+    go : Both a b → IsAccepted a × IsAccepted b
     go (first-bad l h e) = absurd (omega (arith, ap (λ (v : Verdict). v .number) e))
     go (second-bad l h e) = absurd (omega (arith, ap (λ (v : Verdict). v .number) e))
     go (neither-bad p q e) = (p, q)
@@ -103,7 +103,7 @@ module _ (a b : List ℕ) where
   unfolding screen
   screen-both v e z = rw (← e, ne-eqb (v .number) 0 z) refl
 
-  module _ (p : Accepted a) (q : Accepted b) where
+  module _ (p : IsAccepted a) (q : IsAccepted b) where
     pub screen-month : sameMonth (headerAt a) (headerAt b) ≡ false → refused 7 0 ≡ screen a b
     unfolding screen
     screen-month e = rw (← both-pass a b p q, e) refl
@@ -114,8 +114,8 @@ module _ (a b : List ℕ) where
 
 -- what a passed screen says
 pub record Screened (a b : List ℕ) : Type 0 where
-  pub first : Accepted a
-  pub second : Accepted b
+  pub first : IsAccepted a
+  pub second : IsAccepted b
   pub month : sameMonth (headerAt a) (headerAt b) ≡ true
 
 pub passed-screen : (a b : List ℕ) → screen a b .number ≡ 0 → Screened a b

@@ -10,8 +10,8 @@ use Rattle.book.specs.Book.{headerAt}
 use Rattle.book.specs.Check.{refused, accepted, check}
 
 -- a book that its check accepts
-abbrev pub Accepted : List ℕ → Type 0
-Accepted b = check b ≡ accepted
+abbrev pub IsAccepted : List ℕ → Type 0
+IsAccepted b = check b ≡ accepted
 
 abbrev pub passes : Verdict → Bool
 passes v = eqb (v .number) 0

@@ -11,7 +11,7 @@ ghost use Prim.Native.Nat.{_+_, _≤_};
 ghost use lib.Dec.{ltb};
 ghost use lib.ListN.{length};
 ghost use Rattle.call.specs.Key.{callKey};
-ghost use Rattle.call.specs.Layout.{callAt};
+ghost use Rattle.call.specs.Layout.{recordSize, callAt};
 ghost use Rattle.pair.specs.Screening.{bothSound, sameMonth, screen};
 
 // The refusals of each book alone: the first book's, then the second's, whose numbers are raised by 20.
@@ -51,8 +51,8 @@ pub fn screen(first: &[u8], second: &[u8]) -> Verdict
 
 // Whether one record's key is below another's: by participant, then number.
 pub fn precedes(x: &[u8], a: usize, y: &[u8], b: usize) -> bool
-    requires { ⌜ a + 32 ≤ length (now x) ⌝ }
-    requires { ⌜ b + 32 ≤ length (now y) ⌝ }
+    requires { ⌜ a + recordSize ≤ length (now x) ⌝ }
+    requires { ⌜ b + recordSize ≤ length (now y) ⌝ }
     ensures { λ r. ⌜ r ≡ ltb (callKey (callAt (now (x .entry)) a)) (callKey (callAt (now (y .entry)) b)) ⌝ }
 {
     let p = participant_at(x, a);

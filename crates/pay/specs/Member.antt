@@ -6,8 +6,8 @@ use Rattle.pay.specs.declared.Member.{Member}
 use Rattle.pay.specs.Kinds.{coal, gas, hydro, wind, photovoltaic, solarThermal, pumpedStorage, newStorage}
 
 -- participants are numbered 1 to 64
-abbrev pub mostNumber : ℕ
-mostNumber = 64
+abbrev pub mostMember : ℕ
+mostMember = 64
 
 -- rated kW are 1 to 4,000,000
 abbrev pub mostRated : ℕ
@@ -16,7 +16,7 @@ mostRated = 4000000
 -- participant 1 to 64, kind 1 to 8, rated kW 1 to 4,000,000
 unfoldable pub memberIsSound : Member → Bool
 memberIsSound m =
-    leb 1 (m .number) && leb (m .number) mostNumber
+    leb 1 (m .number) && leb (m .number) mostMember
     && leb coal (m .kind) && leb (m .kind) newStorage
     && leb 1 (m .rated .0) && leb (m .rated .0) mostRated
 

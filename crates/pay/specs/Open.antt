@@ -5,7 +5,7 @@ use lib.Dec.{eqb, leb}
 use lib.IntN.{ℤ, pos, negsuc}
 use lib.Signed.{leZ}
 use Rattle.call.specs.declared.Call.{Call}
-use Rattle.call.specs.Services.{deepPeak, reserve, startStop, standby, blackStart, agcAvailability, agcContribution, frequencyEvent, avc, stabilityTrip}
+use Rattle.call.specs.Services.{deepPeak, reserve, startStop, standby, blackStart, agcAvailability, agcContribution, frequencyEvent, avc, stabilityTrip, mostRate}
 use Rattle.pay.specs.declared.Member.{Member}
 use Rattle.pay.specs.declared.open.Month.{Month}
 use Rattle.pay.specs.Member.{isByRate, hasAvailability}
@@ -25,7 +25,7 @@ reserveOpen kind N a =
 
 -- 8: wind and photovoltaic with a = 0 and b at most 10,000, the other kinds as the call comes
 unfoldable pub eventOpen : ℕ → ℤ → ℕ → Bool
-eventOpen kind a b = cond (isByRate kind) (isZero a && leb b 10000) true
+eventOpen kind a b = cond (isByRate kind) (isZero a && leb b mostRate) true
 
 -- what is open in a month, a row for each service: 5, 7, 9 and 10 to all kinds
 unfoldable pub openTo : Month → Member → Call → Bool

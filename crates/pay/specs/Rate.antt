@@ -2,6 +2,7 @@
 use mathlib.Core.Bool.{cond, _&&_, _||_}
 use Prim.Native.Nat.{ℕ, _+_, _-_, _*_, _/_, min}
 use lib.Dec.{eqb, ltb, leb}
+use Rattle.units.specs.Month.{minutesPerDay}
 use Rattle.call.specs.declared.Call.{Call}
 use Rattle.call.specs.Services.{startStop, standby, blackStart, agcAvailability, agcContribution, frequencyEvent, avc, stabilityTrip}
 use Rattle.pay.specs.declared.Member.{Member}
@@ -23,7 +24,7 @@ startStopRate kind minutes =
 -- 4, standby (article 20): coal a point for each whole day (house rule), at most 7 per call
 unfoldable pub standbyRate : ℕ → ℕ → ℕ
 standbyRate kind minutes =
-    cond (eqb kind coal) (min 7 (minutes / 1440) * 600000)
+    cond (eqb kind coal) (min 7 (minutes / minutesPerDay) * 600000)
     unpaid
 
 -- 5, black start (article 24): hydro and pumped storage 1 point, the others 2

@@ -5,6 +5,7 @@ use mathlib.Core.List.{List}
 use Prim.Native.Nat.{ℕ, _-_, _*_, _/_}
 use lib.Dec.{eqb, ltb}
 use lib.ListN.{getD}
+use Rattle.units.specs.Month.{minutesPerQuarter}
 use Rattle.call.specs.Services.{deepPeak, reserve}
 use Rattle.pay.specs.declared.Member.{Member}
 use Rattle.pay.specs.Kinds.{coal, gas, hydro, unpaid}
@@ -48,7 +49,7 @@ minutePay m service a p =
 
 -- a quarter hour is 15 minutes at one mean output
 unfoldable pub quarterPay : Member → ℕ → ℕ → ℕ → ℕ
-quarterPay m service a p = minutePay m service a p * 15
+quarterPay m service a p = minutePay m service a p * minutesPerQuarter
 
 -- quarter hour i of the month, by the series
 unfoldable pub quarterAt : Member → ℕ → ℕ → List ℕ → ℕ → ℕ
@@ -56,4 +57,4 @@ quarterAt m service a series i = quarterPay m service a (getD series i 0)
 
 -- a window is the sum over its quarter hours
 unfoldable pub windowPay : Member → ℕ → ℕ → List ℕ → ℕ → ℕ → ℕ
-windowPay m service a series start minutes = total (quarterAt m service a series) (start / 15) (minutes / 15)
+windowPay m service a series start minutes = total (quarterAt m service a series) (start / minutesPerQuarter) (minutes / minutesPerQuarter)

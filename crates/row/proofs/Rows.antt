@@ -12,7 +12,7 @@ use lib.Seq.{take-suc-set, append-snoc}
 use borrow.Author.Tests.{lt-ltb, ne-eqb, eq-eqb, eqb-true}
 use Rattle.le.proofs.Tests.{each}
 use Rattle.row.specs.declared.Row.{Row}
-use Rattle.row.specs.Numbers.{onto, partsOf, isDigit, digits, some, numbers, value, numbersIn, ceiling, hold, numbersOf}
+use Rattle.row.specs.Numbers.{onto, partsOf, isDigit, digits, notEmpty, numbers, value, numbersIn, ceiling, hold, numbersOf}
 use Rattle.row.specs.Meaning.{mostColumns, rowIsBegun, isRow, rowAt, rowParts, rowNumbers, RowFresh, RowFollows}
 use Rattle.row.proofs.Texts.{and-false, or-true, by-parts, grows}
 
@@ -104,7 +104,7 @@ module _ (last : ℕ) (row : Row) (digit : row .digit ≡ true) (room : row .at 
   parted-at p ps =
       let one : row .at + 1 + length ps ≡ row .at + suc (length ps) = omega arith in
       let test : isRow last (parted row) p ps ≡ isRow last row [] (p ∷ ps) =
-      rw (digit, one) (ap (λ (t : Bool). t && eqb (row .at + suc (length ps)) last) (regroup (not (row .bad)) (digits p) (some p) (numbers ps))) in
+      rw (digit, one) (ap (λ (t : Bool). t && eqb (row .at + suc (length ps)) last) (regroup (not (row .bad)) (digits p) (notEmpty p) (numbers ps))) in
       let behind = map hold (value 0 p ∷ map (value 0) ps) in
       let all : take (row .at + 1) (set (row .ended) (row .at) (hold (row .value))) ++ behind ≡ take (row .at) (row .ended) ++ hold (row .value) ∷ behind =
       rw (add-one, take-suc-set (row .ended) (row .at) (hold (row .value)) room) (append-snoc (take (row .at) (row .ended)) (hold (row .value)) behind) in

@@ -7,7 +7,7 @@ use native.Mathlib.Omega.{arith}
 use lib.Dec.{leb, eqb}
 use borrow.Author.Tests.{ne-eqb, eq-eqb, leb-true}
 use Rattle.le.proofs.Tests.{each}
-use Rattle.row.specs.Numbers.{onto, linesOf, partsOf, digitByte, isDigit, digits, some, isNumber, value}
+use Rattle.row.specs.Numbers.{onto, linesOf, partsOf, digitByte, isDigit, digits, notEmpty, isNumber, value}
 
 -- Tests
 
@@ -65,7 +65,7 @@ digit-is-not b c h k e = omega (arith, leb-true (digitByte 0) b (each (leb (digi
 
 -- A zero in front changes no number.
 pub zero-first : (p : List ℕ) → isNumber p ≡ true → (isNumber (48 ∷ p) ≡ true) × (value 0 (48 ∷ p) ≡ value 0 p)
-zero-first p h = (rw (each (digits p) (some p ∷ []) h .0), refl)
+zero-first p h = (rw (each (digits p) (notEmpty p ∷ []) h .0), refl)
 
 -- A number grows with its digits.
 pub grows : (v : ℕ) (p : List ℕ) → v ≤ value v p

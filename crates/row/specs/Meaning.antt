@@ -7,7 +7,7 @@ use Prim.Native.Nat.{ℕ, suc, _+_}
 use lib.Dec.{ltb, eqb}
 use lib.ListN.{length, take}
 use Rattle.row.specs.declared.Row.{Row}
-use Rattle.row.specs.Numbers.{partsOf, digits, some, numbers, value, hold, numbersOf}
+use Rattle.row.specs.Numbers.{partsOf, digits, notEmpty, numbers, value, hold, numbersOf}
 
 -- the most numbers that a line may have
 abbrev pub mostColumns : ℕ
@@ -19,7 +19,7 @@ rowIsBegun row = row .bad || row .digit || ltb 0 (row .at)
 
 -- the numbers are as many as they should be, if `p` is left of the open one and the parts `ps` come behind it
 abbrev pub isRow : ℕ → Row → List ℕ → List (List ℕ) → Bool
-isRow last row p ps = not (row .bad) && digits p && (row .digit || some p) && numbers ps && eqb (row .at + length ps) last
+isRow last row p ps = not (row .bad) && digits p && (row .digit || notEmpty p) && numbers ps && eqb (row .at + length ps) last
 
 -- they are, if the line ends here
 abbrev pub rowIsWhole : Row → ℕ → Bool

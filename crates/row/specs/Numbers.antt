@@ -42,13 +42,13 @@ digits [] = true
 digits (b ∷ bs) = isDigit b && digits bs
 
 -- there is one, a byte or a number
-abbrev pub some : List ℕ → Bool
-some [] = false
-some (b ∷ bs) = true
+abbrev pub notEmpty : List ℕ → Bool
+notEmpty [] = false
+notEmpty (b ∷ bs) = true
 
 -- a decimal number is one digit or more
 abbrev pub isNumber : List ℕ → Bool
-isNumber p = digits p && some p
+isNumber p = digits p && notEmpty p
 
 -- every part is a decimal number
 abbrev pub numbers : List (List ℕ) → Bool

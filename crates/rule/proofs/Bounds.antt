@@ -11,7 +11,7 @@ use Rattle.call.specs.Service.{CallWithin}
 use Rattle.book.specs.Sound.{CallsWithin, Rises}
 use Rattle.rule.specs.Keys.{recordOf, also, differentKeys, recordsAt}
 use Rattle.rule.specs.Joined.{joinedAt, joinedFor, joinCalls}
-use Rattle.rule.specs.Whole.{Tree, leaf, node, leaves, joined}
+use Rattle.rule.specs.Whole.{Tree, leaf, node, leaves, treeJoined}
 use Rattle.rule.proofs.Keyed.{within-in, find-in, ext-find}
 use Rattle.rule.proofs.Lattice.{Below, below-refl, below-trans, below-anti, stand-left, stand-right, stand-least, stand-key, stand-within}
 use Rattle.rule.proofs.Joins.{join-find, join-rises}
@@ -127,10 +127,10 @@ module _ (m : ℕ) (l r : Tree) (s : Sounds m (leaves (node l r))) where
   unfolding leaves
   right-sounds b i = s b (Memᴰ·append-right (leaves l) i)
 
-pub tree-sound : (m : ℕ) (t : Tree) → Sounds m (leaves t) → Calls m (joined t)
-unfolding leaves joined
+pub tree-sound : (m : ℕ) (t : Tree) → Sounds m (leaves t) → Calls m (treeJoined t)
+unfolding leaves treeJoined
 tree-sound m (leaf b) s = s b (here refl)
-tree-sound m (node l r) s = join-sound m (joined l) (joined r) (tree-sound m l (left-sounds m l r s)) (tree-sound m r (right-sounds m l r s))
+tree-sound m (node l r) s = join-sound m (treeJoined l) (treeJoined r) (tree-sound m l (left-sounds m l r s)) (tree-sound m r (right-sounds m l r s))
 
 -- a join gives the least upper bound of the leaves of both sides
 join-least : (m k : ℕ) (xs ys : List Call) (bs cs : List (List Call)) → Calls m xs → Calls m ys
@@ -149,17 +149,17 @@ join-least m k xs ys bs cs s t l n =
     })
 
 -- and so does a tree of joins
-pub tree-least : (m k : ℕ) (t : Tree) → Sounds m (leaves t) → Least (leaves t) k (recordOf k (joined t))
-unfolding leaves joined
+pub tree-least : (m k : ℕ) (t : Tree) → Sounds m (leaves t) → Least (leaves t) k (recordOf k (treeJoined t))
+unfolding leaves treeJoined
 tree-least m k (leaf b) s =
     record { above = λ d i. ⊎-elim (λ (e : d ≡ b). rw e (under-refl (recordOf k b))) (λ j. absurd (in-nil j)) (in-cons i); least = λ z h. h b (here refl) }
 tree-least m k (node l r) s =
-    join-least m k (joined l) (joined r) (leaves l) (leaves r) (tree-sound m l (left-sounds m l r s)) (tree-sound m r (right-sounds m l r s))
+    join-least m k (treeJoined l) (treeJoined r) (leaves l) (leaves r) (tree-sound m l (left-sounds m l r s)) (tree-sound m r (right-sounds m l r s))
     (tree-least m k l (left-sounds m l r s)) (tree-least m k r (right-sounds m l r s))
 
 -- Any two trees over the same books give the same list.
 pub trees-agree : (m : ℕ) (t u : Tree) → ((b : List Call) → In b (leaves t) → In b (leaves u)) → ((b : List Call) → In b (leaves u) → In b (leaves t))
-    → Sounds m (leaves t) → Sounds m (leaves u) → joined t ≡ joined u
+    → Sounds m (leaves t) → Sounds m (leaves u) → treeJoined t ≡ treeJoined u
 trees-agree m t u f g s v =
-    ext-find 0 0 (joined t) (joined u) (tree-sound m t s .rises) (tree-sound m u v .rises)
+    ext-find 0 0 (treeJoined t) (treeJoined u) (tree-sound m t s .rises) (tree-sound m u v .rises)
     (λ k. least-one (leaves t) (leaves u) k _ _ f g (tree-least m k t s) (tree-least m k u v))

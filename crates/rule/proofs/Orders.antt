@@ -11,7 +11,7 @@ use Rattle.call.specs.Service.{CallWithin}
 use Rattle.rule.specs.Standing.{isWithdrawn}
 use Rattle.rule.specs.Joined.{joinCalls}
 use Rattle.rule.specs.Keys.{recordOf}
-use Rattle.rule.specs.Whole.{ruleOver, Tree, leaf, node, leaves, joined}
+use Rattle.rule.specs.Whole.{ruleOver, Tree, leaf, node, leaves, treeJoined}
 use Rattle.rule.proofs.Keyed.{find-in, within-in}
 use Rattle.rule.proofs.Lattice.{below-rank, rank}
 use Rattle.rule.proofs.Bounds.{Under, Calls, Sounds, least-one, tree-sound, tree-least, trees-agree}
@@ -26,35 +26,35 @@ pub leaves-sound : (m : ℕ) (t : Tree) (bs : List (List Call)) → Over t bs �
 leaves-sound m t bs o s b i = s b (o .only b i)
 
 -- each key's record is the one that the rule over the whole list gives
-pub joined-rule : (m : ℕ) (t : Tree) (bs : List (List Call)) → Over t bs → Sounds m bs → (k : ℕ) → recordOf k (joined t) ≡ ruleOver bs k
+pub joined-rule : (m : ℕ) (t : Tree) (bs : List (List Call)) → Over t bs → Sounds m bs → (k : ℕ) → recordOf k (treeJoined t) ≡ ruleOver bs k
 joined-rule m t bs o s k =
     least-one (leaves t) bs k _ _ (o .only) (o .all) (tree-least m k t (leaves-sound m t bs o s)) (rule-least m bs k s)
 
 -- any two ways of joining give the same list
-pub same-list : (m : ℕ) (t u : Tree) (bs : List (List Call)) → Over t bs → Over u bs → Sounds m bs → joined t ≡ joined u
+pub same-list : (m : ℕ) (t u : Tree) (bs : List (List Call)) → Over t bs → Over u bs → Sounds m bs → treeJoined t ≡ treeJoined u
 same-list m t u bs o p s =
     trees-agree m t u (λ b i. p .all b (o .only b i)) (λ b i. o .all b (p .only b i)) (leaves-sound m t bs o s) (leaves-sound m u bs p s)
 
 -- a call withdrawn in any of them is withdrawn in the result
 pub stays-withdrawn : (m : ℕ) (t : Tree) (bs : List (List Call)) → Over t bs → Sounds m bs → (b : List Call) → In b bs
     → (k : ℕ) (w : Call) → recordOf k b ≡ some w → isWithdrawn w ≡ true
-    → (r : Call) × (recordOf k (joined t) ≡ some r) × (isWithdrawn r ≡ true)
-stays-withdrawn m t bs o s b i k w e g = go (recordOf k (joined t)) refl
+    → (r : Call) × (recordOf k (treeJoined t) ≡ some r) × (isWithdrawn r ≡ true)
+stays-withdrawn m t bs o s b i k w e g = go (recordOf k (treeJoined t)) refl
   where
     sounds : Sounds m (leaves t)
     sounds = leaves-sound m t bs o s
 
-    under : Under (some w) (recordOf k (joined t))
-    under = subst (λ (p : Option Call). Under p (recordOf k (joined t))) e (tree-least m k t sounds .above b (o .all b i))
+    under : Under (some w) (recordOf k (treeJoined t))
+    under = subst (λ (p : Option Call). Under p (recordOf k (treeJoined t))) e (tree-least m k t sounds .above b (o .all b i))
 
     high : (r : Call) → CallWithin m r → rank w ≤ rank r → (c : Bool) → isWithdrawn r ≡ c → isWithdrawn r ≡ true
     high r p h true q = q
     high r p h false q = absurd (omega (arith, gone-rank w g, here-rank r (λ v. true≢false (sym v ∙ q)) .0, p .revision .1))
 
-    go : (p : Option Call) → recordOf k (joined t) ≡ p → (r : Call) × (recordOf k (joined t) ≡ some r) × (isWithdrawn r ≡ true)
+    go : (p : Option Call) → recordOf k (treeJoined t) ≡ p → (r : Call) × (recordOf k (treeJoined t) ≡ some r) × (isWithdrawn r ≡ true)
     go none q = absurd (subst (λ (p : Option Call). Under (some w) p) q under)
     go (some r) q =
-        let w-in = within-in m (joined t) r (tree-sound m t sounds .within) (find-in k (joined t) r q .0) in
+        let w-in = within-in m (treeJoined t) r (tree-sound m t sounds .within) (find-in k (treeJoined t) r q .0) in
         (r, q, high r w-in (below-rank w r (subst (λ (p : Option Call). Under (some w) p) q under)) (isWithdrawn r) refl)
 
 -- the three laws are three pairs of trees
@@ -72,21 +72,21 @@ module _ (a b : List Call) where
   or-either d (inr e) = there (here e)
 
 pub commutes : (m : ℕ) (a b : List Call) → Calls m a → Calls m b → joinCalls a b ≡ joinCalls b a
-unfolding joined two
+unfolding treeJoined two
 commutes m a b p q =
     trees-agree m (two a b) (two b a) (λ d i. or-either b a d (⊎-elim inr inl (either a b d i))) (λ d i. or-either a b d (⊎-elim inr inl (either b a d i)))
     (λ d i. ⊎-elim (λ (e : d ≡ a). rw e p) (λ (e : d ≡ b). rw e q) (either a b d i))
     (λ d i. ⊎-elim (λ (e : d ≡ b). rw e q) (λ (e : d ≡ a). rw e p) (either b a d i))
 
 pub repeats : (m : ℕ) (a : List Call) → Calls m a → joinCalls a a ≡ a
-unfolding joined two leaves
+unfolding treeJoined two leaves
 repeats m a p =
     trees-agree m (two a a) (leaf a) (λ d i. here (⊎-elim (λ (e : d ≡ a). e) (λ (e : d ≡ a). e) (either a a d i)))
     (λ d i. or-either a a d (inl (List·Memᴰ·eq-of-singleton i)))
     (λ d i. ⊎-elim (λ (e : d ≡ a). rw e p) (λ (e : d ≡ a). rw e p) (either a a d i)) (λ d i. rw (List·Memᴰ·eq-of-singleton i) p)
 
 pub associates : (m : ℕ) (a b c : List Call) → Calls m a → Calls m b → Calls m c → joinCalls (joinCalls a b) c ≡ joinCalls a (joinCalls b c)
-unfolding joined two leaves
+unfolding treeJoined two leaves
 associates m a b c p q r =
     trees-agree m (node (two a b) (leaf c)) (node (leaf a) (two b c)) (λ d i. i) (λ d i. i) sounds sounds
   where

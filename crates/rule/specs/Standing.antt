@@ -28,8 +28,8 @@ isContested c = eqb (c .state) contested
 abbrev pub isWithdrawn : Call → Bool
 isWithdrawn c = eqb (c .state) withdrawn
 
--- withdrawn beats live and contested whatever the revisions; of two withdrawn, and otherwise, the higher revision stands;
--- at equal revision equal records stay, and of unequal ones a contested one stands; two live ones are struck
+-- withdrawn beats live and contested whatever the revisions; of two withdrawn, and otherwise, the higher revision stands; at equal revision equal
+-- records stay, and unequal ones become contested at that revision: where one of them is contested it is that record, and of two live ones neither
 unfoldable pub decide : Call → Call → Decision
 decide x y =
     cond (isWithdrawn x && not (isWithdrawn y)) First
@@ -40,7 +40,7 @@ decide x y =
     (cond (isContested y) Second
     Struck)))))
 
--- the record that a decide gives: the first book's, the second's, or a contested one at that revision
+-- the record that a decision gives: the first book's, the second's, or a contested one at that revision
 unfoldable pub given : Decision → Call → Call → Call
 given First x y = x
 given Second x y = y

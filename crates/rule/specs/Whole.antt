@@ -72,6 +72,6 @@ unfoldable pub leaves : Tree → List (List Call)
 leaves (leaf b) = b ∷ []
 leaves (node l r) = leaves l ++ leaves r
 
-unfoldable pub joined : Tree → List Call
-joined (leaf b) = b
-joined (node l r) = joinCalls (joined l) (joined r)
+unfoldable pub treeJoined : Tree → List Call
+treeJoined (leaf b) = b
+treeJoined (node l r) = joinCalls (treeJoined l) (treeJoined r)

@@ -21,7 +21,7 @@ use Rattle.book.specs.Check.{refused, accepted, check, headerMinutes}
 use Rattle.pay.specs.declared.Member.{Member}
 use Rattle.pay.specs.declared.open.Month.{Month}
 use Rattle.pay.specs.Kinds.{coal, newStorage}
-use Rattle.pay.specs.Member.{mostNumber, mostRated, memberIsSound}
+use Rattle.pay.specs.Member.{mostMember, mostRated, memberIsSound}
 use Rattle.pay.specs.Open.{openTo}
 use Rattle.score.specs.declared.answer.Score.{Score}
 use Rattle.score.specs.declared.answer.Earned.{Earned}
@@ -44,7 +44,7 @@ determined m b series r s p q = p ∙ sym q
 -- The register line
 
 abbrev line-tests : Member → List Bool
-line-tests m = leb (m .number) mostNumber ∷ leb coal (m .kind) ∷ leb (m .kind) newStorage ∷ leb 1 (m .rated .0) ∷ leb (m .rated .0) mostRated ∷ []
+line-tests m = leb (m .number) mostMember ∷ leb coal (m .kind) ∷ leb (m .kind) newStorage ∷ leb 1 (m .rated .0) ∷ leb (m .rated .0) mostRated ∷ []
 
 pub line-of : (m : Member) → memberIsSound m ≡ true → MemberWithin m
 unfolding memberIsSound

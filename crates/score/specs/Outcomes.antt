@@ -15,7 +15,7 @@ use Rattle.book.specs.Check.{accepted, check}
 use Rattle.pay.specs.declared.Member.{Member}
 use Rattle.pay.specs.declared.open.Month.{Month}
 use Rattle.pay.specs.Kinds.{coal, newStorage}
-use Rattle.pay.specs.Member.{mostNumber, mostRated}
+use Rattle.pay.specs.Member.{mostMember, mostRated}
 use Rattle.pay.specs.Open.{openTo}
 use Rattle.score.specs.declared.answer.Score.{Score}
 use Rattle.score.specs.Series.{mostOutput, lengthPlace}
@@ -23,7 +23,7 @@ use Rattle.score.specs.Scoring.{monthGrains, monthAt, scoreRefused}
 
 -- a register line within the limits
 pub record MemberWithin (m : Member) : Type 0 where
-  pub number : (1 ≤ m .number) × (m .number ≤ mostNumber)
+  pub number : (1 ≤ m .number) × (m .number ≤ mostMember)
   pub kind : (coal ≤ m .kind) × (m .kind ≤ newStorage)
   pub rated : (1 ≤ m .rated .0) × (m .rated .0 ≤ mostRated)
 

@@ -16,7 +16,7 @@ use Rattle.share.proofs.Cases.{bad-le, turn-10}
 use Rattle.share.proofs.Counted.{blank-bad, same-sharing}
 use Rattle.share_bytes.specs.Bytes.{lineSize, fieldsAt, reservedZero, firstBadBytes, linesBy, byteCount, byteLines, sharingSpelt}
 use Rattle.share_bytes.specs.Inner.{lineAt, linesAt}
-use Rattle.share_bytes.specs.Verdict.{SoundBytes, SoundBefore}
+use Rattle.share_bytes.specs.Verdict.{SoundBytes, BytesSoundBefore}
 use Rattle.share_bytes.proofs.Spelling.{length-lines, lines-take, line-of}
 
 -- a line with a reserved byte that is not zero is as bad as a blank one
@@ -138,10 +138,10 @@ module _ (input : List ℕ) where
     sound-read s = rw (same .0, same .1) s
 
   module _ (p : ℕ) (h : p ≤ byteCount input) where
-    pub before-spelt : ((k : ℕ) → k < p → SoundAt read k) → SoundBefore input p
+    pub before-spelt : ((k : ℕ) → k < p → SoundAt read k) → BytesSoundBefore input p
     before-spelt s k i =
         let z : (j : ℕ) → j ≤ k → reservedZero input (lineSize * j) ≡ true = λ j l. zero-read j (omega arith) (s j (omega arith)) in
         record { reserved = z k (omega arith); fields = sound-spelt k (omega arith) z (s k i) }
 
-    pub before-read : SoundBefore input p → (k : ℕ) → k < p → SoundAt read k
+    pub before-read : BytesSoundBefore input p → (k : ℕ) → k < p → SoundAt read k
     before-read s k i = sound-read k (omega arith) (λ j l. s j (omega arith) .reserved) (s k i .fields)

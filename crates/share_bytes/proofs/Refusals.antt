@@ -16,7 +16,7 @@ use Rattle.share.specs.Verdict as lines
 use Rattle.share.proofs.Refusals.{verdict, exact, none-bad}
 use Rattle.share_bytes.specs.Bytes.{lineSize, partSize, fieldsAt, reservedZero, byteCount, byteLines, sharingSpelt, sharingBytes}
 use Rattle.share_bytes.specs.Inner.{lineAt}
-use Rattle.share_bytes.specs.Verdict.{SoundBefore, BytesShareable, ByteVerdict, one, reserved, ten, more, fifteen, sixteen, nine, written}
+use Rattle.share_bytes.specs.Verdict.{BytesSoundBefore, BytesShareable, ByteVerdict, one, reserved, ten, more, fifteen, sixteen, nine, written}
 use Rattle.share_bytes.proofs.Spelling.{length-lines}
 use Rattle.share_bytes.proofs.Reading.{read, bad-read, same-read, turn-read, zero-read, sound-spelt, sound-read, before-spelt, before-read}
 use Rattle.share_bytes.proofs.ByteCases.{bytes-1, bytes-refused, bytes-9, bytes-on}
@@ -25,7 +25,7 @@ module _ (input : List ℕ) where
   long : length (read input) ≡ byteCount input
   long = length-lines (lineAt input) 0 (byteCount input)
 
-  zeros : (p : ℕ) → SoundBefore input p → reservedZero input (lineSize * p) ≡ true → (j : ℕ) → j ≤ p → reservedZero input (lineSize * j) ≡ true
+  zeros : (p : ℕ) → BytesSoundBefore input p → reservedZero input (lineSize * p) ≡ true → (j : ℕ) → j ≤ p → reservedZero input (lineSize * j) ≡ true
   zeros p s z j i = go (decLt j p)
     where
       go : Dec (j < p) → reservedZero input (lineSize * j) ≡ true
@@ -36,10 +36,10 @@ module _ (input : List ℕ) where
   spelt : AllSound (read input) → read input ≡ byteLines input
   spelt a = same-read 0 input 0 (byteCount input) (omega (arith, long, none-bad (read input) a, bad-read 0 input 0 (byteCount input)))
 
-  all-spelt : AllSound (read input) → SoundBefore input (byteCount input)
+  all-spelt : AllSound (read input) → BytesSoundBefore input (byteCount input)
   all-spelt a = before-spelt input (byteCount input) (omega arith) (λ k h. a k (omega (arith, long)))
 
-  all-read : SoundBefore input (byteCount input) → AllSound (read input)
+  all-read : BytesSoundBefore input (byteCount input) → AllSound (read input)
   all-read s k h = before-read input (byteCount input) (omega arith) s k (omega (arith, long))
 
   module _ (room : ℕ) (whole : length input % lineSize ≡ 0) where
@@ -55,7 +55,7 @@ module _ (input : List ℕ) where
         there : p < byteCount input
         there = omega (arith, f .within, long)
 
-        before : SoundBefore input p
+        before : BytesSoundBefore input p
         before = before-spelt input p (omega (arith, there)) (f .before)
 
         go : (z : Bool) → reservedZero input (lineSize * p) ≡ z → ByteVerdict input room (sharingBytes input room)

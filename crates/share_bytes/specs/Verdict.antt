@@ -16,27 +16,27 @@ pub record SoundBytes (input : List ℕ) (k : ℕ) : Type 0 where
   pub fields : SoundAt (byteLines input) k
 
 -- the lines before a place are
-abbrev pub SoundBefore : List ℕ → ℕ → Type 0
-SoundBefore input p = (k : ℕ) → k < p → SoundBytes input k
+abbrev pub BytesSoundBefore : List ℕ → ℕ → Type 0
+BytesSoundBefore input p = (k : ℕ) → k < p → SoundBytes input k
 
 -- the lines can be shared: all are sound, C is at most 10^11, and R is 0 or there is a weight
 pub record BytesShareable (input : List ℕ) : Type 0 where
-  pub sound : SoundBefore input (byteCount input)
+  pub sound : BytesSoundBefore input (byteCount input)
   pub within : compensated (byteLines input) ≤ mostCompensation
   pub way : (gap (byteLines input) ≡ pos 0) ⊎ (0 < allWeights (byteLines input))
 
 -- No. 1; 10 at a line with a reserved byte that is not zero, at one with a bad field, and for a 65th; 15; 16; 9; and what is written
 pub data ByteVerdict (input : List ℕ) (room : ℕ) (o : SharingOutcome) : Type 0 where
   one : length input % lineSize ≢ 0 → o ≡ sharingRefused 1 0 → ByteVerdict input room o
-  reserved : length input % lineSize ≡ 0 → (p : ℕ) → p < mostNumber → p < byteCount input → SoundBefore input p
+  reserved : length input % lineSize ≡ 0 → (p : ℕ) → p < mostNumber → p < byteCount input → BytesSoundBefore input p
       → reservedZero input (lineSize * p) ≡ false → o ≡ sharingRefused 10 p → ByteVerdict input room o
-  ten : length input % lineSize ≡ 0 → (p : ℕ) → p < mostNumber → p < byteCount input → SoundBefore input p
+  ten : length input % lineSize ≡ 0 → (p : ℕ) → p < mostNumber → p < byteCount input → BytesSoundBefore input p
       → reservedZero input (lineSize * p) ≡ true → (SoundAt (byteLines input) p → ⊥) → o ≡ sharingRefused 10 p → ByteVerdict input room o
-  more : length input % lineSize ≡ 0 → mostNumber < byteCount input → SoundBefore input mostNumber
+  more : length input % lineSize ≡ 0 → mostNumber < byteCount input → BytesSoundBefore input mostNumber
       → o ≡ sharingRefused 10 mostNumber → ByteVerdict input room o
-  fifteen : length input % lineSize ≡ 0 → SoundBefore input (byteCount input) → mostCompensation < compensated (byteLines input)
+  fifteen : length input % lineSize ≡ 0 → BytesSoundBefore input (byteCount input) → mostCompensation < compensated (byteLines input)
       → o ≡ sharingRefused 15 0 → ByteVerdict input room o
-  sixteen : length input % lineSize ≡ 0 → SoundBefore input (byteCount input) → compensated (byteLines input) ≤ mostCompensation
+  sixteen : length input % lineSize ≡ 0 → BytesSoundBefore input (byteCount input) → compensated (byteLines input) ≤ mostCompensation
       → gap (byteLines input) ≢ pos 0 → allWeights (byteLines input) ≡ 0 → o ≡ sharingRefused 16 0 → ByteVerdict input room o
   nine : length input % lineSize ≡ 0 → BytesShareable input → room < partSize * byteCount input → o ≡ sharingRefused 9 0 → ByteVerdict input room o
   written : length input % lineSize ≡ 0 → BytesShareable input → partSize * byteCount input ≤ room

@@ -1,15 +1,11 @@
 // Reads sharing lines from standard input and prints the statement: R, then number, share and amount of each line.
 use libc::STDIN_FILENO;
 use lines::Reader;
-use share::Line;
-use share::Shared;
+use text::sharing::statement_text;
 ghost use Prim.Native.Nat.{_<_};
 
 // More reads than any input has.
 const MOST_READS: u64 = 0xffff_ffff_ffff_ffff;
-
-// The most lines that a statement has.
-const LINES: usize = 64;
 
 // Whether more is to be read; or the whole input has been seen; or a read failed.
 enum Input {
@@ -69,46 +65,6 @@ fn read_all() -> Reading {
     reading
 }
 
-fn tell_line(l: Line) {
-    say::number(l.number as u64);
-    say::text(b" ");
-    say::money(l.share);
-    say::text(b" ");
-    say::money(l.amount);
-    say::text(b"\n");
-}
-
-fn tell_at(i: usize, count: usize, l: Line) {
-    if i < count {
-        tell_line(l);
-    }
-}
-
-fn tell_lines(lines: [Line; LINES], count: usize) {
-    let mut i: usize = 0;
-    while i < LINES {
-        let l = lines[i];
-        tell_at(i, count, l);
-        i += 1;
-    }
-}
-
-fn tell(s: Shared, count: usize) {
-    if s.number == 0 {
-        say::text(b"total ");
-        say::money(s.gap);
-        say::text(b"\n");
-        let lines = s.lines;
-        tell_lines(lines, count);
-        return;
-    }
-    say::text(b"refused ");
-    say::number(s.number as u64);
-    say::text(b" ");
-    say::number(s.place as u64);
-    say::text(b"\n");
-}
-
 fn main() {
     let reading = read_all();
     let input = reading.input;
@@ -119,5 +75,7 @@ fn main() {
     let reader = reading.reader;
     let taken = reader.finish();
     let count = taken.count;
-    tell(taken.shared(), count);
+    let mut out = io::buffer();
+    let n = statement_text(taken.shared(), count, &mut out);
+    say::text(&out[..n]);
 }

@@ -20,7 +20,7 @@ use Rattle.tables.specs.declared.cells.Cells.{Cells}
 use Rattle.tables.specs.declared.register.Entry.{Entry}
 use Rattle.tables.specs.Table.{comma}
 use Rattle.tables.specs.Register.{asEntry, blankEntry, entryLine, entryIsSound, registerEntries}
-use Rattle.tables.specs.Meaning.{sixOf, fair, entryIn}
+use Rattle.tables.specs.Meaning.{sixOf, fairEntry, entryIn}
 use Rattle.tables.proofs.Reading.{end-cells}
 
 -- Limits
@@ -65,7 +65,7 @@ lawful =
       none = refl;
     }
 
-fair-by : (t : Bool) (e : Entry) → within e ≡ t → fair e ≡ cond t e blankEntry
+fair-by : (t : Bool) (e : Entry) → within e ≡ t → fairEntry e ≡ cond t e blankEntry
 unfolding fairBy
 fair-by true e h =
     let p = each (leb 1 (e .member .number)) (bounds e) h in
@@ -110,16 +110,16 @@ six-limits d a h =
       leb-true _ _ (q .1 .1 .1 .1 .1 .1 .1 .0),
     )
 
-pub six-sound : (d : List ℕ) (a : ℕ) → length d ≡ 5 → within (entryBy d a) ≡ true → entryBy d a ≡ fair (asEntry (sixOf d a))
-six-sound d a l h = sym (fair-by true (entryBy d a) h) ∙ ap (λ (e : Entry). fair e) (entry-by d a l)
+pub six-sound : (d : List ℕ) (a : ℕ) → length d ≡ 5 → within (entryBy d a) ≡ true → entryBy d a ≡ fairEntry (asEntry (sixOf d a))
+six-sound d a l h = sym (fair-by true (entryBy d a) h) ∙ ap (λ (e : Entry). fairEntry e) (entry-by d a l)
 
-pub six-bad : (d : List ℕ) (a : ℕ) → length d ≡ 5 → within (entryBy d a) ≡ false → blankEntry ≡ fair (asEntry (sixOf d a))
-six-bad d a l h = sym (fair-by false (entryBy d a) h) ∙ ap (λ (e : Entry). fair e) (entry-by d a l)
+pub six-bad : (d : List ℕ) (a : ℕ) → length d ≡ 5 → within (entryBy d a) ≡ false → blankEntry ≡ fairEntry (asEntry (sixOf d a))
+six-bad d a l h = sym (fair-by false (entryBy d a) h) ∙ ap (λ (e : Entry). fairEntry e) (entry-by d a l)
 
 -- A line that ends
 
 pub entry-whole : (cells : Cells) (five : List ℕ) (v : ℕ) → isRow 5 (cells .row) [] [] ≡ true → five ≡ rowFirstFive (cells .row) → v ≡ hold (cells .row .value)
-    → fair (asEntry (sixOf five v)) ≡ entryIn cells
+    → fairEntry (asEntry (sixOf five v)) ≡ entryIn cells
 entry-whole cells five v h f e = let six = end-cells 5 cells ∙ whole-row comma 5 (cells .row) v h e in rw (six, f)
 
 blank-beyond : within blankEntry ≡ false

@@ -6,7 +6,7 @@ use mathlib.Core.List.{List, [], _∷_, _++_, map}
 use Prim.Native.Nat.{ℕ, suc, _+_, _-_}
 use lib.Dec.{ltb}
 use lib.ListN.{length, set}
-use Rattle.row.specs.Numbers.{some}
+use Rattle.row.specs.Numbers.{notEmpty}
 use Rattle.row.specs.Meaning.{rowIsBegun, rowNumbers}
 use Rattle.row.specs.Inner.{fairBy, SoFar, judgedOn, leftFrom}
 use Rattle.tables.specs.declared.cells.Cells.{Cells}
@@ -27,7 +27,7 @@ cellsIsBegun cells = cells .shut || rowIsBegun (cells .row)
 -- the numbers of the line, if `rest` is what is left of it; behind a carriage return nothing may be left
 unfoldable pub cellNumbers : ℕ → Cells → List ℕ → List ℕ
 cellNumbers last cells rest =
-    cond (cells .shut) (cond (some rest) [] (rowNumbers comma last (cells .row) [])) (rowNumbers comma last (cells .row) (plain rest))
+    cond (cells .shut) (cond (notEmpty rest) [] (rowNumbers comma last (cells .row) [])) (rowNumbers comma last (cells .row) (plain rest))
 
 -- the cells before any byte of their line
 pub record CellsFresh (cells : Cells) : Type 0 where
@@ -66,12 +66,12 @@ abbrev pub sixOf : List ℕ → ℕ → List ℕ
 sixOf ended value = ended ++ value ∷ []
 
 -- an entry that is not sound after no number is as bad as a blank one
-abbrev pub fair : Entry → Entry
-fair e = fairBy registerEntries e
+abbrev pub fairEntry : Entry → Entry
+fairEntry e = fairBy registerEntries e
 
 -- the entry, if its line ends here
 abbrev pub entryIn : Cells → Entry
-entryIn cells = fair (asEntry (entryNumbers cells []))
+entryIn cells = fairEntry (asEntry (entryNumbers cells []))
 
 -- a roll's entries, as they are judged so far
 abbrev pub rollSoFar : Roll → SoFar Entry

@@ -3,7 +3,7 @@ use mathlib.Core.Bool.{cond}
 use mathlib.Core.List.{List, _++_, map}
 use Prim.Native.Nat.{ℕ, min}
 use lib.ListN.{length, getD, take, drop}
-use Rattle.row.specs.Numbers.{some, linesOf}
+use Rattle.row.specs.Numbers.{notEmpty, linesOf}
 use Rattle.tables.specs.Table.{rowOf}
 
 -- a line is one number
@@ -16,7 +16,7 @@ noOutput = 4294967295
 
 -- the output that a line's numbers say
 unfoldable pub outputOf : List ℕ → ℕ
-outputOf ns = cond (some ns) (min (getD ns 0 0) noOutput) noOutput
+outputOf ns = cond (notEmpty ns) (min (getD ns 0 0) noOutput) noOutput
 
 -- the outputs of a text
 unfoldable pub seriesOf : List ℕ → List ℕ

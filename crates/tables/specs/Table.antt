@@ -4,7 +4,7 @@ use mathlib.Core.Bool.{cond, not, _&&_}
 use mathlib.Core.List.{List, [], _∷_}
 use Prim.Native.Nat.{ℕ}
 use lib.Dec.{eqb}
-use Rattle.row.specs.Numbers.{some, partsOf, numbersOf}
+use Rattle.row.specs.Numbers.{notEmpty, partsOf, numbersOf}
 use Rattle.tables.specs.declared.Told.{Told}
 use Rattle.tables.specs.declared.Told.the-variants.{Number, Nothing}
 
@@ -19,7 +19,7 @@ carriageReturn = 13
 -- a line without the carriage return at its end
 abbrev pub plain : List ℕ → List ℕ
 plain [] = []
-plain (b ∷ bs) = cond (eqb b carriageReturn && not (some bs)) [] (b ∷ plain bs)
+plain (b ∷ bs) = cond (eqb b carriageReturn && not (notEmpty bs)) [] (b ∷ plain bs)
 
 -- the cells of a line
 abbrev pub cellsOf : List ℕ → List (List ℕ)

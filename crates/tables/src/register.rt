@@ -17,7 +17,7 @@ ghost use mathlib.Core.List.{List, [], _∷_, map};
 ghost use Prim.Native.Nat.{ℕ};
 ghost use Rattle.row.specs.Judging.{filledUp, judged};
 ghost use Rattle.tables.specs.Register.{asEntry, blankEntry, entryLine, registerEntries, readRegister, linesFor, registerStatement};
-ghost use Rattle.tables.specs.Meaning.{entryNumbers, entriesLeft, sixOf, fair, entryIn, rollOutcome};
+ghost use Rattle.tables.specs.Meaning.{entryNumbers, entriesLeft, sixOf, fairEntry, entryIn, rollOutcome};
 
 // A member, and what its sharing line needs besides its compensation.
 pub struct Entry {
@@ -77,7 +77,7 @@ fn blank_entries() -> [Entry; MOST_ENTRIES]
 
 // The entry of six numbers, or a blank one where a number is past its limit.
 fn typed(ended: [u64; 5], assessed: u64) -> Entry
-    ensures { λ r. ⌜ r ≡ fair (asEntry (sixOf ended assessed)) ⌝ }
+    ensures { λ r. ⌜ r ≡ fairEntry (asEntry (sixOf ended assessed)) ⌝ }
 {
     let n = ended[0];
     let k = ended[1];

@@ -1,16 +1,16 @@
 use mathlib.Core.Path.{_≡_, sym, _∙_, ap}
 use native.Mathlib.Omega.{arith}
 use Rattle.book.specs.declared.Verdict.{Verdict}
-use Rattle.pair.specs.Screening.{Accepted}
+use Rattle.pair.specs.Screening.{IsAccepted}
 use Rattle.pair.proofs.Screening.{check-most, zero-accepted, both-first, both-second, both-pass}
 use borrow.Author.Needs.{needs}
 use Rattle.pair.proofs.both_sound.Statement.{statement}
 use Rattle.pair.proofs.both_sound.Tie as tie
 
-first-passes : (c : tie.Else1) → Accepted (c .before .before .before .before .before .args .first .now)
+first-passes : (c : tie.Else1) → IsAccepted (c .before .before .before .before .before .args .first .now)
 first-passes c = zero-accepted _ (ap (λ (v : Verdict). v .number) (sym (c .before .before .check .ensures)) ∙ c .if1 .left)
 
-second-passes : (c : tie.Else2) → Accepted (c .before .before .before .before .before .before .before .before .args .second .now)
+second-passes : (c : tie.Else2) → IsAccepted (c .before .before .before .before .before .before .before .before .args .second .now)
 second-passes c = zero-accepted _ (ap (λ (v : Verdict). v .number) (sym (c .before .before .check2 .ensures)) ∙ c .if2 .left)
 
 check-requires : tie.Need-check-requires

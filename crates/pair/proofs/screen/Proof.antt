@@ -3,7 +3,7 @@ use borrow.Author.Tests.{not-true, not-false}
 use Rattle.book.specs.declared.Verdict.{Verdict}
 use Rattle.book.specs.Book.{headerAt}
 use Rattle.book.proofs.Exact.{accepted-tests}
-use Rattle.pair.specs.Screening.{Accepted, sameMonth}
+use Rattle.pair.specs.Screening.{IsAccepted, sameMonth}
 use Rattle.pair.proofs.Screening.{passed-both, screen-both, screen-month, screen-passes}
 use borrow.Author.Needs.{needs}
 use Rattle.pair.proofs.screen.Statement.{statement}
@@ -11,7 +11,7 @@ use Rattle.pair.proofs.screen.Tie as tie
 
 both-pass : (c : tie.Else1)
     → let s = c .before .before .before .before .before in
-    Accepted (s .args .first .now) × Accepted (s .args .second .now)
+    IsAccepted (s .args .first .now) × IsAccepted (s .args .second .now)
 both-pass c = passed-both _ _ (ap (λ (v : Verdict). v .number) (sym (c .before .before .both-sound .ensures)) ∙ c .if1 .left)
 
 -- the test of the two headers

@@ -1,0 +1,164 @@
+-- What is printed reads back: R, and number, share and amount of every line; a refusal's number and place. Assumes nothing.
+use mathlib.Core.Path.{_≡_, refl, sym, _∙_, ap}
+use mathlib.Core.List.{List, [], _∷_, _++_, map, append-assoc}
+use mathlib.Core.Logic.{_≢_}
+use Prim.Native.Nat.{ℕ, zero, suc, _+_, _*_, _-_, _/_, _%_, _≤_, _<_}
+use native.Mathlib.Decide.{decLt}
+use native.Mathlib.Omega.{arith}
+use borrow.Author.Tests.{ne-eqb}
+use lib.IntN.{ℤ, pos, negsuc, negℤ}
+use lib.ListN.{take}
+use Rattle.row.specs.Numbers.{lineFeed, linesOf, partsOf, value, onto}
+use Rattle.share.specs.declared.Line.{Line}
+use Rattle.share.specs.declared.Shared.{Shared}
+use Rattle.text.specs.Decimal.{word, digit, decimalIn, decimal, signedDecimal}
+use Rattle.text.specs.Reading.{blankByte, minus, wordNumber, rowsOf, readRows, readNumbers, lineNumbers}
+use Rattle.text.specs.Texts.{refusalText, refusedText, totalText, lineText, linesText, statementText}
+use Rattle.text.proofs.Decimals.{small, none-left, large}
+use Rattle.text.proofs.Statements.{append-none, accepted-text, refusal-text}
+
+-- Numbers
+
+value-append : (v : ℕ) (xs ys : List ℕ) → value v (xs ++ ys) ≡ value (value v xs) ys
+value-append v [] ys = refl
+value-append v (x ∷ xs) ys = value-append (v * 10 + (x - 48)) xs ys
+
+one-digit : (v d : ℕ) → value v (digit d ∷ []) ≡ v * 10 + d
+one-digit v d = omega arith
+
+value-in : (steps n : ℕ) → n ≤ steps → value 0 (decimalIn steps n) ≡ n
+value-in zero n h = ap (value 0) (small zero n (omega arith)) ∙ one-digit 0 n ∙ omega arith
+value-in (suc s) n h = go (decLt n 10) (λ f. value-in s (n / 10) (omega arith))
+  where
+    go : Dec (n < 10) → (10 ≤ n → value 0 (decimalIn s (n / 10)) ≡ n / 10) → value 0 (decimalIn (suc s) n) ≡ n
+    go (yes f) front = ap (value 0) (small (suc s) n f) ∙ one-digit 0 n ∙ omega arith
+    go (no f) front =
+        ap (value 0) (large s n (omega arith)) ∙ value-append 0 (decimalIn s (n / 10)) (digit (n % 10) ∷ [])
+        ∙ ap (λ (v : ℕ). value v (digit (n % 10) ∷ [])) (front (omega arith)) ∙ one-digit (n / 10) (n % 10) ∙ omega arith
+
+-- the digits of a number are worth the number
+pub value-decimal : (n : ℕ) → value 0 (decimal n) ≡ n
+unfolding decimal
+value-decimal n = value-in n n (omega arith)
+
+-- every byte is k or above
+data Above (k : ℕ) : List ℕ → Type 0 where
+  none : Above k []
+  more : (x : ℕ) {xs : List ℕ} → k ≤ x → Above k xs → Above k (x ∷ xs)
+
+both : {k : ℕ} {xs ys : List ℕ} → Above k xs → Above k ys → Above k (xs ++ ys)
+both none b = b
+both (more x h a) b = more x h (both a b)
+
+lower : {k : ℕ} {xs : List ℕ} (j : ℕ) → j ≤ k → Above k xs → Above j xs
+lower j h none = none
+lower j h (more x g a) = more x (omega arith) (lower j h a)
+
+digits-in : (steps n : ℕ) → Above 48 (decimalIn steps n)
+digits-in zero n = rw (none-left n) (more (digit n) (omega arith) none)
+digits-in (suc s) n = go (decLt n 10) (digits-in s (n / 10))
+  where
+    go : Dec (n < 10) → Above 48 (decimalIn s (n / 10)) → Above 48 (decimalIn (suc s) n)
+    go (yes f) front = rw (small (suc s) n f) (more (digit n) (omega arith) none)
+    go (no f) front = rw (large s n (omega arith)) (both front (more (digit (n % 10)) (omega arith) none))
+
+digits-only : (n : ℕ) → Above 48 (decimal n)
+unfolding decimal
+digits-only n = digits-in n n
+
+unsigned : {xs : List ℕ} → Above 48 xs → wordNumber xs ≡ pos (value 0 xs)
+unsigned none = refl
+unsigned (more x h a) = rw (ne-eqb x 45 (λ e. absurd (omega arith)))
+
+number-decimal : (n : ℕ) → wordNumber (decimal n) ≡ pos n
+number-decimal n = unsigned (digits-only n) ∙ ap pos (value-decimal n)
+
+-- a printed number is the number
+pub number-signed : (z : ℤ) → wordNumber (signedDecimal z) ≡ z
+unfolding signedDecimal
+number-signed (pos n) = number-decimal n
+number-signed (negsuc n) = ap (λ (v : ℕ). negℤ (pos v)) (value-decimal (suc n))
+
+-- Parts and lines
+
+solid : (n : ℕ) → Above 33 (decimal n)
+solid n = lower 33 (omega arith) (digits-only n)
+
+solid-signed : (z : ℤ) → Above 33 (signedDecimal z)
+unfolding signedDecimal
+solid-signed (pos n) = solid n
+solid-signed (negsuc n) = more minus (omega arith) (solid (suc n))
+
+part-ends : {p : List ℕ} (rest : List ℕ) → Above 33 p → partsOf blankByte (p ++ (blankByte ∷ rest)) ≡ p ∷ partsOf blankByte rest
+part-ends rest none = refl
+part-ends rest (more x h a) = rw (ne-eqb x 32 (λ e. absurd (omega arith))) (ap (onto x) (part-ends rest a))
+
+last-part : {p : List ℕ} → Above 33 p → partsOf blankByte p ≡ p ∷ []
+last-part none = refl
+last-part (more x h a) = rw (ne-eqb x 32 (λ e. absurd (omega arith))) (ap (onto x) (last-part a))
+
+line-ends : {l : List ℕ} (rest : List ℕ) → Above 11 l → linesOf (l ++ (lineFeed ∷ rest)) ≡ l ∷ linesOf rest
+line-ends rest none = refl
+line-ends rest (more x h a) = rw (ne-eqb x 10 (λ e. absurd (omega arith))) (ap (onto x) (line-ends rest a))
+
+-- a line of two parts, and of three
+two : {p q : List ℕ} (rest : List ℕ) → Above 33 p → Above 33 q → rowsOf (p ++ (blankByte ∷ q) ++ word "\n" ++ rest) ≡ (p ∷ q ∷ []) ∷ rowsOf rest
+two {p} {q} rest a b =
+    let line : p ++ (blankByte ∷ q) ++ word "\n" ++ rest ≡ (p ++ (blankByte ∷ q)) ++ (lineFeed ∷ rest) = simp append-assoc in
+    let whole : Above 11 (p ++ (blankByte ∷ q)) = both (lower 11 (omega arith) a) (more blankByte (omega arith) (lower 11 (omega arith) b)) in
+    ap (λ (t : List ℕ). rowsOf t) line ∙ ap (λ (ls : List (List ℕ)). map (partsOf blankByte) ls) (line-ends rest whole)
+    ∙ ap (λ (ps : List (List ℕ)). ps ∷ rowsOf rest) (part-ends q a ∙ ap (λ (ps : List (List ℕ)). p ∷ ps) (last-part b))
+
+three : {p q r : List ℕ} (rest : List ℕ) → Above 33 p → Above 33 q → Above 33 r → rowsOf (p ++ (blankByte ∷ q) ++ (blankByte ∷ r) ++ word "\n" ++ rest) ≡ (p ∷ q ∷ r ∷ []) ∷ rowsOf rest
+three {p} {q} {r} rest a b c =
+    let line : p ++ (blankByte ∷ q) ++ (blankByte ∷ r) ++ word "\n" ++ rest ≡ (p ++ (blankByte ∷ (q ++ (blankByte ∷ r)))) ++ (lineFeed ∷ rest) = simp append-assoc in
+    let tail : Above 11 (q ++ (blankByte ∷ r)) = both (lower 11 (omega arith) b) (more blankByte (omega arith) (lower 11 (omega arith) c)) in
+    let whole : Above 11 (p ++ (blankByte ∷ (q ++ (blankByte ∷ r)))) = both (lower 11 (omega arith) a) (more blankByte (omega arith) tail) in
+    ap (λ (t : List ℕ). rowsOf t) line ∙ ap (λ (ls : List (List ℕ)). map (partsOf blankByte) ls) (line-ends rest whole)
+    ∙ ap (λ (ps : List (List ℕ)). ps ∷ rowsOf rest) (part-ends (q ++ (blankByte ∷ r)) a ∙ ap (λ (ps : List (List ℕ)). p ∷ ps) (part-ends r b ∙ ap (λ (ps : List (List ℕ)). q ∷ ps) (last-part c)))
+
+-- the lines, one behind the other
+lines-rows : (ls : List Line) → rowsOf (linesText ls) ≡ map (λ l. decimal (l .number) ∷ signedDecimal (l .share .0) ∷ signedDecimal (l .amount .0) ∷ []) ls
+unfolding linesText lineText
+lines-rows [] = refl
+lines-rows (l ∷ ls) =
+    three (linesText ls) (solid (l .number)) (solid-signed (l .share .0)) (solid-signed (l .amount .0))
+    ∙ ap (λ (rows : List (List (List ℕ))). (decimal (l .number) ∷ signedDecimal (l .share .0) ∷ signedDecimal (l .amount .0) ∷ []) ∷ rows) (lines-rows ls)
+
+line-numbers : (ls : List Line) → map (map (λ p. wordNumber p)) (map (λ l. decimal (l .number) ∷ signedDecimal (l .share .0) ∷ signedDecimal (l .amount .0) ∷ []) ls) ≡ map (λ l. lineNumbers l) ls
+line-numbers [] = refl
+line-numbers (l ∷ ls) =
+    λ i. (number-decimal (l .number) i ∷ number-signed (l .share .0) i ∷ number-signed (l .amount .0) i ∷ []) ∷ line-numbers ls i
+
+-- Statements
+
+total-word : Above 33 (word "total")
+total-word = more 116 (omega arith) (more 111 (omega arith) (more 116 (omega arith) (more 97 (omega arith) (more 108 (omega arith) none))))
+
+refused-word : Above 33 (word "refused")
+refused-word =
+    more 114 (omega arith) (more 101 (omega arith) (more 102 (omega arith) (more 117 (omega arith) (more 115 (omega arith)
+    (more 101 (omega arith) (more 100 (omega arith) none))))))
+
+-- The printed statement reads back as R, and number, share and amount of every line.
+pub statement-back : (s : Shared) (count : ℕ) → s .number ≡ 0
+    → readNumbers (statementText s count) ≡ record { word = word "total"; numbers = s .gap .0 ∷ []; lines = map (λ l. lineNumbers l) (take count (s .lines)) }
+unfolding readNumbers totalText
+statement-back s count e =
+    let ls = take count (s .lines) in
+    let lines : map (map (λ p. wordNumber p)) (rowsOf (linesText ls)) ≡ map (λ l. lineNumbers l) ls =
+    ap (λ (rows : List (List (List ℕ))). map (map (λ p. wordNumber p)) rows) (lines-rows ls) ∙ line-numbers ls in
+    ap (λ (t : List ℕ). readNumbers t) (sym (accepted-text s count e)) ∙ ap (λ (rows : List (List (List ℕ))). readRows rows) (two (linesText ls) total-word (solid-signed (s .gap .0)))
+    ∙ (λ i. record { word = word "total"; numbers = number-signed (s .gap .0) i ∷ []; lines = lines i })
+
+-- A printed refusal reads back as its number and place.
+pub refused-back : (number place : ℕ) → readNumbers (refusedText number place) ≡ record { word = word "refused"; numbers = pos number ∷ pos place ∷ []; lines = [] }
+unfolding readNumbers refusedText refusalText
+refused-back number place =
+    ap (λ (t : List ℕ). readNumbers t) (sym (append-none (refusedText number place)))
+    ∙ ap (λ (rows : List (List (List ℕ))). readRows rows) (three [] refused-word (solid number) (solid place))
+    ∙ (λ i. record { word = word "refused"; numbers = number-decimal number i ∷ number-decimal place i ∷ []; lines = [] })
+
+pub refusal-back : (s : Shared) (count : ℕ) → s .number ≢ 0
+    → readNumbers (statementText s count) ≡ record { word = word "refused"; numbers = pos (s .number) ∷ pos (s .place) ∷ []; lines = [] }
+refusal-back s count e = ap (λ (t : List ℕ). readNumbers t) (sym (refusal-text s count e)) ∙ refused-back (s .number) (s .place)

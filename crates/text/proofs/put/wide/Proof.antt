@@ -1,0 +1,16 @@
+use mathlib.Core.Path.{refl}
+use mir.Syntax.{w32}
+use mir.ValLaws.{toZ-ofZ}
+use native.Mathlib.Omega.{arith}
+use Rattle.text.proofs.Decimals.{widened}
+use Rattle.text.proofs.put.wide.Statement.{statement}
+use Rattle.text.proofs.put.wide.Tie as tie
+
+cast-result : tie.Need-cast-result
+cast-result c = rw (toZ-ofZ w32 (c .args .n) (record { sfits = c .fits .n .sfits })) (record { sfits = omega (arith, c .fits .n .sfits) })
+
+returns : tie.Need-returns
+returns c = widened (c .args .n) _ (record { sfits = c .fits .n .sfits }) refl
+
+pub wide-spec : {M : Type 1} → statement M
+wide-spec = tie.close (tie.spec cast-result returns)

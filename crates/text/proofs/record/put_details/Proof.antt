@@ -1,0 +1,30 @@
+use native.Mathlib.Omega.{arith}
+use Rattle.text.proofs.Placed.{and-then, looser, same-put, none-put}
+use Rattle.text.proofs.Records.{no-details, live-details}
+use borrow.Author.Needs.{needs}
+use Rattle.text.proofs.record.put_details.Statement.{statement}
+use Rattle.text.proofs.record.put_details.Tie as tie
+
+returns : tie.Need-returns
+returns c =
+    let a = c .before .before .before .args in
+    same-put (no-details (a .x) (c .if1 .taken)) (looser 141 (omega arith) (none-put (a .out .now) (a .at)))
+
+put-time-requires : tie.Need-put-time-requires
+put-time-requires c κs = search needs
+
+put-terms-requires : tie.Need-put-terms-requires
+put-terms-requires c κs = search needs
+
+same-length : tie.Need-same-length
+same-length c = search needs
+
+returns-2 : tie.Need-returns-2
+returns-2 c =
+    let a = c .before .before .before .before .before .before .before .before .before .before .before .args in
+    let live = c .before .before .before .before .before .before .before .before .if1 .left in
+    same-put (live-details (a .x) live) (and-then (c .before .before .before .before .before .before .put-time .ensures) (c .before .before .put-terms .ensures))
+
+pub put-details-spec : {M : Type 1} → statement M
+put-details-spec =
+    tie.close (tie.spec returns put-time-requires put-terms-requires same-length returns-2)

@@ -1,0 +1,5 @@
+pub mod Decimal
+pub mod Texts
+pub mod Reading
+pub mod Room
+pub mod Inner

@@ -1,0 +1,139 @@
+-- What the programs print of an outcome, byte by byte. Assumes nothing.
+use mathlib.Core.Bool.{cond}
+use mathlib.Core.List.{List, [], _∷_, _++_}
+use Prim.Native.Nat.{ℕ, zero, suc}
+use lib.Dec.{eqb}
+use lib.IntN.{ℤ}
+use lib.ListN.{take, getD}
+use Rattle.book.specs.declared.Header.{Header}
+use Rattle.call.specs.declared.Call.{Call}
+use Rattle.call.specs.Revising.{live, contested}
+use Rattle.share.specs.declared.Line.{Line}
+use Rattle.share.specs.declared.Shared.{Shared}
+use Rattle.share.specs.Forms.{blankLine}
+use Rattle.units.specs.declared.Fen.{Fen}
+use Rattle.units.specs.declared.Grains.{Grains}
+use Rattle.text.specs.Decimal.{word, decimal, field, signedField}
+
+-- Sharing
+
+-- a refusal's number and place
+unfoldable pub refusalText : ℕ → ℕ → List ℕ
+refusalText number place = field "refused " number ++ field " " place
+
+-- a refusal, on one line
+unfoldable pub refusedText : ℕ → ℕ → List ℕ
+refusedText number place = refusalText number place ++ word "\n"
+
+-- R
+unfoldable pub totalText : ℤ → List ℕ
+totalText gap = signedField "total " gap ++ word "\n"
+
+-- number, share and amount of a line
+unfoldable pub lineText : Line → List ℕ
+lineText l = decimal (l .number) ++ signedField " " (l .share .0) ++ signedField " " (l .amount .0) ++ word "\n"
+
+-- the lines, one behind the other
+unfoldable pub linesText : List Line → List ℕ
+linesText [] = []
+linesText (l ∷ ls) = lineText l ++ linesText ls
+
+-- what sharing says of the first `count` lines: a refusal, or R and the lines
+unfoldable pub statementText : Shared → ℕ → List ℕ
+statementText s count =
+    cond (eqb (s .number) 0) (totalText (s .gap .0) ++ linesText (take count (s .lines))) (refusedText (s .number) (s .place))
+
+-- The desk
+
+-- a refusal, and what it is about
+unfoldable pub refusedAboutText : ℕ → ℕ → List ℕ → List ℕ
+refusedAboutText number place what = refusalText number place ++ word " " ++ what ++ word "\n"
+
+-- what failed, if that has a name
+unfoldable pub whatText : List ℕ → List ℕ
+whatText [] = []
+whatText (b ∷ bs) = (b ∷ bs) ++ word ": "
+
+-- what failed, and why
+unfoldable pub failedText : List ℕ → List ℕ → List ℕ
+failedText what why = word "failed " ++ whatText what ++ why ++ word "\n"
+
+-- the state of a call
+unfoldable pub stateText : ℕ → List ℕ
+stateText state = cond (eqb state live) (word " live") (cond (eqb state contested) (word " contested") (word " withdrawn"))
+
+-- the services, by their numbers in the paper
+unfoldable pub serviceText : ℕ → List ℕ
+serviceText service =
+    getD (
+    word " none"
+    ∷ word " deep-peak"
+    ∷ word " reserve"
+    ∷ word " start-stop"
+    ∷ word " standby"
+    ∷ word " black-start"
+    ∷ word " agc-availability"
+    ∷ word " agc-contribution"
+    ∷ word " frequency-event"
+    ∷ word " avc"
+    ∷ word " stability-trip"
+    ∷ []
+    ) service (word " none")
+
+-- whose call it is, which revision, and its state
+unfoldable pub keyText : Call → List ℕ
+keyText c = field "member " (c .participant) ++ field " call " (c .number) ++ field " revision " (c .revision) ++ stateText (c .state)
+
+-- when it is
+unfoldable pub timeText : Call → List ℕ
+timeText c = serviceText (c .service) ++ field " start " (c .start) ++ field " length " (c .length)
+
+-- its terms
+unfoldable pub termsText : Call → List ℕ
+termsText c = signedField " a " (c .a) ++ field " b " (c .b) ++ field " c " (c .c)
+
+-- what a live call has besides; a contested or withdrawn one has nothing
+unfoldable pub detailsText : Call → List ℕ
+detailsText c = cond (eqb (c .state) live) (timeText c ++ termsText c) []
+
+-- a call, on one line
+unfoldable pub callText : Call → List ℕ
+callText c = keyText c ++ detailsText c ++ word "\n"
+
+-- whose month a book is of
+unfoldable pub dateText : Header → List ℕ
+dateText h = field "area " (h .area) ++ field " year " (h .year) ++ field " month " (h .month)
+
+-- the same, and how many calls the book has
+unfoldable pub headerText : Header → ℕ → List ℕ
+headerText h calls = dateText h ++ field " calls " calls ++ word "\n"
+
+-- a member's score
+unfoldable pub scoreText : ℕ → ℕ → List ℕ
+scoreText grains fen = field "grains " grains ++ field "\nfen " fen ++ word "\n"
+
+-- The month
+
+-- what a member was scored
+unfoldable pub scoredText : ℕ → ℕ → ℕ → List ℕ
+scoredText member grains fen = field "member " member ++ field " grains " grains ++ field " fen " fen ++ word "\n"
+
+-- what a member carries and gets
+unfoldable pub sharedText : Line → List ℕ
+sharedText l = field "member " (l .number) ++ signedField " share " (l .share .0) ++ signedField " amount " (l .amount .0) ++ word "\n"
+
+-- the scores of so many members, by their lines
+unfoldable pub scoresText : List Line → List Grains → List Fen → ℕ → List ℕ
+scoresText lines grains fens zero = []
+scoresText lines grains fens (suc n) =
+    scoresText lines grains fens n
+    ++ scoredText (getD lines n blankLine .number) (getD grains n (record { 0 = 0 }) .0) (getD fens n (record { 0 = 0 }) .0)
+
+-- the shares and amounts of so many lines
+unfoldable pub sharesText : List Line → ℕ → List ℕ
+sharesText lines zero = []
+sharesText lines (suc n) = sharesText lines n ++ sharedText (getD lines n blankLine)
+
+-- a month that was shared: the scores, R, and what each member carries and gets
+unfoldable pub monthText : Shared → List Grains → List Fen → ℕ → List ℕ
+monthText s grains fens count = scoresText (s .lines) grains fens count ++ totalText (s .gap .0) ++ sharesText (s .lines) count

@@ -1,0 +1,161 @@
+// What the desk prints of a call, a book's header and a member's score.
+use crate::put::put_field;
+use crate::put::put_signed_field32;
+use crate::put::put_word;
+use book::Header;
+use call::CONTESTED;
+use call::Call;
+use call::LIVE;
+use units::Fen;
+use units::Grains;
+ghost use Prim.Native.Nat.{_+_, _≤_};
+ghost use lib.ListN.{length};
+ghost use Rattle.io.specs.Counts.{Counts};
+ghost use Rattle.text.specs.Inner.{Puts};
+ghost use Rattle.text.specs.Room.{Renders, mostCall, mostHeader, mostScore};
+ghost use Rattle.text.specs.Texts.{stateText, serviceText, keyText, timeText, termsText, detailsText, callText, dateText, headerText, scoreText};
+
+// The most bytes of each.
+pub const MOST_CALL: usize = 235;
+
+pub const MOST_HEADER: usize = 106;
+
+pub const MOST_SCORE: usize = 53;
+
+fn put_state(out: &mut [u8], at: usize, state: u8) -> usize
+    requires { ⌜ at + 10 ≤ length (now out) ⌝ }
+    ensures { λ r. ⌜ Puts 10 (now (out .entry)) at (stateText state) (now (out .exit)) r ⌝ }
+{
+    match state {
+        LIVE => put_word(out, at, b" live"),
+        CONTESTED => put_word(out, at, b" contested"),
+        _ => put_word(out, at, b" withdrawn"),
+    }
+}
+
+fn put_service(out: &mut [u8], at: usize, service: u8) -> usize
+    requires { ⌜ at + 17 ≤ length (now out) ⌝ }
+    ensures { λ r. ⌜ Puts 17 (now (out .entry)) at (serviceText service) (now (out .exit)) r ⌝ }
+{
+    match service {
+        1 => put_word(out, at, b" deep-peak"),
+        2 => put_word(out, at, b" reserve"),
+        3 => put_word(out, at, b" start-stop"),
+        4 => put_word(out, at, b" standby"),
+        5 => put_word(out, at, b" black-start"),
+        6 => put_word(out, at, b" agc-availability"),
+        7 => put_word(out, at, b" agc-contribution"),
+        8 => put_word(out, at, b" frequency-event"),
+        9 => put_word(out, at, b" avc"),
+        10 => put_word(out, at, b" stability-trip"),
+        _ => put_word(out, at, b" none"),
+    }
+}
+
+fn put_key(out: &mut [u8], at: usize, x: Call) -> usize
+    requires { ⌜ at + 93 ≤ length (now out) ⌝ }
+    ensures { λ r. ⌜ Puts 93 (now (out .entry)) at (keyText x) (now (out .exit)) r ⌝ }
+{
+    let a = put_field(out, at, b"member ", x.participant as u64);
+    let b = put_field(out, a, b" call ", x.number as u64);
+    let c = put_field(out, b, b" revision ", x.revision as u64);
+    put_state(out, c, x.state)
+}
+
+fn put_time(out: &mut [u8], at: usize, x: Call) -> usize
+    requires { ⌜ at + 72 ≤ length (now out) ⌝ }
+    ensures { λ r. ⌜ Puts 72 (now (out .entry)) at (timeText x) (now (out .exit)) r ⌝ }
+{
+    let a = put_service(out, at, x.service);
+    let b = put_field(out, a, b" start ", x.start as u64);
+    put_field(out, b, b" length ", x.length as u64)
+}
+
+fn put_terms(out: &mut [u8], at: usize, x: Call) -> usize
+    requires { ⌜ at + 69 ≤ length (now out) ⌝ }
+    ensures { λ r. ⌜ Puts 69 (now (out .entry)) at (termsText x) (now (out .exit)) r ⌝ }
+{
+    let a = put_signed_field32(out, at, b" a ", x.a);
+    let b = put_field(out, a, b" b ", x.b as u64);
+    put_field(out, b, b" c ", x.c as u64)
+}
+
+fn put_details(out: &mut [u8], at: usize, x: Call) -> usize
+    requires { ⌜ at + 141 ≤ length (now out) ⌝ }
+    ensures { λ r. ⌜ Puts 141 (now (out .entry)) at (detailsText x) (now (out .exit)) r ⌝ }
+{
+    if x.state != LIVE {
+        return at;
+    }
+    let next = put_time(out, at, x);
+    put_terms(out, next, x)
+}
+
+fn put_call(out: &mut [u8], at: usize, x: Call) -> usize
+    requires { ⌜ at + mostCall ≤ length (now out) ⌝ }
+    ensures { λ r. ⌜ Puts mostCall (now (out .entry)) at (callText x) (now (out .exit)) r ⌝ }
+{
+    let a = put_key(out, at, x);
+    let b = put_details(out, a, x);
+    put_word(out, b, b"\n")
+}
+
+fn put_date(out: &mut [u8], at: usize, h: Header) -> usize
+    requires { ⌜ at + 78 ≤ length (now out) ⌝ }
+    ensures { λ r. ⌜ Puts 78 (now (out .entry)) at (dateText h) (now (out .exit)) r ⌝ }
+{
+    let a = put_field(out, at, b"area ", h.area as u64);
+    let b = put_field(out, a, b" year ", h.year as u64);
+    put_field(out, b, b" month ", h.month as u64)
+}
+
+fn put_header(out: &mut [u8], at: usize, h: Header, calls: usize) -> usize
+    requires { ⌜ at + mostHeader ≤ length (now out) ⌝ }
+    ensures { λ r. ⌜ Puts mostHeader (now (out .entry)) at (headerText h calls) (now (out .exit)) r ⌝ }
+{
+    let a = put_date(out, at, h);
+    let b = put_field(out, a, b" calls ", calls as u64);
+    put_word(out, b, b"\n")
+}
+
+fn put_score(out: &mut [u8], at: usize, grains: Grains, fen: Fen) -> usize
+    requires { ⌜ at + mostScore ≤ length (now out) ⌝ }
+    ensures { λ r. ⌜ Puts mostScore (now (out .entry)) at (scoreText (grains .0) (fen .0)) (now (out .exit)) r ⌝ }
+{
+    let a = put_field(out, at, b"grains ", grains.0);
+    let b = put_field(out, a, b"\nfen ", fen.0);
+    put_word(out, b, b"\n")
+}
+
+// A call, on one line.
+pub fn call_text(x: Call, out: &mut [u8]) -> usize
+    ensures { λ r. ⌜ Renders mostCall (callText x) (now (out .entry)) (now (out .exit)) r ⌝ }
+    ensures { λ r. ⌜ Counts r (now (out .exit)) ⌝ }
+{
+    if out.len() < MOST_CALL {
+        return 0;
+    }
+    put_call(out, 0, x)
+}
+
+// Whose month a book is of, and how many calls it has.
+pub fn header_text(h: Header, calls: usize, out: &mut [u8]) -> usize
+    ensures { λ r. ⌜ Renders mostHeader (headerText h calls) (now (out .entry)) (now (out .exit)) r ⌝ }
+    ensures { λ r. ⌜ Counts r (now (out .exit)) ⌝ }
+{
+    if out.len() < MOST_HEADER {
+        return 0;
+    }
+    put_header(out, 0, h, calls)
+}
+
+// A member's score.
+pub fn score_text(grains: Grains, fen: Fen, out: &mut [u8]) -> usize
+    ensures { λ r. ⌜ Renders mostScore (scoreText (grains .0) (fen .0)) (now (out .entry)) (now (out .exit)) r ⌝ }
+    ensures { λ r. ⌜ Counts r (now (out .exit)) ⌝ }
+{
+    if out.len() < MOST_SCORE {
+        return 0;
+    }
+    put_score(out, 0, grains, fen)
+}

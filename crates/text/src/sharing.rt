@@ -1,0 +1,109 @@
+// What `statement` prints: R and the lines, or a refusal.
+use crate::put::put_decimal;
+use crate::put::put_field;
+use crate::put::put_money;
+use crate::put::put_word;
+use share::Line;
+use share::Shared;
+use share::array::seen;
+use units::SignedFen;
+ghost use mathlib.Core.List.{_++_};
+ghost use Prim.Native.Nat.{_+_, _*_, _≤_};
+ghost use lib.ListN.{length, take};
+ghost use Rattle.io.specs.Counts.{Counts};
+ghost use Rattle.text.specs.Inner.{Puts};
+ghost use Rattle.text.specs.Room.{Renders, mostRefusal, mostRefused, mostTotal, mostLine, mostStatement};
+ghost use Rattle.text.specs.Texts.{refusalText, refusedText, totalText, lineText, linesText, statementText};
+
+// The most bytes of a refusal, and of a statement: 27 of R, and 63 for each of 64 lines.
+pub const MOST_REFUSED: usize = 50;
+
+pub const MOST_STATEMENT: usize = 4059;
+
+pub fn put_refusal(out: &mut [u8], at: usize, number: u32, place: usize) -> usize
+    requires { ⌜ at + mostRefusal ≤ length (now out) ⌝ }
+    ensures { λ r. ⌜ Puts mostRefusal (now (out .entry)) at (refusalText number place) (now (out .exit)) r ⌝ }
+{
+    let next = put_field(out, at, b"refused ", number as u64);
+    put_field(out, next, b" ", place as u64)
+}
+
+fn put_refused(out: &mut [u8], at: usize, number: u32, place: usize) -> usize
+    requires { ⌜ at + mostRefused ≤ length (now out) ⌝ }
+    ensures { λ r. ⌜ Puts mostRefused (now (out .entry)) at (refusedText number place) (now (out .exit)) r ⌝ }
+{
+    let next = put_refusal(out, at, number, place);
+    put_word(out, next, b"\n")
+}
+
+pub fn put_total(out: &mut [u8], at: usize, gap: SignedFen) -> usize
+    requires { ⌜ at + mostTotal ≤ length (now out) ⌝ }
+    ensures { λ r. ⌜ Puts mostTotal (now (out .entry)) at (totalText (gap .0)) (now (out .exit)) r ⌝ }
+{
+    let next = put_money(out, at, b"total ", gap);
+    put_word(out, next, b"\n")
+}
+
+fn put_line(out: &mut [u8], at: usize, l: Line) -> usize
+    requires { ⌜ at + mostLine ≤ length (now out) ⌝ }
+    ensures { λ r. ⌜ Puts mostLine (now (out .entry)) at (lineText l) (now (out .exit)) r ⌝ }
+{
+    let share = l.share;
+    let amount = l.amount;
+    let a = put_decimal(out, at, l.number as u64);
+    let b = put_money(out, a, b" ", share);
+    let c = put_money(out, b, b" ", amount);
+    put_word(out, c, b"\n")
+}
+
+// The first `count` lines.
+fn put_lines(out: &mut [u8], at: usize, lines: [Line; 64], count: usize) -> usize
+    requires { ⌜ count ≤ 64 ⌝ }
+    requires { ⌜ at + 64 * mostLine ≤ length (now out) ⌝ }
+    ensures { λ r. ⌜ Puts (64 * mostLine) (now (out .entry)) at (linesText (take count lines)) (now (out .exit)) r ⌝ }
+{
+    let mut next = at;
+    let mut i: usize = 0;
+    while i < count {
+        let l = lines[i];
+        next = put_line(out, next, l);
+        i += 1;
+    }
+    next
+}
+
+// R, and the first `count` lines.
+fn put_statement(out: &mut [u8], gap: SignedFen, lines: [Line; 64], count: usize) -> usize
+    requires { ⌜ mostStatement ≤ length (now out) ⌝ }
+    ensures { λ r. ⌜ Puts mostStatement (now (out .entry)) 0 (totalText (gap .0) ++ linesText (take count lines)) (now (out .exit)) r ⌝ }
+{
+    let next = put_total(out, 0, gap);
+    put_lines(out, next, lines, seen(count))
+}
+
+// What sharing says of the first `count` lines.
+pub fn statement_text(s: Shared, count: usize, out: &mut [u8]) -> usize
+    ensures { λ r. ⌜ Renders mostStatement (statementText s count) (now (out .entry)) (now (out .exit)) r ⌝ }
+    ensures { λ r. ⌜ Counts r (now (out .exit)) ⌝ }
+{
+    if out.len() < MOST_STATEMENT {
+        return 0;
+    }
+    if s.number == 0 {
+        let gap = s.gap;
+        let lines = s.lines;
+        return put_statement(out, gap, lines, count);
+    }
+    put_refused(out, 0, s.number, s.place)
+}
+
+// A refusal's number and place.
+pub fn refused_text(number: u32, place: usize, out: &mut [u8]) -> usize
+    ensures { λ r. ⌜ Renders mostRefused (refusedText number place) (now (out .entry)) (now (out .exit)) r ⌝ }
+    ensures { λ r. ⌜ Counts r (now (out .exit)) ⌝ }
+{
+    if out.len() < MOST_REFUSED {
+        return 0;
+    }
+    put_refused(out, 0, number, place)
+}
