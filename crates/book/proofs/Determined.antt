@@ -4,20 +4,17 @@ use mathlib.Core.List.{List, [], _∷_}
 use Prim.Native.Nat.{ℕ}
 use Rattle.call.specs.declared.Call.{Call}
 use Rattle.book.specs.declared.Header.{Header}
+use Rattle.book.specs.declared.Opened.{Opened}
 use Rattle.book.specs.declared.Verdict.{Verdict}
 use Rattle.book.specs.declared.write.Written.{Written}
-use Rattle.book.specs.Book.{headerOf, callOf}
-use Rattle.book.specs.Check.{check}
+use Rattle.book.specs.Check.{check, headerOf}
 use Rattle.book.specs.Write.{BookOutcome, bookOutcome, writing}
 
 pub check-determined : (b : List ℕ) (r s : Verdict) → r ≡ check b → s ≡ check b → r ≡ s
 check-determined b r s e f = e ∙ sym f
 
-pub header-determined : (b : List ℕ) (r s : Header) → r ≡ headerOf b → s ≡ headerOf b → r ≡ s
+pub header-determined : (b : List ℕ) (r s : Opened) → r ≡ headerOf b → s ≡ headerOf b → r ≡ s
 header-determined b r s e f = e ∙ sym f
-
-pub call-determined : (b : List ℕ) (i : ℕ) (r s : Call) → r ≡ callOf b i → s ≡ callOf b i → r ≡ s
-call-determined b i r s e f = e ∙ sym f
 
 -- an outcome fixes the answer and every byte of the output
 pub outcome-determined : (r s : Written) (o p : List ℕ) (w : BookOutcome) → bookOutcome r o ≡ w → bookOutcome s p ≡ w → (r ≡ s) × (o ≡ p)

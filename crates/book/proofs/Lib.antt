@@ -4,6 +4,8 @@ pub mod Writes
 pub mod Heads
 pub mod Records
 pub mod Exact
+pub mod Judged
+pub mod Opening
 pub mod Numbers
 pub mod Writing
 pub mod Determined

@@ -1,9 +1,6 @@
 -- The call book: sixteen header bytes, then 32 for each call. Assumes nothing.
-use mathlib.Core.Bool.{cond}
 use mathlib.Core.List.{List, [], _∷_, _++_}
-use Prim.Native.Nat.{ℕ, zero, suc, _+_, _*_, _-_, _/_, _≤_}
-use lib.Dec.{leb, ltb}
-use lib.IntN.{pos}
+use Prim.Native.Nat.{ℕ, zero, suc, _+_, _*_, _≤_}
 use lib.ListN.{length}
 use Rattle.le.specs.Le.{leAt, leBytes}
 use Rattle.call.specs.declared.Call.{Call}
@@ -73,17 +70,6 @@ callsFrom b i (suc left) = recordAt b i ∷ callsFrom b (suc i) left
 
 unfoldable pub callsOf : List ℕ → List Call
 callsOf b = callsFrom b 0 (countAt b)
-
--- The same of any bytes, with zeros where they do not reach so far
-
-unfoldable pub headerOf : List ℕ → Header
-headerOf b = cond (ltb (length b) headerSize) (record { area = 0; year = 0; month = 0 }) (headerAt b)
-
-unfoldable pub noCall : Call
-noCall = record { participant = 0; service = 0; state = 0; number = 0; revision = 0; start = 0; length = 0; a = pos 0; b = 0; c = 0 }
-
-unfoldable pub callOf : List ℕ → ℕ → Call
-callOf b i = cond (leb ((length b - headerSize) / recordSize) i) noCall (recordAt b i)
 
 -- Writing: mark "NWB" and area; version, year, month and a zero byte; count and four zero bytes
 

@@ -10,6 +10,7 @@ use Rattle.call.specs.Key.{callKey}
 use Rattle.call.specs.Limits.{callIsSound}
 use Rattle.call.specs.Layout.{reservedAt}
 use Rattle.book.specs.declared.Header.{Header}
+use Rattle.book.specs.declared.Opened.{Opened}
 use Rattle.book.specs.declared.RecordTurn.{RecordTurn}
 use Rattle.book.specs.declared.Verdict.{Verdict}
 use Rattle.book.specs.Book.{version, mostRecords, headerSize, sizeOf, placeOf, mostArea, firstYear, lastYear, versionAt, headerAt, countAt, recordAt}
@@ -77,3 +78,13 @@ check b =
     (cond (not (isHeaded b)) (refused 4 0)
     (cond (not (eqb (length b) (sizeOf (countAt b)))) (refused 1 0)
     (checkRecords (headerMinutes (headerAt b)) b 0 0 (countAt b))))))
+
+-- The header of a book, of any bytes
+
+-- a refusal gives number and place, otherwise zeros
+abbrev pub turnedAway : Verdict → Opened
+turnedAway v = record { number = v .number; place = v .place; header = record { area = 0; year = 0; month = 0 }; calls = 0 }
+
+-- accepted: whose month the book is of, and how many calls it has
+unfoldable pub headerOf : List ℕ → Opened
+headerOf b = cond (eqb (check b .number) 0) (record { number = 0; place = 0; header = headerAt b; calls = countAt b }) (turnedAway (check b))

@@ -12,8 +12,8 @@ ghost use mathlib.Core.Path.{_≡_};
 ghost use Prim.Native.Nat.{_<_, _≤_};
 ghost use lib.ListN.{length};
 ghost use Rattle.book.specs.Book.{mostRecords, sizeOf, placeOf, HasHeader, HasRecord};
-ghost use Rattle.book.specs.Book.{versionAt, headerAt, countAt, recordAt, headerOf, callOf, noCall};
-ghost use Rattle.book.specs.Check.{refused, isMarked, isVersioned, headerIsSound, isHeaded, isRecord, nextAt, turnAt, checkRecords, check};
+ghost use Rattle.book.specs.Book.{versionAt, headerAt, countAt, recordAt};
+ghost use Rattle.book.specs.Check.{refused, accepted, isMarked, isVersioned, headerIsSound, isHeaded, isRecord, nextAt, turnAt, checkRecords, check, turnedAway, headerOf};
 ghost use Rattle.book.specs.Inner.{wordLimit};
 
 pub mod write;
@@ -239,46 +239,55 @@ pub fn check(b: &[u8]) -> Verdict
     check_records(b, n, minutes_of(h.year, h.month))
 }
 
-// The header of a book, of any bytes: zeros where they are too few.
-pub fn header_of(b: &[u8]) -> Header
+// What any bytes are found to be: a refusal's number and place, otherwise zeros; or a sound book, whose month it is of and how many calls it has.
+pub struct Opened {
+    pub number: u32,
+    pub place: usize,
+    pub header: Header,
+    pub calls: usize,
+}
+
+fn turned_away(v: Verdict) -> Opened
+    ensures { λ r. ⌜ r ≡ turnedAway v ⌝ }
+{
+    let header = Header {
+        area: 0,
+        year: 0,
+        month: 0,
+    };
+    Opened {
+        number: v.number,
+        place: v.place,
+        header,
+        calls: 0,
+    }
+}
+
+// The header of a book, which is checked whole first.
+pub fn header_of(b: &[u8]) -> Opened
     ensures { λ r. ⌜ r ≡ headerOf (now (b .entry)) ⌝ }
+    ensures { λ r. ⌜ (r .number ≡ 0 → check (now (b .entry)) ≡ accepted) ⌝ }
+    ensures { λ r. ⌜ r .calls ≤ countAt (now (b .entry)) ⌝ }
 {
-    if b.len() < HEADER_SIZE {
-        return Header {
-            area: 0,
-            year: 0,
-            month: 0,
-        };
+    let v = check(b);
+    if v.number != 0 {
+        return turned_away(v);
     }
-    header_at(b)
-}
-
-// The call at an index of a book, of any bytes: zeros where they do not reach so far.
-pub fn call_of(b: &[u8], i: usize) -> Call
-    ensures { λ r. ⌜ r ≡ callOf (now (b .entry)) i ⌝ }
-{
-    if b.len() < HEADER_SIZE {
-        return no_call();
-    }
-    if (b.len() - HEADER_SIZE) / RECORD_SIZE <= i {
-        return no_call();
-    }
-    record_at(b, i)
-}
-
-fn no_call() -> Call
-    ensures { λ r. ⌜ r ≡ noCall ⌝ }
-{
-    Call {
-        participant: 0,
-        service: 0,
-        state: 0,
+    let header = header_at(b);
+    let calls = count_at(b);
+    Opened {
         number: 0,
-        revision: 0,
-        start: 0,
-        length: 0,
-        a: 0,
-        b: 0,
-        c: 0,
+        place: 0,
+        header,
+        calls,
     }
+}
+
+// Call i of a book that was found sound: who has not had it checked cannot ask.
+pub fn call_of(b: &[u8], i: usize) -> Call
+    requires { ⌜ check (now b) ≡ accepted ⌝ }
+    requires { ⌜ i < countAt (now b) ⌝ }
+    ensures { λ r. ⌜ r ≡ recordAt (now (b .entry)) i ⌝ }
+{
+    record_at(b, i)
 }

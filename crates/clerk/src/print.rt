@@ -1,11 +1,19 @@
-// What the program prints, each line whole. Its last line is `ok`, `refused N P FILE` or `failed ..`. What a line says of a refusal, a call, a
-// header or a failure is text's; a name of a file is at most 4,096 bytes, so that every line has room here.
+// What the program prints, each line whole. Its last line is `ok`, `refused N P FILE` or `failed ..`. What a line says is text's; a name of a file
+// is at most 4,096 bytes, so that every line has room here.
 use book::Header;
 use call::Call;
 use text::record::call_text;
+use text::record::found_text;
 use text::record::header_text;
+use text::record::score_text;
+use text::told::bad_argument_text;
 use text::told::failed_text;
+use text::told::no_number_text;
+use text::told::note_text;
 use text::told::refused_about_text;
+use text::told::usage_text;
+use units::Fen;
+use units::Grains;
 
 pub fn done() {
     say::text(b"ok\n");
@@ -25,6 +33,34 @@ pub fn failed(what: &[u8], why: &[u8]) {
     say::text(&line[..n]);
 }
 
+// An argument that is not taken, and why.
+pub fn bad_argument(i: usize, why: &[u8]) {
+    let mut line = io::large_buffer();
+    let n = bad_argument_text(i, why, &mut line);
+    say::text(&line[..n]);
+}
+
+// An argument that is no number, or one too large.
+pub fn no_number(i: usize, most: u64) {
+    let mut line = io::buffer();
+    let n = no_number_text(i, most, &mut line);
+    say::text(&line[..n]);
+}
+
+// A remark in words, and what it is about: a line before the last one.
+pub fn note(what: &[u8], why: &[u8]) {
+    let mut line = io::large_buffer();
+    let n = note_text(what, why, &mut line);
+    say::text(&line[..n]);
+}
+
+// How a command is called.
+pub fn usage(words: &[u8]) {
+    let mut line = io::buffer();
+    let n = usage_text(words, &mut line);
+    say::text(&line[..n]);
+}
+
 // One call, on one line. What is contested or withdrawn has no details.
 pub fn call(x: Call) {
     let mut line = io::buffer();
@@ -32,9 +68,28 @@ pub fn call(x: Call) {
     say::text(&line[..n]);
 }
 
+// The call that stands, and whether the second of two books has it or the first.
+pub fn found(second: bool, x: Call) {
+    let mut line = io::buffer();
+    let n = found_text(second, x, &mut line);
+    say::text(&line[..n]);
+}
+
+// No call stands in either book.
+pub fn none() {
+    say::text(b"none\n");
+}
+
 // Whose month it is, and how many calls its book has.
 pub fn header(h: Header, calls: usize) {
     let mut line = io::buffer();
     let n = header_text(h, calls, &mut line);
     say::text(&line[..n]);
+}
+
+// A member's score.
+pub fn score(grains: Grains, fen: Fen) {
+    let mut lines = io::buffer();
+    let n = score_text(grains, fen, &mut lines);
+    say::text(&lines[..n]);
 }

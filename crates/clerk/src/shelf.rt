@@ -3,11 +3,14 @@ use crate::args::Held;
 use crate::args::first;
 use crate::args::path;
 use crate::print;
-use book::HEADER_SIZE;
-use book::check;
-use call::RECORD_SIZE;
+use book::Opened;
+use book::header_of;
 use files::Loaded;
 use files::Stored;
+ghost use mathlib.Core.Path.{_≡_};
+ghost use Prim.Native.Nat.{_≤_};
+ghost use Rattle.book.specs.Book.{countAt};
+ghost use Rattle.book.specs.Check.{accepted, check, headerOf};
 
 // The whole file in the buffer's first bytes.
 pub fn load(path: &[u8], buf: &mut [u8]) -> Held {
@@ -18,6 +21,15 @@ pub fn load(path: &[u8], buf: &mut [u8]) -> Held {
         Loaded::Failed => print::failed(path, b"cannot be read"),
     }
     Held::Nothing
+}
+
+// The whole file that argument i names, in the buffer's first bytes.
+pub fn load_at(i: usize, buf: &mut [u8]) -> Held {
+    let mut name = io::buffer();
+    let Held::Bytes(n) = path(i, &mut name) else {
+        return Held::Nothing;
+    };
+    load(first(&name, n), buf)
 }
 
 // The bytes as the whole file that argument i names.
@@ -41,29 +53,29 @@ fn store(path: &[u8], bytes: &[u8]) -> bool {
     false
 }
 
-// How many records a sound book of so many bytes has.
-pub fn records(bytes: usize) -> usize {
-    if bytes < HEADER_SIZE {
-        return 0;
+// What the book that argument i names is found to be. A refusal is told.
+pub fn opened_at(i: usize, book: &[u8]) -> Opened
+    ensures { λ r. ⌜ r ≡ headerOf (now (book .entry)) ⌝ }
+    ensures { λ r. ⌜ (r .number ≡ 0 → check (now (book .entry)) ≡ accepted) ⌝ }
+    ensures { λ r. ⌜ r .calls ≤ countAt (now (book .entry)) ⌝ }
+{
+    let o = header_of(book);
+    if o.number != 0 {
+        refused_at(o.number, o.place, i);
     }
-    (bytes - HEADER_SIZE) / RECORD_SIZE
+    o
 }
 
 // The book that argument i names, in the buffer's first bytes, sound.
 pub fn open(i: usize, book: &mut [u8]) -> Held {
-    let mut buf = io::buffer();
-    let Held::Bytes(n) = path(i, &mut buf) else {
+    let Held::Bytes(n) = load_at(i, book) else {
         return Held::Nothing;
     };
-    let Held::Bytes(size) = load(first(&buf, n), book) else {
-        return Held::Nothing;
-    };
-    let v = check(first(book, size));
-    if v.number != 0 {
-        print::refused(v.number, v.place, first(&buf, n));
+    let o = opened_at(i, first(book, n));
+    if o.number != 0 {
         return Held::Nothing;
     }
-    Held::Bytes(size)
+    Held::Bytes(n)
 }
 
 // A refusal of what argument i names.
@@ -71,4 +83,11 @@ pub fn refused_at(number: u32, place: usize, i: usize) {
     let mut buf = io::buffer();
     let n = os::arg(i, &mut buf);
     print::refused(number, place, &buf[0..n]);
+}
+
+// A remark on what argument i names.
+pub fn note_at(i: usize, why: &[u8]) {
+    let mut buf = io::buffer();
+    let n = os::arg(i, &mut buf);
+    print::note(&buf[0..n], why);
 }

@@ -1,6 +1,8 @@
 // Books as files: checked, shown, joined, and one call looked up.
 use book::call_of;
 use book::header_of;
+use call::RECORD_SIZE;
+use call::layout::call_at;
 use clerk::args::Held;
 use clerk::args::Long;
 use clerk::args::Short;
@@ -8,12 +10,18 @@ use clerk::args::first;
 use clerk::args::long_at;
 use clerk::args::short_at;
 use clerk::print;
+use clerk::shelf::load_at;
+use clerk::shelf::note_at;
 use clerk::shelf::open;
-use clerk::shelf::records;
+use clerk::shelf::opened_at;
 use clerk::shelf::refused_at;
 use clerk::shelf::save;
 use lookup::Place;
-ghost use Prim.Native.Nat.{_<_};
+use pair::screen;
+ghost use mathlib.Core.Path.{_≡_};
+ghost use Prim.Native.Nat.{_<_, _≤_};
+ghost use Rattle.book.specs.Book.{countAt};
+ghost use Rattle.book.specs.Check.{accepted, check};
 
 // Whose call, and which; or nothing, and one line has said why.
 pub enum Key {
@@ -39,7 +47,10 @@ pub fn check_book() {
     }
 }
 
-fn show_calls(book: &[u8], count: usize) {
+fn show_calls(book: &[u8], count: usize)
+    requires { ⌜ check (now book) ≡ accepted ⌝ }
+    requires { ⌜ count ≤ countAt (now book) ⌝ }
+{
     let mut i: usize = 0;
     while i < count {
         print::call(call_of(book, i));
@@ -47,15 +58,21 @@ fn show_calls(book: &[u8], count: usize) {
     }
 }
 
+fn show(book: &[u8]) {
+    let o = opened_at(2, book);
+    if o.number != 0 {
+        return;
+    }
+    print::header(o.header, o.calls);
+    show_calls(book, o.calls);
+    print::done();
+}
+
 pub fn show_book() {
     let mut book = io::large_buffer();
-    let Held::Bytes(n) = open(2, &mut book) else {
-        return;
-    };
-    let count = records(n);
-    print::header(header_of(first(&book, n)), count);
-    show_calls(first(&book, n), count);
-    print::done();
+    if let Held::Bytes(n) = load_at(2, &mut book) {
+        show(first(&book, n));
+    }
 }
 
 // The bytes to the front of a buffer that has room for them.
@@ -103,38 +120,68 @@ pub fn join_all(from: usize, all: &mut [u8]) -> Held
     held
 }
 
+// Whose month a sound book is of, and how many calls it has.
+pub fn tell_header(book: &[u8]) {
+    let o = header_of(book);
+    if o.number == 0 {
+        print::header(o.header, o.calls);
+    }
+}
+
 pub fn join_books() {
     let mut all = io::large_buffer();
     let Held::Bytes(n) = join_all(3, &mut all) else {
         return;
     };
     if save(2, first(&all, n)) {
-        print::header(header_of(first(&all, n)), records(n));
+        tell_header(first(&all, n));
         print::done();
     }
 }
 
-// The record that stands for a key, as it lies in one of two books.
-fn tell_found(first: &[u8], second: &[u8], member: u16, call: u32) {
-    match lookup::which(first, second, member, call) {
-        Place::Nowhere => say::text(b"none\n"),
-        Place::InFirst(i) => {
-            say::text(b"first ");
-            print::call(call_of(first, i));
-        }
-        Place::InSecond(j) => {
-            say::text(b"second ");
-            print::call(call_of(second, j));
-        }
+// Where joining would refuse two books, nothing is found in them. The paper gives no number here, so that words say which book is at fault.
+fn tell_refused(first: &[u8], second: &[u8]) {
+    let v = screen(first, second);
+    if v.number == 0 {
+        return;
     }
-    print::done();
+    if v.number < 7 {
+        note_at(2, b"not a sound book, so nothing is found");
+        return;
+    }
+    if v.number == 7 {
+        note_at(
+            3,
+            b"of another month or area than the first book, so nothing is found",
+        );
+        return;
+    }
+    note_at(3, b"not a sound book, so nothing is found");
+}
+
+// The record that stands for a key: which book has it, and its 32 bytes as they lie there.
+fn tell_found<'a>(first: &'a [u8], second: &'a [u8], member: u16, call: u32) {
+    let part = lookup::find(first, second, member, call);
+    if part.len() < RECORD_SIZE {
+        print::none();
+        return;
+    }
+    match lookup::which(first, second, member, call) {
+        Place::Nowhere => print::none(),
+        Place::InFirst(_) => print::found(false, call_at(part, 0)),
+        Place::InSecond(_) => print::found(true, call_at(part, 0)),
+    }
 }
 
 fn find_in(one: &[u8], member: u16, call: u32) {
     let mut book = io::large_buffer();
-    if let Held::Bytes(n) = open(3, &mut book) {
-        tell_found(one, first(&book, n), member, call);
-    }
+    let Held::Bytes(n) = load_at(3, &mut book) else {
+        return;
+    };
+    let two = first(&book, n);
+    tell_refused(one, two);
+    tell_found(one, two, member, call);
+    print::done();
 }
 
 pub fn find_call() {
@@ -142,7 +189,7 @@ pub fn find_call() {
         return;
     };
     let mut book = io::large_buffer();
-    if let Held::Bytes(n) = open(2, &mut book) {
+    if let Held::Bytes(n) = load_at(2, &mut book) {
         find_in(first(&book, n), member, call);
     }
 }

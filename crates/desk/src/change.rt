@@ -4,14 +4,13 @@ use crate::books::join_bytes;
 use crate::books::whose;
 use book::HEADER_SIZE;
 use book::Header;
-use book::call_of;
-use book::header_of;
 use book::write::write_none;
 use book::write::write_one;
 use call::Call;
 use call::Content;
 use call::LIVE;
 use call::RECORD_SIZE;
+use call::layout::call_at;
 use clerk::args::Byte;
 use clerk::args::Held;
 use clerk::args::Integer;
@@ -23,9 +22,9 @@ use clerk::args::integer_at;
 use clerk::args::long_at;
 use clerk::args::short_at;
 use clerk::print;
-use clerk::shelf::open;
+use clerk::shelf::load_at;
+use clerk::shelf::opened_at;
 use clerk::shelf::save;
-use lookup::Place;
 ghost use Prim.Native.Nat.{_<_};
 
 // What a call is to be; or nothing, and one line has said why.
@@ -92,8 +91,9 @@ fn blank(member: u16, call: u32, revision: u32) -> Call {
 
 // The record that stands for the key of x, in a book that has it: of a book and itself it is the first's.
 fn tell_standing(book: &[u8], x: Call) {
-    if let Place::InFirst(i) = lookup::which(book, book, x.participant, x.number) {
-        print::call(call_of(book, i));
+    let part = lookup::find(book, book, x.participant, x.number);
+    if RECORD_SIZE <= part.len() {
+        print::call(call_at(part, 0));
     }
 }
 
@@ -110,11 +110,15 @@ fn store_joined(book: &mut [u8], n: usize, one: &[u8], x: Call) {
 // The call joined into the book that argument 3 names, and the result stored as argument 2.
 fn apply(x: Call) {
     let mut book = io::large_buffer();
-    let Held::Bytes(n) = open(3, &mut book) else {
+    let Held::Bytes(n) = load_at(3, &mut book) else {
         return;
     };
+    let o = opened_at(3, first(&book, n));
+    if o.number != 0 {
+        return;
+    }
     let mut one = [0u8; HEADER_SIZE + RECORD_SIZE];
-    let w = write_one(header_of(first(&book, n)), x, &mut one);
+    let w = write_one(o.header, x, &mut one);
     if w.number != 0 {
         print::refused(w.number, w.place, b"call");
         return;

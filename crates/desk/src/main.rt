@@ -28,8 +28,12 @@ const MANY: usize = 65536;
 
 fn main() {
     let mut word = io::buffer();
-    let Held::Bytes(n) = argument(1, &mut word) else {
+    if os::arg_count() < 2 {
         help();
+        return;
+    }
+    let Held::Bytes(n) = argument(1, &mut word) else {
+        unknown();
         return;
     };
     run(first(&word, n));
@@ -79,9 +83,7 @@ fn rows(usage: bool, word: &[u8]) -> Command {
 // One row: printed, where the usage is asked; else whether the word and the number of arguments are its.
 fn row(usage: bool, word: &[u8], line: &[u8], least: usize, most: usize) -> bool {
     if usage {
-        say::text(b"desk ");
-        say::text(line);
-        say::text(b"\n");
+        print::usage(line);
         return false;
     }
     let name = first(line, bytes::scan::find(line, 0, line.len(), b' '));

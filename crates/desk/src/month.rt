@@ -1,5 +1,6 @@
 // A member's score, and the whole month: the books joined, every member scored, the gap shared.
 use crate::books::join_all;
+use crate::books::tell_header;
 use book::call_of;
 use book::header_of;
 use clerk::args::Byte;
@@ -14,7 +15,6 @@ use clerk::args::short_at;
 use clerk::print;
 use clerk::shelf::load;
 use clerk::shelf::open;
-use clerk::shelf::records;
 use clerk::shelf::refused_at;
 use pay::Member;
 use score::answer::Score;
@@ -22,8 +22,8 @@ use share::Shared;
 use tables::register::Register;
 use tables::register::read_register;
 use tables::series::read_series;
+use tables::series::series_name;
 use text::month::month_text;
-use text::record::score_text;
 use units::Fen;
 use units::Grains;
 use units::Kw;
@@ -79,6 +79,22 @@ fn score_with(member: Member, book: &[u8], whose: &[u8], path: &[u8]) -> Scored 
     told(r, book, whose, path)
 }
 
+// Call i of a sound book.
+fn show_call(book: &[u8], i: usize) {
+    let o = header_of(book);
+    if o.number != 0 {
+        return;
+    }
+    if i < o.calls {
+        print::call(call_of(book, i));
+    }
+}
+
+// The member that the arguments say is no register line.
+fn refuse_member() {
+    print::refused(10, 0, b"member");
+}
+
 // The score, or its refusal in one line. Of a call that is refused by 12, 13 or 14 a line before it says which it is.
 fn told(r: Score, book: &[u8], whose: &[u8], path: &[u8]) -> Scored {
     if r.number == 0 {
@@ -87,7 +103,7 @@ fn told(r: Score, book: &[u8], whose: &[u8], path: &[u8]) -> Scored {
         return Scored::Score(grains, fen);
     }
     if r.number == 10 {
-        print::refused(r.number, r.place, b"member");
+        refuse_member();
         return Scored::Nothing;
     }
     if r.number == 11 {
@@ -95,7 +111,7 @@ fn told(r: Score, book: &[u8], whose: &[u8], path: &[u8]) -> Scored {
         return Scored::Nothing;
     }
     if 11 < r.number {
-        print::call(call_of(book, r.place));
+        show_call(book, r.place);
     }
     print::refused(r.number, r.place, whose);
     Scored::Nothing
@@ -115,13 +131,12 @@ fn score_of(member: Member) {
     let k = os::arg(5, &mut name);
     let scored = score_with(member, first(&book, n), &name[0..k], first(&series, m));
     if let Scored::Score(grains, fen) = scored {
-        let mut out = io::buffer();
-        let size = score_text(grains, fen, &mut out);
-        say::text(&out[..size]);
+        print::score(grains, fen);
         print::done();
     }
 }
 
+// The paper's order: the member first, then the book, then the series.
 pub fn score_member() {
     let Short::Number(number) = short_at(2) else {
         return;
@@ -133,20 +148,23 @@ pub fn score_member() {
         return;
     };
     let rated = Kw(rated);
-    score_of(Member {
+    let member = Member {
         number,
         kind,
         rated,
-    });
+    };
+    if !member.is_sound() {
+        refuse_member();
+        return;
+    }
+    score_of(member);
 }
 
-// A series' file behind its folder's name, from byte n on: the member's number in two digits and .csv.
+// The file of a member's series behind its folder's name, from byte n on.
 fn put_name(member: u16, buf: &mut [u8], n: usize)
     requires { ⌜ n + 7 ≤ length (now buf) ⌝ }
 {
-    let tens = b'0' + (member / 10 % 10) as u8;
-    let ones = b'0' + (member % 10) as u8;
-    let name = [b'/', tens, ones, b'.', b'c', b's', b'v'];
+    let name = series_name(member);
     bytes::copy(&name, &mut buf[n..]);
 }
 
@@ -243,7 +261,7 @@ fn settle_with(register: Register, book: &[u8]) {
         refused_at(shared.number, shared.place, 2);
         return;
     }
-    print::header(header_of(book), records(book.len()));
+    tell_header(book);
     tell_statement(shared, s, register.count);
 }
 
@@ -256,7 +274,9 @@ fn settle(register: Register) {
 
 pub fn settle_month() {
     let mut name = io::buffer();
-    let n = path(2, &mut name).size();
+    let Held::Bytes(n) = path(2, &mut name) else {
+        return;
+    };
     let mut text = io::large_buffer();
     let Held::Bytes(size) = load(first(&name, n), &mut text) else {
         return;

@@ -2,7 +2,10 @@
 use crate::numbers::Numbers;
 use crate::tally::Tally;
 use book::Header;
+use book::Opened;
 use book::Verdict;
+use book::call_of;
+use book::header_of;
 use book::place_of;
 use book::size_of;
 use book::write::Written;
@@ -53,11 +56,28 @@ fn same_header(x: Header, y: Header) -> bool {
     (x.area == y.area) & (x.year == y.year) & (x.month == y.month)
 }
 
+fn no_header() -> Header {
+    Header {
+        area: 0,
+        year: 0,
+        month: 0,
+    }
+}
+
+// What is told of a book: a refusal's number, otherwise zeros; or its header and how many calls it has.
+fn is_told(o: Opened, number: u64, h: Header, calls: usize) -> bool {
+    let told = o.header;
+    if number == 0 {
+        return (o.number == 0) & (o.place == 0) & same_header(told, h) & (o.calls == calls);
+    }
+    (o.number as u64 == number) & (o.place == 0) & same_header(told, no_header()) & (o.calls == 0)
+}
+
 fn none_written(h: Header, number: u64) -> bool {
     let mut out = [7u8; 16];
     let w = write_none(h, &mut out);
     if number == 0 {
-        return wrote(w, 0, 16) & same_header(book::header_of(&out), h);
+        return wrote(w, 0, 16) & is_told(header_of(&out), 0, h, 0);
     }
     wrote(w, number, 0) & (out[0] == 7) & (out[15] == 7)
 }
@@ -65,7 +85,7 @@ fn none_written(h: Header, number: u64) -> bool {
 fn none_checked(h: Header, number: u64) -> bool {
     let mut raw = [0u8; 16];
     put_header(&mut raw, h, 0);
-    is(book::check(&raw), number, 0)
+    is(book::check(&raw), number, 0) & is_told(header_of(&raw), number, h, 0)
 }
 
 // 1 area year month | number: a book of none by its writer, and the same header in bytes by the check.
@@ -111,11 +131,24 @@ fn one_written(h: Header, x: Call, number: u64) -> bool {
     wrote(w, number, 0) & ends(out, 7, 7)
 }
 
+// Whether the first call of a book is this one; a refused book has none that could be asked for.
+fn first_call_is(b: &[u8], x: Call) -> bool {
+    let o = header_of(b);
+    if o.number != 0 {
+        return true;
+    }
+    if o.calls == 0 {
+        return false;
+    }
+    same(call_of(b, 0), x)
+}
+
 fn one_checked(h: Header, x: Call, number: u64) -> bool {
     let mut raw = [0u8; 48];
     put_header(&mut raw, h, 1);
     put_call(&mut raw, 16, x);
-    is(book::check(&raw), number, 0) & same(book::call_of(&raw, 0), x)
+    let told = is_told(header_of(&raw), number, h, 1);
+    is(book::check(&raw), number, 0) & told & first_call_is(&raw, x)
 }
 
 // 2 year month, a record | number: a book of one by its writer, and the same record in bytes by the check.

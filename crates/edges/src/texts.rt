@@ -7,6 +7,8 @@ use lines::Reader;
 use lines::Taken;
 use share::Line;
 use share::Shared;
+use share::lent::share_front;
+use share::share;
 ghost use Prim.Native.Nat.{_≤_};
 
 fn same_line(x: Line, y: Line) -> bool {
@@ -28,16 +30,39 @@ fn same_at(x: [Line; 64], y: [Line; 64], i: usize) -> bool {
     false
 }
 
-fn same(x: Taken, y: Taken) -> bool {
-    let mut all = (x.number == y.number) & (x.place == y.place) & (x.count == y.count);
-    let a = x.lines;
-    let b = y.lines;
+fn same_lines(x: [Line; 64], y: [Line; 64]) -> bool {
+    let mut all = true;
     let mut i: usize = 0;
     while i < 64 {
-        all = all & same_at(a, b, i);
+        all = all & same_at(x, y, i);
         i += 1;
     }
     all
+}
+
+fn same(x: Taken, y: Taken) -> bool {
+    let told = (x.number == y.number) & (x.place == y.place) & (x.count == y.count);
+    let a = x.lines;
+    let b = y.lines;
+    told & same_lines(a, b)
+}
+
+fn same_shared(x: Shared, y: Shared) -> bool {
+    let told = (x.number == y.number) & (x.place == y.place) & (x.gap.0 == y.gap.0);
+    let a = x.lines;
+    let b = y.lines;
+    told & same_lines(a, b)
+}
+
+// Whether the array form and the lent form share the first `count` lines alike.
+fn forms_agree(lines: [Line; 64], count: usize) -> bool {
+    same_shared(share(lines, count), share_front(lines, count))
+}
+
+// The same of the lines read, of all 64, and of one more than there can be: where fewer were read, both refuse.
+fn both_forms(t: Taken) -> bool {
+    let lines = t.lines;
+    forms_agree(lines, t.count) & forms_agree(lines, 64) & forms_agree(lines, 65)
 }
 
 // The text read a byte at a time.
@@ -124,7 +149,7 @@ fn settling(numbers: Numbers, text: &[u8]) -> bool {
 }
 
 // A kind of case that no line should have counts as wrong.
-fn is_right(numbers: Numbers, text: &[u8]) -> bool {
+fn as_told(numbers: Numbers, text: &[u8]) -> bool {
     let kind = numbers.value(0);
     match kind {
         1 => reading(numbers, text),
@@ -132,6 +157,11 @@ fn is_right(numbers: Numbers, text: &[u8]) -> bool {
         3 => settling(numbers, text),
         _ => false,
     }
+}
+
+// Whether a case comes out as its line says, and its lines are shared alike in both forms.
+fn is_right(numbers: Numbers, text: &[u8]) -> bool {
+    as_told(numbers, text) & both_forms(lines::read_text(text))
 }
 
 // The same of the text that the line spells from a place on.

@@ -1,9 +1,7 @@
 -- What an accepted join says, and the book that it has written. Assumes nothing.
-use mathlib.Core.Path.{_≡_, refl, sym, _∙_, ap}
+use mathlib.Core.Path.{_≡_, sym, _∙_, ap}
 use mathlib.Core.Bool.{true}
-use mathlib.Core.Logic.{⊎-elim}
-use mathlib.Core.List.{List, [], _∷_, List·Memᴰ as In, List·Memᴰ·head as here, List·Memᴰ·tail as there, List·Memᴰ·cases-cons as in-cons, List·Memᴰ·eq-of-singleton as eq-of-one}
-use mathlib.Core.Option.{some}
+use mathlib.Core.List.{List, [], _∷_}
 use Prim.Native.Nat.{ℕ, _≤_}
 use native.Mathlib.Omega.{arith}
 use lib.Dec.{eqb}
@@ -11,7 +9,6 @@ use lib.ListN.{length}
 use lib.Seq.{take-append-seam}
 use borrow.Author.Tests.{eqb-true}
 use Rattle.le.proofs.Tests.{each}
-use Rattle.call.specs.declared.Call.{Call}
 use Rattle.book.specs.declared.Header.{Header}
 use Rattle.book.specs.declared.Verdict.{Verdict}
 use Rattle.book.specs.Book.{version, mostRecords, headerAt, callsOf, bookBytes}
@@ -20,13 +17,8 @@ use Rattle.book.specs.Sound.{Heading, Sound}
 use Rattle.book.proofs.Exact.{reads-back, sound-reads}
 use Rattle.rule.specs.Keys.{recordOf}
 use Rattle.rule.specs.Joined.{joinedAt, joinCalls}
-use Rattle.call.specs.Key.{callKey}
-use Rattle.rule.specs.Standing.{isWithdrawn}
-use Rattle.rule.specs.Whole.{leaf, node, leaves, treeJoined}
-use Rattle.rule.proofs.Keyed.{in-find}
-use Rattle.rule.proofs.Orders.{stays-withdrawn}
 use Rattle.rule.proofs.Joins.{join-find}
-use Rattle.rule.proofs.Bounds.{Calls, Sounds, join-sound}
+use Rattle.rule.proofs.Bounds.{Calls, join-sound}
 use Rattle.pair.specs.Screening.{sameMonth}
 use Rattle.join.specs.Joining.{JoinOutcome, joinRefused, joinWrote, joinedOf, joining}
 use Rattle.join.specs.Trees.{written}
@@ -63,7 +55,7 @@ one-header h k e =
     path : h .area ≡ k .area → h .year ≡ k .year → h .month ≡ k .month → h ≡ k
     path a y m = λ i. record { area = a i; year = y i; month = m i }
 
--- Two sound books, treeJoined
+-- Two sound books, joined
 module _ (a b out : List ℕ) (p : Sound a) (q : Sound b) (z : joining a b out .number ≡ 0) where
   first-calls : Calls (headerMinutes (headerAt a)) (callsOf a)
   first-calls = sound-calls a p
@@ -81,30 +73,17 @@ module _ (a b out : List ℕ) (p : Sound a) (q : Sound b) (z : joining a b out .
   written-bytes : written (joining a b out) ≡ bookBytes version (headerAt a) (joinedOf a b)
   written-bytes = ap written (accepts a b out z .is) ∙ take-append-seam (bookBytes version (headerAt a) (joinedOf a b)) _
 
-  -- the treeJoined book is sound, and its calls are the join of the calls
+  -- the joined book is sound and of the same month and area, and its calls are the join of the calls
   pub joined-sound : Sound (written (joining a b out))
   joined-sound = rw written-bytes (book-sound (headerAt a) (joinedOf a b) heads (accepts a b out z .few) joined-calls)
+
+  pub header-joined : headerAt (written (joining a b out)) ≡ headerAt a
+  header-joined = ap headerAt written-bytes ∙ reads-back (headerAt a) (joinedOf a b) heads (accepts a b out z .few) (joined-calls .within) .0
 
   pub reads-joined : callsOf (written (joining a b out)) ≡ joinCalls (callsOf a) (callsOf b)
   unfolding joinedOf
   reads-joined = ap callsOf written-bytes ∙ reads-back (headerAt a) (joinedOf a b) heads (accepts a b out z .few) (joined-calls .within) .1
 
-  -- one key in the treeJoined book
+  -- one key in the joined book
   pub record-joined : (k : ℕ) → recordOf k (callsOf (written (joining a b out))) ≡ joinedAt (recordOf k (callsOf a)) (recordOf k (callsOf b))
   record-joined k = ap (recordOf k) reads-joined ∙ join-find (callsOf a) (callsOf b) k
-
-  -- a call that the second book withdraws is withdrawn
-  pub second-withdrawn : (w : Call) → In w (callsOf b) → isWithdrawn w ≡ true
-      → (r : Call) × (recordOf (callKey w) (callsOf (written (joining a b out))) ≡ some r) × (isWithdrawn r ≡ true)
-  unfolding leaves treeJoined
-  second-withdrawn w i t =
-      let xs = callsOf a in
-      let ys = callsOf b in
-      let s =
-      stays-withdrawn (headerMinutes (headerAt a)) (node (leaf xs) (leaf ys)) (xs ∷ ys ∷ []) (record { all = λ d j. j; only = λ d j. j }) sounds ys (there (here refl)) (callKey w) w
-      (in-find 0 ys w (second-calls .rises) i) t in
-      (s .0, ap (recordOf (callKey w)) reads-joined ∙ s .1, s .2)
-    where
-      sounds : Sounds (headerMinutes (headerAt a)) (callsOf a ∷ callsOf b ∷ [])
-      sounds d j =
-          ⊎-elim (λ (e : d ≡ callsOf a). rw e first-calls) (λ k. let e : d ≡ callsOf b = eq-of-one k in rw e second-calls) (in-cons j)

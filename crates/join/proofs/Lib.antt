@@ -8,4 +8,5 @@ pub mod Orders
 pub mod Accepted
 pub mod Entering
 pub mod Determined
+pub mod Exact
 pub mod Story

@@ -1,6 +1,7 @@
--- Demand 3 on bytes: the order in which books are treeJoined cannot be seen in the result. Assumes nothing.
+-- Demand 3 on bytes: the order in which books are joined cannot be seen in the result. Assumes nothing.
 use mathlib.Core.Path.{_≡_, sym, _∙_, ap, subst}
 use mathlib.Core.Bool.{true}
+use mathlib.Core.Logic.{_⊎_}
 use mathlib.Core.List.{List, map, Memᴰ·map, List·Memᴰ as In}
 use Prim.Native.Nat.{ℕ, _≤_, _<_}
 use native.Mathlib.Omega.{arith}
@@ -22,13 +23,13 @@ use Rattle.rule.proofs.Whole.{number-of-keys}
 use Rattle.rule.proofs.Whole as whole-list
 use Rattle.join.specs.Joining.{keyCount}
 use Rattle.join.specs.Trees.{Plan, books, written, result, AllAccepted, Room, OneMonth, Covers, ruleBook}
-use Rattle.join.proofs.Trees.{treeOf, covers-over, month-sounds, heading, tree-calls, Gives, gives}
+use Rattle.join.proofs.Trees.{treeOf, covers-over, month-sounds, heading, tree-calls, Gives, gives, Ends, through, stops, ends}
 
 -- a tree's leaves are sound books of the month, as the books are that it covers
 leaves-month : (h : Header) (bs : List (List ℕ)) (p : Plan) → Covers p bs → OneMonth h bs → OneMonth h (books p)
 leaves-month h bs p c o = record { sound = λ b i. o .sound b (c .only b i); header = λ b i. o .header b (c .only b i) }
 
-module _ (h : Header) (bs : List (List ℕ)) (month : OneMonth h bs) (p : Plan) (covers : Covers p bs) (room : Room p) where
+module _ (h : Header) (bs : List (List ℕ)) (month : OneMonth h bs) (p : Plan) (covers : Covers p bs) where
   over : Over (treeOf p) (map callsOf bs)
   over = covers-over p bs covers
 
@@ -42,43 +43,58 @@ module _ (h : Header) (bs : List (List ℕ)) (month : OneMonth h bs) (p : Plan) 
   unfolding keyCount
   count = number-of-keys (headerMinutes h) (treeOf p) (map callsOf bs) over sounds
 
-  tree-gives : Gives h p
-  tree-gives = gives h p of-leaves room
+  -- above 512 different keys no tree of joins gets through, whatever room it has
+  pub never-through : mostRecords version < keyCount bs → (result p .number ≡ 8) ⊎ (result p .number ≡ 9)
+  never-through f = go (ends h p of-leaves)
+    where
+      go : Ends h p → (result p .number ≡ 8) ⊎ (result p .number ≡ 9)
+      go (through few z e) = absurd (omega (arith, count))
+      go (stops s) = s
 
-  -- above 512 different keys every tree of joins stops in a refusal 8
-  pub too-many : mostRecords version < keyCount bs → result p .number ≡ 8
-  too-many f = tree-gives .many (omega (arith, count))
+  -- each output holds what the books give, where that is not too much
+  module _ (room : Room p) where
+    tree-gives : Gives h p
+    tree-gives = gives h p of-leaves room
 
-  module _ (few : keyCount bs ≤ mostRecords version) where
-    given-book : AllAccepted p × (result p .number ≡ 0) × (written (result p) ≡ bookBytes version h (treeJoined (treeOf p)))
-    given-book = tree-gives .few (omega (arith, count))
+    -- above 512 different keys every tree of joins stops in a refusal 8
+    pub too-many : mostRecords version < keyCount bs → result p .number ≡ 8
+    too-many f = tree-gives .many (omega (arith, count))
 
-    -- DEMAND 3: every tree of joins over the books is accepted at every node, and its bytes are those of the rule over the whole list
-    pub any-order : AllAccepted p × (result p .number ≡ 0) × (written (result p) ≡ ruleBook h bs)
-    unfolding ruleBook
-    any-order = (given-book .0, given-book .1, given-book .2 ∙ ap (bookBytes version h) (whole-list.any-order (headerMinutes h) (treeOf p) (map callsOf bs) over sounds))
+    module _ (few : keyCount bs ≤ mostRecords version) where
+      given-book : AllAccepted p × (result p .number ≡ 0) × (written (result p) ≡ bookBytes version h (treeJoined (treeOf p)))
+      given-book = tree-gives .few (omega (arith, count))
 
-    -- the calls of the result
-    calls : callsOf (written (result p)) ≡ treeJoined (treeOf p)
-    calls =
-        ap callsOf (given-book .2)
-        ∙ reads-back h (treeJoined (treeOf p)) (heading h p of-leaves) (omega (arith, count)) (tree-calls h p of-leaves .within) .1
+      -- DEMAND 3: every tree of joins over the books is accepted at every node, and its bytes are those of the rule over the whole list
+      pub any-order : AllAccepted p × (result p .number ≡ 0) × (written (result p) ≡ ruleBook h bs)
+      unfolding ruleBook
+      any-order = (given-book .0, given-book .1, given-book .2 ∙ ap (bookBytes version h) (whole-list.any-order (headerMinutes h) (treeOf p) (map callsOf bs) over sounds))
 
-    -- the header's count is the number of different keys
-    pub counts-keys : countAt (written (result p)) ≡ keyCount bs
-    unfolding callsOf
-    counts-keys = sym (length-calls (written (result p)) (countAt (written (result p))) 0) ∙ ap length calls ∙ count
+      -- the calls of the result
+      calls : callsOf (written (result p)) ≡ treeJoined (treeOf p)
+      calls =
+          ap callsOf (given-book .2)
+          ∙ reads-back h (treeJoined (treeOf p)) (heading h p of-leaves) (omega (arith, count)) (tree-calls h p of-leaves .within) .1
 
-    -- a call that is withdrawn in any of the books is withdrawn in the result
-    pub stays-withdrawn : (b : List ℕ) → In b bs → (w : Call) → In w (callsOf b) → isWithdrawn w ≡ true
-        → (r : Call) × In r (callsOf (written (result p))) × (callKey r ≡ callKey w) × (isWithdrawn r ≡ true)
-    stays-withdrawn b i w j t =
-        let listed : In (callsOf b) (map callsOf bs) = Memᴰ·map callsOf i in
-        let s = lists.stays-withdrawn (headerMinutes h) (treeOf p) (map callsOf bs) over sounds (callsOf b) listed (callKey w) w (in-find 0 (callsOf b) w (sounds (callsOf b) listed .rises) j) t in
-        let f = find-in (callKey w) (treeJoined (treeOf p)) (s .0) (s .1) in
-        (s .0, subst (λ (l : List Call). In (s .0) l) (sym calls) (f .0), f .1, s .2)
+      -- the header's count is the number of different keys
+      pub counts-keys : countAt (written (result p)) ≡ keyCount bs
+      unfolding callsOf
+      counts-keys = sym (length-calls (written (result p)) (countAt (written (result p))) 0) ∙ ap length calls ∙ count
+
+      -- a call that is withdrawn in any of the books is withdrawn in the result
+      pub stays-withdrawn : (b : List ℕ) → In b bs → (w : Call) → In w (callsOf b) → isWithdrawn w ≡ true
+          → (r : Call) × In r (callsOf (written (result p))) × (callKey r ≡ callKey w) × (isWithdrawn r ≡ true)
+      stays-withdrawn b i w j t =
+          let listed : In (callsOf b) (map callsOf bs) = Memᴰ·map callsOf i in
+          let s = lists.stays-withdrawn (headerMinutes h) (treeOf p) (map callsOf bs) over sounds (callsOf b) listed (callKey w) w (in-find 0 (callsOf b) w (sounds (callsOf b) listed .rises) j) t in
+          let f = find-in (callKey w) (treeJoined (treeOf p)) (s .0) (s .1) in
+          (s .0, subst (λ (l : List Call). In (s .0) l) (sym calls) (f .0), f .1, s .2)
 
 -- any two trees of joins over the same books give the same bytes
 pub same-bytes : (h : Header) (bs : List (List ℕ)) → OneMonth h bs → keyCount bs ≤ mostRecords version
     → (p q : Plan) → Covers p bs → Covers q bs → Room p → Room q → written (result p) ≡ written (result q)
 same-bytes h bs month few p q c d r s = any-order h bs month p c r few .2 ∙ sym (any-order h bs month q d s few .2)
+
+-- above 512 different keys a tree that ends in 9 has an output on the way that is too short
+pub short-on-the-way : (h : Header) (bs : List (List ℕ)) → OneMonth h bs → (p : Plan) → Covers p bs → mostRecords version < keyCount bs
+    → result p .number ≡ 9 → Room p → ⊥
+short-on-the-way h bs month p covers f nine room = omega (arith, too-many h bs month p covers room f)

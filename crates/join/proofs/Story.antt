@@ -1,11 +1,12 @@
 -- Three books of one stop: the plant entered and revised it, head office withdrew it, and a spare terminal, loaded early, still has the first entry.
 -- They meet the hypotheses of demand 3, and in two orders and groupings give one book in which the stop is withdrawn. Assumes nothing.
-use mathlib.Core.Path.{_≡_, refl}
+use mathlib.Core.Path.{_≡_, refl, sym, _∙_, ap}
 use mathlib.Core.Bool.{true}
-use mathlib.Core.Logic.{⊎-elim}
+use mathlib.Core.Logic.{⊎-elim, _≢_}
 use mathlib.Core.List.{List, [], _∷_, replicate, List·Memᴰ as In, List·Memᴰ·head as here, List·Memᴰ·tail as there, List·Memᴰ·cases-cons as in-cons, List·Memᴰ·not-nil as in-nil}
 use Prim.Native.Nat.{ℕ, _≤_}
 use native.Mathlib.Omega.{arith}
+use mathlib.Core.Option.{Option, none, some}
 use lib.Dec.{lit<, lit≤}
 use lib.IntN.{pos}
 use lib.ListN.{length}
@@ -17,72 +18,77 @@ use Rattle.call.specs.Revising.{callWithdrawn}
 use Rattle.call.specs.Service.{CallWithin}
 use Rattle.call.proofs.Exact.{sound-within}
 use Rattle.book.specs.declared.Header.{Header}
-use Rattle.book.specs.Book.{version, mostRecords, headerAt, callsOf, bookBytes}
+use Rattle.book.specs.Book.{version, mostRecords, headerAt, countAt, callsOf, bookBytes}
 use Rattle.book.specs.Check.{headerMinutes}
 use Rattle.book.specs.Sound.{Heading, Sound}
 use Rattle.book.proofs.Exact.{reads-back}
+use Rattle.book.proofs.Records.{length-calls}
 use Rattle.rule.specs.Standing.{isWithdrawn}
-use Rattle.rule.specs.Keys.{put, putAll, differentKeys}
+use Rattle.rule.specs.Keys.{recordOf, put, putAll, differentKeys}
+use Rattle.rule.specs.Whole.{withdrawnAt}
+use Rattle.rule.proofs.Keyed.{find-hit}
 use Rattle.join.specs.Joining.{keyCount}
 use Rattle.join.specs.Trees.{Plan, book, join, books, written, result, AllAccepted, Room, OneMonth, Covers, ruleBook}
 use Rattle.join.proofs.Trees.{book-sound}
+use Rattle.join.specs.Changing.{changing, recordAfter, had, withdrawnRevision}
+use Rattle.join.proofs.Entering.{change-accepted, revises, withdraws}
 use Rattle.join.proofs.Orders.{any-order, same-bytes, stays-withdrawn}
 
 -- March 2026, area 12
-pub march : Header
+unfoldable pub march : Header
 march = record { area = 12; year = 2026; month = 3 }
 
 -- a start-stop call of member 3, at a revision, of so many minutes
-stop : ℕ → ℕ → Call
+unfoldable pub stop : ℕ → ℕ → Call
 stop revision minutes =
     record { participant = 3; service = 3; state = 0; number = 9; revision = revision; start = 600; length = minutes; a = pos 0; b = 0; c = 0 }
 
-entered : Call
+unfoldable pub entered : Call
 entered = stop 2 300
 
-early : Call
+unfoldable pub early : Call
 early = stop 1 240
 
-pub withdrawal : Call
+unfoldable pub withdrawal : Call
 withdrawal = callWithdrawn (stop 2 300)
 
 -- each within the paper's limits
-entered-within : CallWithin (headerMinutes march) entered
+pub entered-within : CallWithin (headerMinutes march) entered
 unfolding entered stop march headerMinutes minutesOf daysOf isLeap callIsSound limitsAllow limitsOf table
 entered-within = sound-within (headerMinutes march) entered (lit< tt) (lit< tt) refl
 
-early-within : CallWithin (headerMinutes march) early
+pub early-within : CallWithin (headerMinutes march) early
 unfolding early stop march headerMinutes minutesOf daysOf isLeap callIsSound limitsAllow limitsOf table
 early-within = sound-within (headerMinutes march) early (lit< tt) (lit< tt) refl
 
-withdrawal-within : CallWithin (headerMinutes march) withdrawal
+pub withdrawal-within : CallWithin (headerMinutes march) withdrawal
 unfolding withdrawal stop march headerMinutes minutesOf daysOf isLeap callIsSound limitsAllow limitsOf table
 withdrawal-within = sound-within (headerMinutes march) withdrawal (lit< tt) (lit< tt) refl
 
-march-heads : Heading march
+pub march-heads : Heading march
 unfolding march
 march-heads = record { area = (lit≤ tt, lit≤ tt); year = (lit≤ tt, lit≤ tt); month = (lit≤ tt, lit≤ tt) }
 
 -- a book of one record is sound, and reads back
-one : Call → List ℕ
+unfoldable pub one : Call → List ℕ
 one c = bookBytes version march (c ∷ [])
 
 module _ (c : Call) (w : CallWithin (headerMinutes march) c) where
-  one-sound : Sound (one c)
+  pub one-sound : Sound (one c)
   unfolding one
   one-sound = book-sound march (c ∷ []) march-heads (lit≤ tt) (record { within = (w, tt); rises = (omega arith, tt) })
 
-  one-reads : (headerAt (one c) ≡ march) × (callsOf (one c) ≡ c ∷ [])
+  pub one-reads : (headerAt (one c) ≡ march) × (callsOf (one c) ≡ c ∷ [])
   unfolding one
   one-reads = reads-back march (c ∷ []) march-heads (lit≤ tt) (w, tt)
 
-plant : List ℕ
+unfoldable pub plant : List ℕ
 plant = one entered
 
-head-office : List ℕ
+unfoldable pub head-office : List ℕ
 head-office = one withdrawal
 
-spare : List ℕ
+unfoldable pub spare : List ℕ
 spare = one early
 
 pub three : List (List ℕ)
@@ -131,10 +137,10 @@ all-three =
     (one-reads early early-within .1)
 
 -- an output of 48 bytes
-output : List ℕ
+unfoldable pub output : List ℕ
 output = replicate 48 0
 
-output-long : length output ≡ 48
+pub output-long : length output ≡ 48
 unfolding output
 output-long = refl
 
@@ -180,3 +186,43 @@ withdrawn-there = rw (one-reads withdrawal withdrawal-within .1) (here refl)
 pub stop-withdrawn : (r : Call) × In r (callsOf (written (result left))) × (callKey r ≡ callKey withdrawal) × (isWithdrawn r ≡ true)
 unfolding three withdrawal
 stop-withdrawn = stays-withdrawn march three one-month left left-covers left-room few head-office (there (here refl)) withdrawal withdrawn-there refl
+
+-- The desk's own steps, on a book that has the key of a call already
+
+module _ (c w : Call) (cw : CallWithin (headerMinutes march) c) (ww : CallWithin (headerMinutes march) w) (k : callKey c ≡ callKey w) where
+  has-key : recordOf (callKey w) (callsOf (one c)) ≡ some c
+  has-key = ap (recordOf (callKey w)) (one-reads c cw .1) ∙ find-hit (callKey w) c [] k
+
+  one-record : countAt (one c) ≡ 1
+  unfolding callsOf
+  one-record = sym (length-calls (one c) (countAt (one c)) 0) ∙ ap length (one-reads c cw .1)
+
+  changes : changing (one c) w output output .number ≡ 0
+  changes = change-accepted (one c) (one-sound c cw) w ((ww .number, ww .revision .1), tt) output output .1 (record {
+    within = rw (one-reads c cw .0) ww;
+    page-long = omega (arith, output-long);
+    fits = had not-none (omega (arith, output-long, one-record));
+  })
+    where
+      not-none : recordOf (callKey w) (callsOf (one c)) ≢ none
+      not-none e = let f = has-key in let z : _≡_ {A = ℕ} 0 1 = cc in omega arith
+
+-- the plant revises the stop that the spare terminal has: accepted, and the revised record stands
+pub desk-revises : (changing spare entered output output .number ≡ 0) × (recordAfter spare entered output output (callKey entered) ≡ some entered)
+unfolding spare early entered stop
+desk-revises =
+    let z = changes early entered early-within entered-within refl in (
+      z,
+      revises spare (one-sound early early-within) entered ((entered-within .number, entered-within .revision .1), tt) output output z early
+          (has-key early entered early-within entered-within refl) refl refl (lit< tt),
+    )
+
+-- head office withdraws it in the plant's book: accepted, and the stop is withdrawn at revision 2
+pub desk-withdraws : (changing plant withdrawal output output .number ≡ 0) × (recordAfter plant withdrawal output output (callKey withdrawal) ≡ some withdrawal)
+unfolding plant entered withdrawal stop withdrawnRevision withdrawnAt
+desk-withdraws =
+    let z = changes entered withdrawal entered-within withdrawal-within refl in (
+      z,
+      withdraws plant (one-sound entered entered-within) withdrawal ((withdrawal-within .number, withdrawal-within .revision .1), tt) output output z refl
+          ∙ ap (λ (o : Option Call). some (withdrawnAt (withdrawnRevision o withdrawal) withdrawal)) (has-key entered withdrawal entered-within withdrawal-within refl),
+    )

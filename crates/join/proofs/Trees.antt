@@ -1,6 +1,7 @@
 -- Trees of joins over bytes follow the trees over lists of calls. Assumes nothing.
 use mathlib.Core.Path.{_≡_, refl, sym, _∙_, ap, ap₂, subst}
 use mathlib.Core.Bool.{true}
+use mathlib.Core.Logic.{_⊎_, inl, inr}
 use mathlib.Core.List.{List, [], _∷_, _++_, map, Memᴰ·append-left, Memᴰ·append-right, Memᴰ·map, Memᴰ·of-map, Memᴰ·cast, List·Memᴰ as In, List·Memᴰ·head as here}
 use Prim.Native.Nat.{ℕ, _≤_, _<_}
 use native.Mathlib.Omega.{arith}
@@ -24,7 +25,7 @@ use Rattle.pair.specs.Screening.{sameMonth, screen}
 use Rattle.join.specs.Joining.{JoinOutcome, joinRefused, joinWrote, keyCount, keysOfBoth, joinedOf, joining}
 use Rattle.join.specs.Trees.{Plan, book, join, books, written, joinBoth, result, AllAccepted, Room, OneMonth, Covers}
 use Rattle.pair.proofs.Screening.{screen-passes}
-use Rattle.join.proofs.WaysOut.{over-many, refuse-over, joins-both}
+use Rattle.join.proofs.WaysOut.{over-many, over-short, refuse-over, joins-both}
 use Rattle.join.proofs.Steps.{joined-length}
 
 -- Sound books
@@ -71,6 +72,12 @@ module _ (h : Header) (g : Heading h) (xs ys : List Call) (fx : length xs ≤ mo
   book-refused f =
       sym (refuse-over (bookBytes version h xs) (bookBytes version h ys) out none-refused _
       (over-many (keysOfBoth (bookBytes version h xs) (bookBytes version h ys)) (length out) (omega (arith, keys-joined))) (λ z. omega arith))
+
+  pub book-short : length (joinCalls xs ys) ≤ mostRecords version → length out < sizeOf (length (joinCalls xs ys))
+      → joining (bookBytes version h xs) (bookBytes version h ys) out ≡ joinRefused (refused 9 0) out
+  book-short f r =
+      sym (refuse-over (bookBytes version h xs) (bookBytes version h ys) out none-refused _
+      (over-short (keysOfBoth (bookBytes version h xs) (bookBytes version h ys)) (length out) (omega (arith, keys-joined)) (omega (arith, keys-joined))) (λ z. omega arith))
 
 -- The tree over lists of calls
 
@@ -214,3 +221,70 @@ module _ (h : Header) where
   gives (book b) o r = gives-book b (o .sound b (here refl)) (o .header b (here refl))
   gives (join l r out) o w =
       gives-join l r out o (gives l (left-month l r out o) (w .0)) (gives r (right-month l r out o) (w .1)) (w .2)
+
+  -- Without a word on room
+
+  -- a tree is through, with the book of its calls, or stops in 8 or 9
+  pub data Ends (p : Plan) : Type 0 where
+    through : length (treeJoined (treeOf p)) ≤ mostRecords version → result p .number ≡ 0 → written (result p) ≡ bookBytes version h (treeJoined (treeOf p)) → Ends p
+    stops : (result p .number ≡ 8) ⊎ (result p .number ≡ 9) → Ends p
+
+  ends-book : (b : List ℕ) → Sound b → headerAt b ≡ h → Ends (book b)
+  unfolding treeOf treeJoined
+  ends-book b s e =
+      let f : length (callsOf b) ≤ mostRecords version = omega (arith, s .few, ap length (sound-reads b s .1)) in
+      let g = gives-book b s e .few f in
+      through f (g .1) (g .2)
+
+  -- the number of a side that stops
+  abbrev Stops : ℕ → Type 0
+  Stops n = (n ≡ 8) ⊎ (n ≡ 9)
+
+  left-stops : (l r : JoinOutcome) (out : List ℕ) → Stops (l .number) → Stops (joinBoth l r out .number)
+  unfolding joinBoth
+  left-stops l r out (inl p) = rw (ne-eqb (l .number) 0 (λ e. omega arith)) (inl p)
+  left-stops l r out (inr p) = rw (ne-eqb (l .number) 0 (λ e. omega arith)) (inr p)
+
+  right-stops : (l r : JoinOutcome) (out : List ℕ) → l .number ≡ 0 → Stops (r .number) → Stops (joinBoth l r out .number)
+  unfolding joinBoth
+  right-stops l r out z (inl p) = rw (eq-eqb (l .number) 0 z, ne-eqb (r .number) 0 (λ e. omega arith)) (inl p)
+  right-stops l r out z (inr p) = rw (eq-eqb (l .number) 0 z, ne-eqb (r .number) 0 (λ e. omega arith)) (inr p)
+
+  ends-join : (l r : Plan) (out : List ℕ) → OneMonth h (books (join l r out)) → Ends l → Ends r → Ends (join l r out)
+  unfolding result treeOf treeJoined
+  ends-join l r out o (stops s) er = stops (left-stops (result l) (result r) out s)
+  ends-join l r out o (through fx a u) (stops s) = stops (right-stops (result l) (result r) out a s)
+  ends-join l r out o (through fx a u) (through fy b v) = go (decLe (length zs) (mostRecords version)) (decLe (sizeOf (length zs)) (length out))
+    where
+      xs : List Call
+      xs = treeJoined (treeOf l)
+
+      ys : List Call
+      ys = treeJoined (treeOf r)
+
+      zs : List Call
+      zs = joinCalls xs ys
+
+      g : Heading h
+      g = heading (join l r out) o
+
+      cx : Calls (headerMinutes h) xs
+      cx = tree-calls l (left-month l r out o)
+
+      cy : Calls (headerMinutes h) ys
+      cy = tree-calls r (right-month l r out o)
+
+      at : joinBoth (result l) (result r) out ≡ joining (bookBytes version h xs) (bookBytes version h ys) out
+      at = both-accepted (result l) (result r) out a b ∙ ap₂ (λ (x y : List ℕ). joining x y out) u v
+
+      go : Dec (length zs ≤ mostRecords version) → Dec (sizeOf (length zs) ≤ length out) → Ends (join l r out)
+      go (no f) w = stops (inl (ap (λ (x : JoinOutcome). x .number) (at ∙ book-refused h g xs ys fx fy cx cy out (omega arith))))
+      go (yes f) (no w) = stops (inr (ap (λ (x : JoinOutcome). x .number) (at ∙ book-short h g xs ys fx fy cx cy out f (omega arith))))
+      go (yes f) (yes w) =
+          let e = at ∙ book-joined h g xs ys fx fy cx cy out f w in
+          through f (ap (λ (x : JoinOutcome). x .number) e) (ap written e ∙ take-append-seam (bookBytes version h zs) _)
+
+  pub ends : (p : Plan) → OneMonth h (books p) → Ends p
+  unfolding books
+  ends (book b) o = ends-book b (o .sound b (here refl)) (o .header b (here refl))
+  ends (join l r out) o = ends-join l r out o (ends l (left-month l r out o)) (ends r (right-month l r out o))

@@ -1,3 +1,5 @@
 pub mod Joining
+pub mod Verdict
 pub mod Steps
 pub mod Trees
+pub mod Changing

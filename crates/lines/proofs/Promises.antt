@@ -2,6 +2,7 @@
 use mathlib.Core.Path.{_≡_, refl, ap, sym, _∙_}
 use mathlib.Core.Bool.{Bool, true, false, cond}
 use mathlib.Core.List.{List, [], _∷_, _++_, map}
+use mathlib.Core.Logic.{_≢_}
 use Prim.Native.Nat.{ℕ, suc, _-_, _≤_, _<_}
 use native.Mathlib.Omega.{arith}
 use lib.Dec.{ltb}
@@ -14,7 +15,7 @@ use Rattle.row.proofs.Judging.{lowest-unsound, every-sound, after-most}
 use Rattle.share.specs.declared.Line.{Line}
 use Rattle.share.specs.declared.Shared.{Shared}
 use Rattle.share.specs.Sharing.{lineIsSound, firstBadLine, SharingOutcome, sharingRefused, sharing, mostNumber}
-use Rattle.share.specs.Forms.{blankLine, cleared, arrayOf, sharingCounted, sharedArray}
+use Rattle.share.specs.Forms.{blankLine, cleared, arrayOf, nothingShared, sharingCounted, sharedArray}
 use Rattle.share.proofs.Bounds.{few-sound}
 use Rattle.share.proofs.Cases.{sharing-10}
 use Rattle.share.proofs.Counted.{counted-few}
@@ -24,6 +25,7 @@ use Rattle.lines.specs.Text.{textLines, sharingLines, readText, takenSha
 use Rattle.lines.specs.Meaning.{meaning}
 use Rattle.lines.specs.Stream.{HasRead, Settled, Tells, GoesOn, Stays}
 use Rattle.lines.proofs.Lines.{lawful}
+use Rattle.lines.proofs.Sheets.{shared-no}
 
 -- The whole text
 
@@ -50,7 +52,13 @@ after-64 text = rw (← first-unsound 0 (take 64 (textLines text))) (after-most 
 
 -- The sharing
 
-cleared-none : map (λ l. cleared l) (filledUp sharingLines []) ≡ filledUp sharingLines []
+-- Of a text that was refused it is that refusal: number and place, no gap, and no line of the text.
+pub shared-refused : (t : Taken) → t .number ≢ 0
+    → takenShared t ≡ record { number = t .number; place = t .place; gap = record { 0 = pos 0 }; lines = replicate 64 blankLine }
+unfolding nothingShared
+shared-refused t h = sym (shared-no t h)
+
+cleared-none : map (λ l. cleared l) (filledUp sharingLines []) ≡ replicate 64 blankLine
 unfolding filledUp
 cleared-none = refl
 
@@ -61,9 +69,9 @@ array-first ls =
     counted-few (ls ++ xs) (length ls) (omega (arith, length-append ls xs)) ∙ ap sharing (take-append-le (length ls) ls xs (omega arith) ∙ take-all (length ls) ls (omega arith))
 
 shared-ten : (ls : List Line) (k : ℕ) → sharing ls ≡ sharingRefused 10 k → takenShared (refusedAt sharingLines k) ≡ arrayOf (filledUp sharingLines []) (sharing ls)
-unfolding takenShared
 shared-ten ls k e =
-    (λ i. record { number = 10; place = k; gap = record { 0 = pos 0 }; lines = sym cleared-none i }) ∙ ap (arrayOf (filledUp sharingLines [])) (sym e)
+    shared-refused (refusedAt sharingLines k) (λ h. omega arith)
+    ∙ (λ i. record { number = 10; place = k; gap = record { 0 = pos 0 }; lines = sym cleared-none i }) ∙ ap (arrayOf (filledUp sharingLines [])) (sym e)
 
 shared-all : (ls : List Line) → takenShared (allTaken sharingLines ls) ≡ arrayOf (filledUp sharingLines ls) (sharing ls)
 unfolding takenShared sharedArray

@@ -4,7 +4,6 @@ use mathlib.Core.Bool.{true, false}
 use mathlib.Core.List.{List, [], _∷_, _++_, map}
 use Prim.Native.Nat.{ℕ, _+_, _≤_, _<_}
 use native.Mathlib.Omega.{arith}
-use lib.IntN.{pos}
 use lib.ListN.{drop, length, getD, drop-of-length-le}
 use borrow.Author.Tests.{ne-eqb, eq-eqb}
 use Rattle.row.specs.declared.Row.{Row}
@@ -16,8 +15,7 @@ use Rattle.row.proofs.Rows.{by-digit}
 use Rattle.row.proofs.Left.{next-byte, left-fresh, left-feed, left-byte}
 use Rattle.row.proofs.Judging.{judged-alike}
 use Rattle.share.specs.declared.Line.{Line}
-use Rattle.share.specs.declared.Shared.{Shared}
-use Rattle.share.specs.Forms.{sharedArray}
+use Rattle.share.specs.Forms.{sharedArray, nothingShared}
 use Rattle.lines.specs.declared.sheet.Sheet.{Sheet}
 use Rattle.lines.specs.declared.Reader.{Reader}
 use Rattle.lines.specs.declared.Taken.{Taken}
@@ -102,6 +100,6 @@ pub shared-yes : (t : Taken) → t .number ≡ 0 → sharedArray (t .lines) (t .
 unfolding takenShared
 shared-yes t h = rw (eq-eqb (t .number) 0 h)
 
-pub shared-no : (t : Taken) → (t .number ≡ 0 → ⊥) → _≡_ {A = Shared} (record { number = t .number; place = t .place; gap = record { 0 = pos 0 }; lines = t .lines }) (takenShared t)
+pub shared-no : (t : Taken) → (t .number ≡ 0 → ⊥) → nothingShared (t .number) (t .place) ≡ takenShared t
 unfolding takenShared
 shared-no t h = rw (ne-eqb (t .number) 0 h)

@@ -11,7 +11,7 @@ use Rattle.row.specs.Judging.{Judge, judged}
 use Rattle.share.specs.declared.Line.{Line}
 use Rattle.share.specs.declared.Shared.{Shared}
 use Rattle.share.specs.Sharing.{lineIsSound, mostNumber}
-use Rattle.share.specs.Forms.{blankLine, sharedArray}
+use Rattle.share.specs.Forms.{blankLine, sharedArray, nothingShared}
 use Rattle.lines.specs.declared.Taken.{Taken}
 
 -- Sharing lines
@@ -62,8 +62,7 @@ sharingLines =
 unfoldable pub readText : List ℕ → Taken
 readText text = judged sharingLines (textLines text)
 
--- the sharing of what was read, or its refusal
+-- the sharing of what was read, or its refusal and no lines
 unfoldable pub takenShared : Taken → Shared
 takenShared t =
-    cond (eqb (t .number) 0) (sharedArray (t .lines) (t .count))
-    (record { number = t .number; place = t .place; gap = record { 0 = pos 0 }; lines = t .lines })
+    cond (eqb (t .number) 0) (sharedArray (t .lines) (t .count)) (nothingShared (t .number) (t .place))

@@ -9,8 +9,9 @@ use row::grown;
 use row::is_digit;
 use share::Line;
 use share::Shared;
+use share::array::nothing_shared;
+use share::lent::share_front;
 use sheet::Sheet;
-use units::SignedFen;
 ghost use mathlib.Core.Path.{_≡_};
 ghost use mathlib.Core.List.{List, [], _∷_, _++_};
 ghost use Prim.Native.Nat.{ℕ};
@@ -132,19 +133,14 @@ pub fn read_text(text: &[u8]) -> Taken
 }
 
 impl Taken {
-    // The sharing of what was read, or its refusal.
+    // The sharing of what was read, or its refusal and no lines.
     pub fn shared(self) -> Shared
         ensures { λ r. ⌜ r ≡ takenShared self ⌝ }
     {
         let lines = self.lines;
         if self.number == 0 {
-            return share::share(lines, self.count);
+            return share_front(lines, self.count);
         }
-        Shared {
-            number: self.number,
-            place: self.place,
-            gap: SignedFen(0),
-            lines,
-        }
+        nothing_shared(self.number, self.place)
     }
 }

@@ -1,3 +1,5 @@
 pub mod Places
 pub mod Lookups
 pub mod Determined
+pub mod Story
+pub mod Example

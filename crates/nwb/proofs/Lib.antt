@@ -1,2 +1,4 @@
+pub mod ReadBack
 pub mod Cells
 pub mod Determined
+pub mod Example

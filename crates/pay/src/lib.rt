@@ -13,11 +13,11 @@ use call::MOST_PARTICIPANT;
 use units::Kw;
 
 pub mod event;
-pub mod kind;
+mod kind;
 pub mod live;
 pub mod open;
-pub mod rate;
-pub mod window;
+mod rate;
+mod window;
 
 // The largest rating, in kW.
 pub const MOST_RATED: u32 = 4_000_000;

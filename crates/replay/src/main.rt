@@ -2,6 +2,7 @@
 // the first entry. The three books are joined in every order and grouping, and each time the same book is printed, the stop withdrawn.
 use book::Header;
 use book::call_of;
+use book::header_of;
 use book::write::write_one;
 use call::CONTESTED;
 use call::Call;
@@ -65,7 +66,19 @@ fn print_state(state: u8) {
     ;
 }
 
-// A book of one record, and the state of that record; or the refusal's number.
+// A sound book's bytes, and the state of its first record.
+fn show_book(book: &[u8]) {
+    let o = header_of(book);
+    if o.number != 0 {
+        return;
+    }
+    print_bytes(book);
+    if 0 < o.calls {
+        print_state(call_of(book, 0).state);
+    }
+}
+
+// The book that a join gave; or the refusal's number.
 fn show(w: Joined, out: &[u8]) {
     let n = w.length;
     if w.number != 0 {
@@ -75,8 +88,7 @@ fn show(w: Joined, out: &[u8]) {
         return;
     }
     if n <= out.len() {
-        print_bytes(&out[0..n]);
-        print_state(call_of(out, 0).state);
+        show_book(&out[0..n]);
     }
 }
 

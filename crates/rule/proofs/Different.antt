@@ -12,7 +12,7 @@ use Rattle.call.specs.declared.Call.{Call}
 use Rattle.call.specs.Key.{callKey}
 use Rattle.book.specs.Sound.{Rises}
 use Rattle.rule.specs.Keys.{recordOf, also, put, putAll, differentKeys, recordsAt}
-use Rattle.rule.proofs.Keyed.{Three, three, Rising, weaken, find-hit, find-miss}
+use Rattle.rule.proofs.Keyed.{Three, three, Rising, in-above, weaken, find-hit, find-miss, find-below}
 
 pub self : ℕ → ℕ
 self k = k
@@ -125,6 +125,67 @@ different-in (d ∷ bs) i m = go (different-in bs i) (all-in d (differentKeys bs
     go : (In i (differentKeys bs) → (b : List Call) × In b bs × Has i b) → Has i d ⊎ In i (differentKeys bs) → (b : List Call) × In b (d ∷ bs) × Has i b
     go ih (inl h) = (d, here refl, h)
     go ih (inr j) = let h = ih j in (h .0, there (h .1), h .2)
+
+-- How many they are, of calls whose keys rise and of one call more
+
+put-had : (n k : ℕ) (js : List ℕ) → Rising self n js → In k js → length (put k js) ≡ length js
+unfolding put self
+put-had n k [] r i = absurd (in-nil i)
+put-had n k (j ∷ js) r i = go (put-had (suc j) k js (r .1)) (three k j)
+  where
+    go : (In k js → length (put k js) ≡ length js) → Three k j → length (put k (j ∷ js)) ≡ length (j ∷ js)
+    go ih (inl p) = absurd (let l = in-above self j (j ∷ js) k (omega arith, r .1) i in omega arith)
+    go ih (inr (inl p)) = ap length (put-eq k j js p)
+    go ih (inr (inr p)) = ap length (put-gt k j js p) ∙ ap suc (⊎-elim (λ (e : k ≡ j). absurd (omega arith)) ih (in-cons i))
+
+put-new : (k : ℕ) (js : List ℕ) → (In k js → ⊥) → length (put k js) ≡ suc (length js)
+unfolding put
+put-new k [] n = refl
+put-new k (j ∷ js) n = go (put-new k js (λ i. n (there i))) (three k j)
+  where
+    go : length (put k js) ≡ suc (length js) → Three k j → length (put k (j ∷ js)) ≡ suc (length (j ∷ js))
+    go ih (inl p) = ap length (put-lt k j js p)
+    go ih (inr (inl p)) = absurd (n (here p))
+    go ih (inr (inr p)) = ap length (put-gt k j js p) ∙ ap suc ih
+
+-- the first key of rising calls is not among the others
+not-later : (n : ℕ) (c : Call) (cs : List Call) → Rises n (c ∷ cs) → Has (callKey c) cs → ⊥
+not-later n c cs r h =
+    let e = find-below (suc (callKey c)) (callKey c) cs (r .1) (omega arith) in
+    let f = h .1 in
+    let z : _≡_ {A = ℕ} 0 1 = cc in omega arith
+
+keys-new : (n k : ℕ) (cs : List Call) → Rises n cs → (Has k cs → ⊥) → length (putAll cs (k ∷ [])) ≡ suc (length cs)
+unfolding putAll
+keys-new n k [] r h = refl
+keys-new n k (c ∷ cs) r h =
+    put-new (callKey c) (putAll cs (k ∷ []))
+    (λ i. ⊎-elim (not-later n c cs r) (λ j. ⊎-elim (λ (e : callKey c ≡ k). h (c, find-hit k c cs e)) (λ l. absurd (in-nil l)) (in-cons j)) (all-in cs (k ∷ []) (callKey c) i))
+    ∙ ap suc (keys-new (suc (callKey c)) k cs (r .1) (λ l. h (has-cons k c cs (inr l))))
+
+keys-had : (n k : ℕ) (cs : List Call) → Rises n cs → Has k cs → length (putAll cs (k ∷ [])) ≡ length cs
+unfolding putAll
+keys-had n k [] r h = absurd (nil-has k h)
+keys-had n k (c ∷ cs) r h = go (keys-had (suc (callKey c)) k cs (r .1)) (ℕ-discrete (callKey c) k)
+  where
+    go : (Has k cs → length (putAll cs (k ∷ [])) ≡ length cs) → Dec (callKey c ≡ k) → length (put (callKey c) (putAll cs (k ∷ []))) ≡ suc (length cs)
+    go ih (yes e) =
+        put-had 0 (callKey c) (putAll cs (k ∷ [])) (all-rise cs (k ∷ []) (omega arith, tt)) (in-all cs (k ∷ []) (callKey c) (inr (here e)))
+        ∙ keys-new (suc (callKey c)) k cs (r .1) (λ l. not-later n c cs r (subst (λ (j : ℕ). Has j cs) (sym e) l))
+    go ih (no e) =
+        put-new (callKey c) (putAll cs (k ∷ []))
+        (λ i. ⊎-elim (not-later n c cs r) (λ j. ⊎-elim (λ (f : callKey c ≡ k). e f) (λ l. absurd (in-nil l)) (in-cons j)) (all-in cs (k ∷ []) (callKey c) i))
+        ∙ ap suc (ih (⊎-elim (λ (f : k ≡ callKey c). absurd (e (sym f))) (λ l. l) (cons-has k c cs h)))
+
+module _ (cs : List Call) (w : Call) (r : Rises 0 cs) where
+  -- a key that the calls have changes nothing, a new one is one more
+  pub count-had : Has (callKey w) cs → length (differentKeys (cs ∷ (w ∷ []) ∷ [])) ≡ length cs
+  unfolding differentKeys putAll put
+  count-had h = keys-had 0 (callKey w) cs r h
+
+  pub count-new : recordOf (callKey w) cs ≡ none → length (differentKeys (cs ∷ (w ∷ []) ∷ [])) ≡ suc (length cs)
+  unfolding differentKeys putAll put
+  count-new e = keys-new 0 (callKey w) cs r (λ h. let f = h .1 in let z : _≡_ {A = ℕ} 0 1 = cc in omega arith)
 
 -- A record for each of the keys
 

@@ -19,13 +19,9 @@ fn size(n: i64) -> u64
     if n < 0 { (!n) as u64 + 1 } else { n as u64 }
 }
 
-pub fn signed(n: i64) {
-    if n < 0 {
+pub fn money(x: SignedFen) {
+    if x.0 < 0 {
         text(b"-");
     }
-    number(size(n));
-}
-
-pub fn money(x: SignedFen) {
-    signed(x.0);
+    number(size(x.0));
 }

@@ -1,11 +1,11 @@
 -- What an accepted book leaves for scoring. Assumes nothing.
 use mathlib.Core.Path.{_≡_, refl, ap}
-use mathlib.Core.Bool.{Bool, true, false, cond, not}
+use mathlib.Core.Bool.{Bool, true, false, cond}
 use mathlib.Core.List.{List}
 use Prim.Native.Nat.{ℕ, zero, suc, _+_, _*_, _≤_, _<_}
 use native.Mathlib.Nat.{not-suc-le-zero}
 use native.Mathlib.Omega.{arith}
-use lib.Dec.{eqb, ltb}
+use lib.Dec.{eqb}
 use lib.ListN.{length}
 use borrow.Author.Tests.{eqb-true, eqb-false}
 use Rattle.units.specs.Month.{quartersOf}
@@ -13,40 +13,10 @@ use Rattle.units.proofs.Laws.{quarters-are, quarters-most}
 use Rattle.call.specs.Key.{callKey}
 use Rattle.call.specs.Limits.{callIsSound}
 use Rattle.book.specs.declared.Verdict.{Verdict}
-use Rattle.book.specs.Book.{sizeOf, headerAt, countAt, recordAt}
+use Rattle.book.specs.Book.{headerAt, countAt, recordAt}
 use Rattle.book.proofs.Records.{judge-zero}
 use Rattle.book.proofs.Exact.{accepted-tests}
-use Rattle.book.specs.Check.{refused, accepted, isMarked, isVersioned, isHeaded, headerMinutes, judge, checkRecords, check}
-
--- no number: accepted, for a refusal has one
-from-zero : (m : ℕ) (b : List ℕ) (low i n : ℕ) → checkRecords m b low i n .number ≡ 0 → checkRecords m b low i n ≡ accepted
-unfolding checkRecords
-from-zero m b low i zero h = refl
-from-zero m b low i (suc n) h = go (eqb (judge m b low i) 0) refl (from-zero m b (suc (callKey (recordAt b i))) (suc i) n) h
-  where
-    rest : Verdict
-    rest = checkRecords m b (suc (callKey (recordAt b i))) (suc i) n
-
-    go : (t : Bool) → eqb (judge m b low i) 0 ≡ t → (rest .number ≡ 0 → rest ≡ accepted) → cond t rest (refused (judge m b low i) i) .number ≡ 0 → cond t rest (refused (judge m b low i) i) ≡ accepted
-    go true e ih h = ih h
-    go false e ih h = absurd (eqb-false _ _ e h)
-
-pub zero-accepted : (b : List ℕ) → check b .number ≡ 0 → check b ≡ accepted
-unfolding check
-zero-accepted b h =
-    go (ltb (length b) 16) (isMarked b) (isVersioned b) (isHeaded b) (eqb (length b) (sizeOf (countAt b))) h
-  where
-    rest : Verdict
-    rest = checkRecords (headerMinutes (headerAt b)) b 0 0 (countAt b)
-
-    go : (s t u v w : Bool) → cond s (refused 1 0) (cond (not t) (refused 2 0) (cond (not u) (refused 3 0) (cond (not v) (refused 4 0) (cond (not w) (refused 1 0) rest)))) .number ≡ 0
-        → cond s (refused 1 0) (cond (not t) (refused 2 0) (cond (not u) (refused 3 0) (cond (not v) (refused 4 0) (cond (not w) (refused 1 0) rest)))) ≡ accepted
-    go true t u v w h = absurd (omega arith)
-    go false false u v w h = absurd (omega arith)
-    go false true false v w h = absurd (omega arith)
-    go false true true false w h = absurd (omega arith)
-    go false true true true false h = absurd (omega arith)
-    go false true true true true h = from-zero (headerMinutes (headerAt b)) b 0 0 (countAt b) h
+use Rattle.book.specs.Check.{refused, accepted, headerMinutes, judge, checkRecords, check}
 
 module _ (m : ℕ) (b : List ℕ) where
   one : (low i n : ℕ) → checkRecords m b low i (suc n) ≡ accepted → (judge m b low i ≡ 0) × (checkRecords m b (suc (callKey (recordAt b i))) (suc i) n ≡ accepted)

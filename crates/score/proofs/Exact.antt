@@ -33,7 +33,8 @@ use Rattle.score.specs.Scoring.{monthGrains, recordsEarned, monthAt, sou
 use Rattle.score.specs.Outcomes.{MemberWithin, LineAndBook, Spans, Ready, OfOneService, Against, shares-minute, second, Passes, other, gone, good, Clear, RecordsTurn, ScoreOutcome}
 use Rattle.score.specs.Outcomes.{bad-line, bad-book, bad-length, bad-value, is-contested, not-open, stands-against, scored}
 use Rattle.score.proofs.First.{first-le, first-bad, first-before, first-all, first-of-all, first-hit, first-again, any-suc, any-none, any-not, any-hit, any-zero}
-use Rattle.score.proofs.Checked.{zero-accepted, all-sound}
+use Rattle.book.proofs.Judged.{zero-accepted}
+use Rattle.score.proofs.Checked.{all-sound}
 use Rattle.score.proofs.Turns.{much-not, much-yes, series-length, series-value, series-good, refuse-other, refuse-withdrawn, refuse-contested, refuse-live, records-refused}
 use Rattle.score.proofs.Turns.{records-sum, faultIn, sound-refused, sound-records, earned-10, earned-book, earned-sound, score-is, score-refused, state-low}
 
@@ -317,7 +318,7 @@ module _ (m : Member) (b series : List ℕ) where
   sound-is : LineAndBook m b → grainsEarned m b series ≡ soundEarned m b series
   sound-is front = earned-sound m b series (of-line m (front .line)) (number-of (front .book))
 
-  ready-records : Ready m b series → grainsEarned m b series ≡ records m b series
+  pub ready-records : Ready m b series → grainsEarned m b series ≡ records m b series
   unfolding firstTooMuch
   ready-records ready =
       let f : firstTooMuch series ≡ length series = first-of-all (tooMuch series) (length series) (λ j l. much-not series j (ready .within j l)) in

@@ -7,3 +7,5 @@ pub mod Own
 pub mod Exact
 pub mod Voltage
 pub mod Empty
+pub mod Listed
+pub mod Example

@@ -37,7 +37,7 @@ use Rattle.score.proofs.Turns.{score-is, score-refused}
 use Rattle.score.proofs.Parts.{Part, total-part, totalZ-part, part-hit, part-none, any-shifted}
 
 -- a refusal's place, s further on
-pub moved : ℕ → Earned → Earned
+unfoldable pub moved : ℕ → Earned → Earned
 moved s (Accepted g) = Accepted g
 moved s (Refused v p) = Refused v (s + p)
 
@@ -234,7 +234,7 @@ place-from-first first number p h =
     let e : first + p - first ≡ p = omega arith in
     rw (h, e) refl
 
-same-run : (m : Member) (mine mine′ : ℕ → Call) (n : ℕ) → ((k : ℕ) → k < n → mine k ≡ mine′ k) → Records m mine mine′ 0 n n
+pub same-run : (m : Member) (mine mine′ : ℕ → Call) (n : ℕ) → ((k : ℕ) → k < n → mine k ≡ mine′ k) → Records m mine mine′ 0 n n
 same-run m mine mine′ n h =
     record {
       fits = omega arith;

@@ -17,9 +17,9 @@ use pay::open::Month;
 use units::month::quarters_of;
 
 pub mod answer;
-pub mod month;
-pub mod refusal;
-pub mod series;
+mod month;
+mod refusal;
+mod series;
 
 // The grains of a sound register line over a sound book.
 fn sound_earned(member: Member, b: &[u8], series: &[u32]) -> Earned

@@ -6,7 +6,7 @@ use Prim.Native.Nat.{ℕ, zero, suc, _≤_, _<_}
 use native.Mathlib.Nat.{not-suc-le-zero}
 use native.Mathlib.Omega.{arith}
 use lib.IntN.{ℤ}
-use lib.ListN.{length, getD, take, drop, length-map}
+use lib.ListN.{length, getD, take, drop, take-append-drop, length-map}
 use lib.Seq.{length-take-le, getD-take}
 use Rattle.share.specs.declared.Line.{Line}
 use Rattle.share.specs.Sharing.{Part, partOf, partsBy, lineIsSound, firstBadLine, weightOf, weightsOf}
@@ -62,6 +62,13 @@ fill-behind [] ls i h = refl
 fill-behind (q ∷ ps) [] i h = refl
 fill-behind (q ∷ ps) (l ∷ ls) zero h = absurd (omega arith)
 fill-behind (q ∷ ps) (l ∷ ls) (suc i) h = fill-behind ps ls i (omega arith)
+
+pub fill-front : (ps : List Part) (ls : List Line) (n : ℕ) → length ps ≤ n → fillIn ps (take n ls) ++ drop n ls ≡ fillIn ps ls
+fill-front [] ls n h = take-append-drop n ls
+fill-front (p ∷ ps) [] zero h = refl
+fill-front (p ∷ ps) [] (suc n) h = refl
+fill-front (p ∷ ps) (l ∷ ls) zero h = absurd (omega arith)
+fill-front (p ∷ ps) (l ∷ ls) (suc n) h = ap (λ (x : List Line). filled l p ∷ x) (fill-front ps ls n (omega arith))
 
 pub fill-over : (ps : List Part) (ls : List Line) → take (length ps) (fillIn ps ls) ++ drop (length ps) ls ≡ fillIn ps ls
 fill-over [] ls = refl

@@ -1,20 +1,25 @@
 -- What sharing promises of every list of lines that it does not refuse.
 use mathlib.Core.Path.{_≡_, sym, ap, _∙_}
-use mathlib.Core.Bool.{Bool, true}
+use mathlib.Core.Bool.{Bool, true, false}
 use mathlib.Core.List.{List, [], _∷_, map}
 use mathlib.Core.Logic.{inl, inr}
-use Prim.Native.Nat.{ℕ, _+_, _<_}
+use Prim.Native.Nat.{ℕ, _+_, _≤_, _<_}
 use native.Mathlib.Omega.{arith}
 use lib.IntN.{ℤ, pos, negℤ, natAbs, _+ℤ_, _-ℤ_, _*ℤ_}
 use lib.ListN.{length, getD, length-map, List·getD-map}
 use Rattle.apportion.specs.Apportion.{total, apportion}
 use Rattle.apportion.proofs.Promises.{Shareable, adds-up, less-than-one, nothing}
+use Rattle.apportion.proofs.Loops.{getD-total}
 use Rattle.share.specs.declared.Line.{Line}
-use Rattle.share.specs.Sharing.{assessmentFen, compensated, assessed, below, gap, weightOf, weights, allWeights, signed, Part, partsBy, parts, SharingOutcome, sharing}
+use Rattle.share.specs.Sharing.{assessmentFen, compensated, assessed, below, gap, weightOf, weights, allWeights, signed, Part, partOf, partsBy, parts, SharingOutcome, sharing}
+use Rattle.share.specs.Sharing.{mostCompensation}
 use Rattle.share.specs.Forms.{blankLine}
+use Rattle.share.specs.Limits.{LineWithin, LinesWithin}
 use Rattle.share.proofs.Lists.{getD-mapped}
-use Rattle.share.proofs.Signs.{signed-add, signed-none, signed-near, signed-diff, none-abs, by-parts, opposite}
+use Rattle.share.proofs.Signs.{signed-add, signed-none, signed-near, signed-diff, natAbs-neg, none-abs, abs-most, amount-down, amount-up, by-parts, opposite}
 use Rattle.share.proofs.Lines.{part-at}
+use Rattle.share.proofs.Bounds.{all-within, fen-le, assessed-le}
+use Rattle.share.proofs.Cases.{bad-of-64}
 use Rattle.share.proofs.Outcomes.{taken-list, long-shares}
 
 -- the sum of signed numbers
@@ -54,6 +59,17 @@ signed-gap : (ls : List Line) → signed (below ls) (natAbs (gap ls)) ≡ gap ls
 unfolding gap
 signed-gap ls = signed-diff (assessed ls) (compensated ls)
 
+-- what a line within its limits gets, if it carries at most 10^11 fen
+part-small : (isBelow : Bool) (l : Line) (s : ℕ) → LineWithin l → s ≤ mostCompensation
+    → (natAbs (partOf isBelow l s .share) ≤ 100000000000) × (natAbs (partOf isBelow l s .amount) ≤ 200000000000)
+part-small false l s w h =
+    (h, rw (← amount-up (l .compensation .0) (assessmentFen l) s) (abs-most (l .compensation .0 + s) (assessmentFen l) 200000000000 (omega (arith, w .compensation)) (omega (arith, fen-le l w))))
+part-small true l s w h = (
+  rw (natAbs-neg (pos s)) h,
+  rw (← amount-down (l .compensation .0) (assessmentFen l) s)
+      (abs-most (l .compensation .0) (assessmentFen l + s) 200000000000 (omega (arith, w .compensation)) (omega (arith, fen-le l w))),
+)
+
 module _ (ls : List Line) (none : sharing ls .number ≡ 0) where
   -- R is A − C.
   pub gap-is : sharing ls .gap ≡ gap ls
@@ -87,6 +103,41 @@ module _ (ls : List Line) (none : sharing ls .number ≡ 0) where
   share-is i p h =
       ap (λ (ps : List Part). getD ps i p .share) parts-is
       ∙ ap (λ (q : Part). q .share) (part-at (below ls) ls (apportion (natAbs (gap ls)) (weights ls)) i blankLine p (long-shares ls) h)
+
+  -- the line at a place gets its part of |R|
+  line-part : (i : ℕ) (d : Line) (p : Part) → i < length ls → getD (sharing ls .parts) i p ≡ partOf (below ls) (getD ls i d) (getD (apportion (natAbs (gap ls)) (weights ls)) i 0)
+  unfolding parts
+  line-part i d p h =
+      ap (λ (ps : List Part). getD ps i p) parts-is
+      ∙ part-at (below ls) ls (apportion (natAbs (gap ls)) (weights ls)) i d p (long-shares ls) h
+
+  lines-within : LinesWithin ls
+  lines-within =
+      let t = taken-list ls none in
+      let b = bad-of-64 ls in
+      all-within 0 ls (omega (arith, t .sound, b .0))
+
+  gap-most : natAbs (gap ls) ≤ mostCompensation
+  unfolding gap
+  gap-most =
+      let t = taken-list ls none in
+      abs-most (assessed ls) (compensated ls) mostCompensation (omega (arith, assessed-le ls lines-within, t .few)) (t .within)
+
+  part-most : (i : ℕ) → getD (apportion (natAbs (gap ls)) (weights ls)) i 0 ≤ mostCompensation
+  part-most i =
+      omega (arith, getD-total (apportion (natAbs (gap ls)) (weights ls)) i, adds-up (natAbs (gap ls)) (weights ls) (taken-list ls none .way), gap-most)
+
+  -- A line's amount is its compensation less its assessment, and its share.
+  pub amount-is : (i : ℕ) (d : Line) (p : Part) → i < length ls
+      → getD (sharing ls .parts) i p .amount ≡ pos (getD ls i d .compensation .0) -ℤ pos (assessmentFen (getD ls i d)) +ℤ getD (sharing ls .parts) i p .share
+  amount-is i d p h = rw (line-part i d p h)
+
+  -- A share is at most 10^11 fen, an amount at most twice that, whatever the sign.
+  pub part-within : (i : ℕ) (p : Part) → i < length ls
+      → (natAbs (getD (sharing ls .parts) i p .share) ≤ 100000000000) × (natAbs (getD (sharing ls .parts) i p .amount) ≤ 200000000000)
+  part-within i p h =
+      rw (line-part i blankLine p h)
+      (part-small (below ls) (getD ls i blankLine) _ (lines-within i blankLine h) (part-most i))
 
   -- Where R is 0 no line has a share.
   pub zero-gap : gap ls ≡ pos 0 → (i : ℕ) (p : Part) → i < length ls → getD (sharing ls .parts) i p .share ≡ pos 0

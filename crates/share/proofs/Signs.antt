@@ -20,7 +20,7 @@ pub signed-none : (isBelow : Bool) → signed isBelow 0 ≡ pos 0
 signed-none false = refl
 signed-none true = refl
 
-natAbs-neg : (z : ℤ) → natAbs (negℤ z) ≡ natAbs z
+pub natAbs-neg : (z : ℤ) → natAbs (negℤ z) ≡ natAbs z
 natAbs-neg (pos zero) = refl
 natAbs-neg (pos (suc n)) = refl
 natAbs-neg (negsuc n) = refl

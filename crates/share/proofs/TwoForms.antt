@@ -13,8 +13,9 @@ use Rattle.share.specs.declared.Answer.{Answer}
 use Rattle.share.specs.Sharing.{assessmentFen, compensated, assessed, below, gap, weightsOf, Part, partsBy, parts, lineIsSound, firstBadLine}
 use Rattle.share.specs.Sharing.{SharingOutcome, settled, sharingInTurn, sharing, mostNumber}
 use Rattle.share.specs.Forms.{cleared, fillIn, sharingCounted, clear, sharedArray, Lent}
-use Rattle.share.proofs.Lines.{fill-behind}
-use Rattle.share.proofs.Counted.{same-sharing}
+use Rattle.share.specs.Inner.{lendFront}
+use Rattle.share.proofs.Lines.{fill-behind, fill-front}
+use Rattle.share.proofs.Counted.{counted-few, same-sharing}
 use Rattle.share.proofs.Outcomes.{Taken, Refused, outcome, none-given, each-given}
 
 -- What the lines held as share and amount before plays no part
@@ -67,10 +68,40 @@ array-as-list ls lines t =
     (ap (λ (k : ℕ). take k (clear lines)) (length-map ls (λ l. cleared l)) ∙ sym (take-cleared (length ls) lines) ∙ t ∙ take-cleared 64 ls)
     ∙ sharing-cleared ls
 
+take-le : (n : ℕ) (xs : List Line) → length (take n xs) ≤ n
+take-le zero xs = omega arith
+take-le (suc n) [] = omega arith
+take-le (suc n) (x ∷ xs) = omega (arith, take-le n xs)
+
+-- each line that is counted gets a part, or none does
+parts-le : (lines : List Line) (count : ℕ) → length (sharingCounted lines count .parts) ≤ count
+parts-le lines count = go (outcome bad count (take count lines))
+  where
+    bad : ℕ
+    bad = firstBadLine 0 (take count lines)
+
+    o : SharingOutcome
+    o = sharingCounted lines count
+
+    go : Taken bad count (take count lines) ⊎ Refused o → length (o .parts) ≤ count
+    go (inl t) = omega (arith, each-given bad count (take count lines) t, take-le count lines)
+    go (inr r) = let none : length (o .parts) ≡ 0 = ap (λ (x : SharingOutcome). length (x .parts)) (r .is) in omega arith
+
+-- THE FRONT OF AN ARRAY that is lent is shared as the array form shares it: the lines cleared before, the others left.
+pub front-as-array : (lines : List Line) (count : ℕ) → count ≤ length lines → lendFront (clear lines) count ≡ sharedArray lines count
+unfolding lendFront sharedArray
+front-as-array lines count h =
+    let same : sharing (take count (clear lines)) ≡ sharingCounted lines count =
+    ap sharing (sym (take-cleared count lines)) ∙ sharing-cleared (take count lines) ∙ sym (counted-few lines count h) in
+    rw (same, fill-front (sharingCounted lines count .parts) (clear lines) count (parts-le lines count))
+
 -- Two outcomes that a contract allows coincide
 
 pub share-determined : (lines : List Line) (count : ℕ) (r q : Shared) → r ≡ sharedArray lines count → q ≡ sharedArray lines count → r ≡ q
 share-determined lines count r q e f = e ∙ sym f
+
+pub share-front-determined : (lines : List Line) (count : ℕ) (r q : Shared) → r ≡ sharedArray lines count → q ≡ sharedArray lines count → r ≡ q
+share-front-determined = share-determined
 
 pub share-lines-determined : (before after other : List Line) (r q : Answer) → Lent before after r → Lent before other q → (r ≡ q) × (after ≡ other)
 share-lines-determined before after other r q l k = (l .says ∙ sym (k .says), l .lines ∙ sym (k .lines))
@@ -97,21 +128,6 @@ pub array-cleared : (lines : List Line) (count : ℕ) → 0 < sharedArray lines 
 unfolding sharedArray
 array-cleared lines count h = ap (λ (ps : List Part). fillIn ps (clear lines)) (none-given _ count (take count lines) h)
 
-take-le : (n : ℕ) (xs : List Line) → length (take n xs) ≤ n
-take-le zero xs = omega arith
-take-le (suc n) [] = omega arith
-take-le (suc n) (x ∷ xs) = omega (arith, take-le n xs)
-
 pub array-beyond : (lines : List Line) (count : ℕ) → drop count (sharedArray lines count .lines) ≡ drop count (clear lines)
 unfolding sharedArray
-array-beyond lines count = fill-behind (o .parts) (clear lines) count (go (outcome bad count (take count lines)))
-  where
-    bad : ℕ
-    bad = firstBadLine 0 (take count lines)
-
-    o : SharingOutcome
-    o = sharingCounted lines count
-
-    go : Taken bad count (take count lines) ⊎ Refused o → length (o .parts) ≤ count
-    go (inl t) = omega (arith, each-given bad count (take count lines) t, take-le count lines)
-    go (inr r) = let none : length (o .parts) ≡ 0 = ap (λ (x : SharingOutcome). length (x .parts)) (r .is) in omega arith
+array-beyond lines count = fill-behind (sharingCounted lines count .parts) (clear lines) count (parts-le lines count)

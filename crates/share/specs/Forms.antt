@@ -5,11 +5,11 @@ use mathlib.Core.List.{List, [], _∷_, map}
 use Prim.Native.Nat.{ℕ}
 use lib.Dec.{eqb}
 use lib.IntN.{pos}
-use lib.ListN.{take}
+use lib.ListN.{take, replicate}
 use Rattle.share.specs.declared.Line.{Line}
 use Rattle.share.specs.declared.Shared.{Shared}
 use Rattle.share.specs.declared.Answer.{Answer}
-use Rattle.share.specs.Sharing.{Part, firstBadLine, SharingOutcome, sharingRefused, sharingInTurn, sharing}
+use Rattle.share.specs.Sharing.{Part, firstBadLine, SharingOutcome, sharingRefused, sharingInTurn, sharing, mostNumber}
 
 -- a line with its share and amount filled in
 abbrev pub filled : Line → Part → Line
@@ -65,6 +65,11 @@ arrayOf lines o =
 -- a refusal, with the lines of the array
 abbrev pub refuse : ℕ → ℕ → List Line → Shared
 refuse number place lines = arrayOf lines (sharingRefused number place)
+
+-- the answer where there are no lines to hand back: number and place, otherwise zeros
+unfoldable pub nothingShared : ℕ → ℕ → Shared
+nothingShared number place =
+    record { number = number; place = place; gap = record { 0 = pos 0 }; lines = replicate mostNumber blankLine }
 
 -- the answer of the array form
 unfoldable pub sharedArray : List Line → ℕ → Shared

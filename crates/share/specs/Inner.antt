@@ -1,13 +1,16 @@
 -- What inner contracts speak of, and no sentence of the paper. Assumes nothing.
 use mathlib.Core.Path.{_≡_}
 use mathlib.Core.Bool.{Bool}
-use mathlib.Core.List.{List}
+use mathlib.Core.List.{List, _++_}
 use Prim.Native.Nat.{ℕ, _≤_, _<_}
 use lib.IntN.{ℤ, natAbs}
-use lib.ListN.{getD, take}
+use lib.ListN.{getD, take, drop}
+use Rattle.share.specs.declared.Answer.{Answer}
 use Rattle.share.specs.declared.Line.{Line}
+use Rattle.share.specs.declared.Shared.{Shared}
 use Rattle.share.specs.declared.settle.Carried.{Carried}
-use Rattle.share.specs.Sharing.{SharingOutcome, below, gap, partsBy, mostCompensation}
+use Rattle.share.specs.Sharing.{SharingOutcome, below, gap, partsBy, sharing, mostCompensation}
+use Rattle.share.specs.Forms.{answerOf, fillIn}
 use Rattle.share.specs.Limits.{CountedWithin}
 
 -- R of lines, without its sign, whether it is below zero, and with it
@@ -26,3 +29,12 @@ pub record Carries (lines : List Line) (count : ℕ) (o : SharingOutcome) (r : C
   pub place : r .place ≡ o .place
   pub gap : r .gap .0 ≡ o .gap
   pub given : o .number ≡ 0 → PartsGiven lines count o r
+
+-- an answer, and lines beside it
+abbrev pub beside : Answer → List Line → Shared
+beside a lines = record { number = a .number; place = a .place; gap = a .gap; lines = lines }
+
+-- the first `count` lines shared where they lie, the others as they are
+unfoldable pub lendFront : List Line → ℕ → Shared
+lendFront lines count =
+    beside (answerOf (sharing (take count lines))) (fillIn (sharing (take count lines) .parts) (take count lines) ++ drop count lines)

@@ -9,7 +9,7 @@ use units::Thousandths;
 ghost use mathlib.Core.Path.{_≡_};
 ghost use Prim.Native.Nat.{_<_, _≤_, min};
 ghost use lib.ListN.{getD, set, replicate};
-ghost use Rattle.share.specs.Forms.{blankLine, answerIn, keptOf};
+ghost use Rattle.share.specs.Forms.{blankLine, nothingShared, answerIn, keptOf};
 
 pub fn blank_line() -> Line
     ensures { λ r. ⌜ r ≡ blankLine ⌝ }
@@ -30,6 +30,19 @@ pub fn blank_lines() -> [Line; 64]
 {
     let none = blank_line();
     [none; 64]
+}
+
+// A refusal where there are no lines to hand back.
+pub fn nothing_shared(number: u32, place: usize) -> Shared
+    ensures { λ r. ⌜ r ≡ nothingShared number place ⌝ }
+{
+    let lines = blank_lines();
+    Shared {
+        number,
+        place,
+        gap: SignedFen(0),
+        lines,
+    }
 }
 
 // How many of so many lines the array holds.

@@ -1,14 +1,19 @@
 // Lines that the caller lends, filled in by the array form.
 use crate::Answer;
 use crate::Line;
+use crate::Shared;
 use crate::array::answer_in;
 use crate::array::blank_lines;
 use crate::array::kept_of;
 use crate::array::put_line;
 use crate::array::seen;
 use crate::array::take_line;
+use crate::settle::clear;
 use crate::share;
-ghost use Rattle.share.specs.Forms.{Lent};
+ghost use mathlib.Core.Path.{_≡_};
+ghost use Prim.Native.Nat.{_≤_};
+ghost use Rattle.share.specs.Forms.{Lent, sharedArray};
+ghost use Rattle.share.specs.Inner.{beside, lendFront};
 
 // The sharing of all lines lent: share and amount of each are filled in, or, on a refusal, nothing.
 pub fn share_lines(lines: &mut [Line]) -> Answer
@@ -30,4 +35,35 @@ pub fn share_lines(lines: &mut [Line]) -> Answer
         j += 1;
     }
     answer_in(s)
+}
+
+fn beside(told: Answer, lines: [Line; 64]) -> Shared
+    ensures { λ r. ⌜ r ≡ beside told lines ⌝ }
+{
+    let gap = told.gap;
+    Shared {
+        number: told.number,
+        place: told.place,
+        gap,
+        lines,
+    }
+}
+
+// The first `count` lines are lent, and come back in their place.
+fn lend_front(mut lines: [Line; 64], count: usize) -> Shared
+    requires { ⌜ count ≤ 64 ⌝ }
+    ensures { λ r. ⌜ r ≡ lendFront lines count ⌝ }
+{
+    let told = share_lines(&mut lines[..count]);
+    beside(told, lines)
+}
+
+// The sharing of the first `count` of 64 lines, as `share` has it, by lending them.
+pub fn share_front(lines: [Line; 64], count: usize) -> Shared
+    ensures { λ r. ⌜ r ≡ sharedArray lines count ⌝ }
+{
+    if 64 < count {
+        return share(lines, count);
+    }
+    lend_front(clear(lines), count)
 }

@@ -174,7 +174,7 @@ pub fn finish(l: Line, s: Fen, negative: bool) -> Line
 }
 
 // The lines with share and amount 0.
-fn clear(lines: [Line; 64]) -> [Line; 64]
+pub fn clear(lines: [Line; 64]) -> [Line; 64]
     ensures { λ r. ⌜ r ≡ clear lines ⌝ }
 {
     let mut out = lines;

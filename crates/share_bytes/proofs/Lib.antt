@@ -4,4 +4,5 @@ pub mod ByteCases
 pub mod Refusals
 pub mod ThreeForms
 pub mod RoundTrip
+pub mod ReadBack
 pub mod Worked

@@ -7,7 +7,7 @@ use lib.Dec.{ltb, eqb}
 use lib.IntN.{pos}
 use lib.ListN.{length}
 use mir.Syntax.{w64}
-use mir.Val.{ofZ}
+use mir.Val.{ofZ, toZ}
 use Rattle.le.specs.Le.{leAt, leBytes, Stores}
 use Rattle.share.specs.declared.Answer.{Answer}
 use Rattle.share.specs.declared.Line.{Line}
@@ -85,6 +85,19 @@ partBytes p = leBytes 8 (ofZ w64 (p .share)) ++ leBytes 8 (ofZ w64 (p .amount))
 unfoldable pub partsBytes : List Part → List ℕ
 partsBytes [] = []
 partsBytes (p ∷ ps) = partBytes p ++ partsBytes ps
+
+-- share and amount of a line as a plant's tool reads them: each a signed number of eight bytes, 16 bytes a line
+unfoldable pub partAt : List ℕ → ℕ → Part
+partAt bytes k = record { share = toZ w64 (leAt bytes (partSize * k) 8); amount = toZ w64 (leAt bytes (partSize * k + 8) 8) }
+
+-- so many parts from the line k on, each as it is read at its place
+unfoldable pub partsFrom : (ℕ → Part) → ℕ → ℕ → List Part
+partsFrom part k zero = []
+partsFrom part k (suc n) = part k ∷ partsFrom part (suc k) n
+
+-- what is read of so many lines
+abbrev pub partsAt : List ℕ → ℕ → List Part
+partsAt bytes n = partsFrom (partAt bytes) 0 n
 
 -- Sharing over bytes
 

@@ -2,6 +2,7 @@
 use libc::STDIN_FILENO;
 use lines::Reader;
 use text::sharing::statement_text;
+use text::told::failed_text;
 ghost use Prim.Native.Nat.{_<_};
 
 // More reads than any input has.
@@ -67,15 +68,16 @@ fn read_all() -> Reading {
 
 fn main() {
     let reading = read_all();
+    let mut out = io::buffer();
     let input = reading.input;
     let Input::Whole = input else {
-        say::text(b"failed to read the lines\n");
+        let n = failed_text(b"", b"to read the lines", &mut out);
+        say::text(&out[..n]);
         return;
     };
     let reader = reading.reader;
     let taken = reader.finish();
     let count = taken.count;
-    let mut out = io::buffer();
     let n = statement_text(taken.shared(), count, &mut out);
     say::text(&out[..n]);
 }

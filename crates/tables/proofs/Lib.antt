@@ -1,5 +1,7 @@
 pub mod Reading
 pub mod Texts
+pub mod Integers
+pub mod Names
 pub mod Filling
 pub mod Entries
 pub mod Judging

@@ -2,6 +2,7 @@
 use mathlib.Core.Path.{_≡_, refl, ap, sym, _∙_}
 use mathlib.Core.Bool.{Bool, true, false, cond, _&&_}
 use mathlib.Core.List.{List, [], _∷_, _++_, map}
+use mathlib.Core.Logic.{_≢_}
 use Prim.Native.Nat.{ℕ, suc, min, _+_, _-_, _≤_, _<_}
 use native.Mathlib.Omega.{arith}
 use lib.Dec.{ltb, leb, eqb}
@@ -18,7 +19,7 @@ use Rattle.units.specs.declared.Fen.{Fen}
 use Rattle.share.specs.declared.Line.{Line}
 use Rattle.share.specs.declared.Shared.{Shared}
 use Rattle.share.specs.Sharing.{sharing, mostNumber, mostStatus, mostEnergy, mostAssessment}
-use Rattle.share.specs.Forms.{arrayOf, sharingCounted, sharedArray}
+use Rattle.share.specs.Forms.{blankLine, arrayOf, nothingShared, sharingCounted, sharedArray}
 use Rattle.share.proofs.Counted.{counted-few}
 use Rattle.tables.specs.declared.Told.{Told}
 use Rattle.tables.specs.declared.register.Entry.{Entry}
@@ -27,7 +28,7 @@ use Rattle.tables.specs.Table.{plain, cellsOf, rowOf, toldOf}
 use Rattle.tables.specs.Register.{asEntry, blankEntry, entryLine, entryIsSound, entriesOf, registerEntries, readRegister, linesFor, registerStatement}
 use Rattle.tables.specs.Series.{Filled, noOutput, outputOf, seriesOf, filledWith}
 use Rattle.tables.proofs.Entries.{bounds, within, sound-is, lawful}
-use Rattle.tables.proofs.Sharing.{length-lines}
+use Rattle.tables.proofs.Sharing.{length-lines, statement-no}
 
 -- Two outcomes that a contract allows are one
 
@@ -231,8 +232,8 @@ pub statement-shared : (text : List ℕ) (fens : List Fen) → readRegister text
     → registerStatement (readRegister text) fens ≡ arrayOf (linesFor (readRegister text .entries) fens) (sharing (linesFor (entriesOf text) fens))
 statement-shared text fens h = rw (register-at-most-64 text h .0) (statement-all (entriesOf text) fens)
 
--- Of a register that was refused it is that refusal: number and place, no gap, no share.
-pub statement-refused : (place : ℕ) (fens : List Fen)
-    → registerStatement (refusedAt registerEntries place) fens ≡ record { number = 10; place = place; gap = record { 0 = pos 0 }; lines = linesFor (filledUp registerEntries []) fens }
-unfolding registerStatement
-statement-refused place fens = refl
+-- Of a register that was refused it is that refusal, whatever the members are compensated: number and place, no gap, and no line.
+pub statement-refused : (r : Register) (fens : List Fen) → r .number ≢ 0
+    → registerStatement r fens ≡ record { number = r .number; place = r .place; gap = record { 0 = pos 0 }; lines = replicate 64 blankLine }
+unfolding nothingShared
+statement-refused r fens h = sym (statement-no r fens h)

@@ -1,16 +1,19 @@
 -- The sharing lines of a register's entries, one by one. Assumes nothing.
 use mathlib.Core.Path.{_≡_, refl, ap, sym, _∙_}
 use mathlib.Core.List.{List, [], _∷_}
+use mathlib.Core.Logic.{_≢_}
 use Prim.Native.Nat.{ℕ, zero, suc, _+_, _≤_, _<_}
 use native.Mathlib.Numerals.{add-one}
 use native.Mathlib.Omega.{arith}
 use lib.ListN.{length, take, drop, set, getD}
+use borrow.Author.Tests.{eq-eqb, ne-eqb}
 use lib.Seq.{take-suc, take-suc-set, take-all, getD-drop}
 use Rattle.units.specs.declared.Fen.{Fen}
 use Rattle.share.specs.declared.Line.{Line}
-use Rattle.share.specs.Forms.{blankLine}
+use Rattle.share.specs.Forms.{blankLine, sharedArray, nothingShared}
 use Rattle.tables.specs.declared.register.Entry.{Entry}
-use Rattle.tables.specs.Register.{entryLine, linesFor}
+use Rattle.tables.specs.declared.register.Register.{Register}
+use Rattle.tables.specs.Register.{entryLine, linesFor, registerStatement}
 
 abbrev none : Fen
 none = record { 0 = 0 }
@@ -37,3 +40,13 @@ module _ (es : List Entry) (fens : List Fen) (lines : List Line) where
   pub lines-all : (i : ℕ) → length lines ≤ i → length es ≤ i → take i lines ≡ take i (linesFor es fens) → lines ≡ linesFor es fens
   lines-all i h k inv =
       sym (take-all i lines h) ∙ inv ∙ take-all i (linesFor es fens) (omega (arith, length-lines es fens))
+
+-- The statement by its cases
+
+pub statement-yes : (r : Register) (fens : List Fen) → r .number ≡ 0 → sharedArray (linesFor (r .entries) fens) (r .count) ≡ registerStatement r fens
+unfolding registerStatement
+statement-yes r fens h = rw (eq-eqb (r .number) 0 h)
+
+pub statement-no : (r : Register) (fens : List Fen) → r .number ≢ 0 → nothingShared (r .number) (r .place) ≡ registerStatement r fens
+unfolding registerStatement
+statement-no r fens h = rw (ne-eqb (r .number) 0 h)

@@ -9,7 +9,7 @@ use Rattle.units.specs.declared.Fen.{Fen}
 use Rattle.share.specs.declared.Line.{Line}
 use Rattle.share.specs.declared.Shared.{Shared}
 use Rattle.share.specs.Sharing.{lineIsSound, mostNumber}
-use Rattle.share.specs.Forms.{sharedArray}
+use Rattle.share.specs.Forms.{sharedArray, nothingShared}
 use Rattle.pay.specs.Member.{memberIsSound}
 use Rattle.row.specs.Numbers.{linesOf}
 use Rattle.row.specs.Judging.{Judge, judged}
@@ -82,8 +82,8 @@ abbrev pub linesFor : List Entry → List Fen → List Line
 linesFor [] fens = []
 linesFor (e ∷ es) fens = entryLine e (getD fens 0 (record { 0 = 0 })) ∷ linesFor es (drop 1 fens)
 
--- the month's statement: the sharing of those lines, or the register's refusal
+-- the month's statement: the sharing of those lines, or the register's refusal and no lines
 unfoldable pub registerStatement : Register → List Fen → Shared
 registerStatement r fens =
     cond (eqb (r .number) 0) (sharedArray (linesFor (r .entries) fens) (r .count))
-    (record { number = r .number; place = r .place; gap = record { 0 = pos 0 }; lines = linesFor (r .entries) fens })
+    (nothingShared (r .number) (r .place))

@@ -1,9 +1,9 @@
 -- The series of a member: a line a quarter hour, of one number, the mean output in kW. Assumes nothing.
 use mathlib.Core.Bool.{cond}
-use mathlib.Core.List.{List, _++_, map}
-use Prim.Native.Nat.{ℕ, min}
+use mathlib.Core.List.{List, [], _∷_, _++_, map}
+use Prim.Native.Nat.{ℕ, min, _/_, _%_}
 use lib.ListN.{length, getD, take, drop}
-use Rattle.row.specs.Numbers.{notEmpty, linesOf}
+use Rattle.row.specs.Numbers.{notEmpty, linesOf, digitByte}
 use Rattle.tables.specs.Table.{rowOf}
 
 -- a line is one number
@@ -34,3 +34,15 @@ filledWith before vs =
       count = min (length vs) (length before);
       values = take (length before) vs ++ drop (length vs) before;
     }
+
+-- a name in a folder stands behind a slash
+abbrev pub slash : ℕ
+slash = 47
+
+-- the bytes of `.csv`
+abbrev pub csv : List ℕ
+csv = 46 ∷ 99 ∷ 115 ∷ 118 ∷ []
+
+-- a member's series in its folder: the tens and the ones of its number, and `.csv`
+unfoldable pub seriesName : ℕ → List ℕ
+seriesName member = slash ∷ digitByte (member / 10 % 10) ∷ digitByte (member % 10) ∷ csv

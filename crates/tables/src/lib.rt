@@ -1,4 +1,4 @@
-// Texts that a spreadsheet saves: a register, a series, a number.
+// Texts that a spreadsheet saves: a register, a series, a number, with or without a sign.
 mod cells;
 pub mod register;
 pub mod series;
@@ -6,12 +6,22 @@ pub mod series;
 use cells::Cells;
 ghost use mathlib.Core.Path.{_≡_};
 ghost use Rattle.tables.specs.Table.{rowOf, toldOf};
+ghost use Rattle.tables.specs.Integer.{withSign, integerOf};
 
 // What a line of one number says.
 pub enum Told {
     Number(u64),
     Nothing,
 }
+
+// What a line of one number with or without a sign says.
+pub enum ToldInteger {
+    Number(i32),
+    Nothing,
+}
+
+// The largest size of a number with a sign: as much below zero as above.
+const MOST_INTEGER: u64 = 0x7fff_ffff;
 
 // The number that a text of one line says.
 pub fn number(text: &[u8]) -> Told
@@ -24,4 +34,35 @@ pub fn number(text: &[u8]) -> Told
         i += 1;
     }
     cells.told()
+}
+
+// The number by its size and its sign, if it is not too large.
+fn with_sign(size: Told, below: bool) -> ToldInteger
+    ensures { λ r. ⌜ r ≡ withSign size below ⌝ }
+{
+    let Told::Number(n) = size else {
+        return ToldInteger::Nothing;
+    };
+    if MOST_INTEGER < n {
+        return ToldInteger::Nothing;
+    }
+    let above = n as i32;
+    if below {
+        return ToldInteger::Number(0 - above);
+    }
+    ToldInteger::Number(above)
+}
+
+// The number that a text of one line says, with or without a sign.
+pub fn integer(text: &[u8]) -> ToldInteger
+    ensures { λ r. ⌜ r ≡ integerOf (now (text .entry)) ⌝ }
+{
+    let n = text.len();
+    if n == 0 {
+        return ToldInteger::Nothing;
+    }
+    if text[0] == b'-' {
+        return with_sign(number(&text[1..n]), true);
+    }
+    with_sign(number(text), false)
 }

@@ -5,6 +5,8 @@ use row::hold;
 use share::Line;
 use share::Shared;
 use share::array::blank_lines;
+use share::array::nothing_shared;
+use share::lent::share_front;
 use share::limits::numbers_are_sound;
 use units::Fen;
 use units::Kw;
@@ -245,20 +247,15 @@ fn lines_for(entries: [Entry; MOST_ENTRIES], fens: [Fen; MOST_ENTRIES]) -> [Line
 }
 
 impl Register {
-    // The month's statement: the gap shared, where each member is compensated so; or the register's refusal.
+    // The month's statement: the gap shared, where each member is compensated so; or the register's refusal and no lines.
     pub fn statement(self, fens: [Fen; MOST_ENTRIES]) -> Shared
         ensures { λ r. ⌜ r ≡ registerStatement self fens ⌝ }
     {
-        let entries = self.entries;
-        let lines = lines_for(entries, fens);
         if self.number == 0 {
-            return share::share(lines, self.count);
+            let entries = self.entries;
+            let lines = lines_for(entries, fens);
+            return share_front(lines, self.count);
         }
-        Shared {
-            number: self.number,
-            place: self.place,
-            gap: SignedFen(0),
-            lines,
-        }
+        nothing_shared(self.number, self.place)
     }
 }

@@ -1,9 +1,9 @@
-// A member's series: one output a line, into a list that the caller lends.
+// A member's series: one output a line, into a list that the caller lends; and its name in its folder.
 use crate::cells::Cells;
 ghost use mathlib.Core.Path.{_≡_};
 ghost use mathlib.Core.List.{List, [], _∷_};
 ghost use Prim.Native.Nat.{ℕ};
-ghost use Rattle.tables.specs.Series.{seriesOf, filledWith};
+ghost use Rattle.tables.specs.Series.{seriesOf, filledWith, seriesName};
 ghost use Rattle.tables.specs.Meaning.{cellNumbers, fillFrom};
 
 // The output of a line that ends here, to place n of the list, if there is such a place. Answers with the next place.
@@ -38,4 +38,13 @@ pub fn read_series(text: &[u8], out: &mut [u32]) -> usize
         return put_output(cells, out, n);
     }
     n
+}
+
+// A member's series in its folder: the member's number in two digits and .csv, behind a slash.
+pub fn series_name(member: u16) -> [u8; 7]
+    ensures { λ r. ⌜ r ≡ seriesName member ⌝ }
+{
+    let tens = b'0' + (member / 10 % 10) as u8;
+    let ones = b'0' + (member % 10) as u8;
+    [b'/', tens, ones, b'.', b'c', b's', b'v']
 }

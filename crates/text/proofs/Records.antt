@@ -1,5 +1,6 @@
 -- The texts of a call and of a failure by their cases. Assumes nothing.
-use mathlib.Core.Path.{_≡_, refl}
+use mathlib.Core.Bool.{Bool, true, false}
+use mathlib.Core.Path.{_≡_, refl, sym, ap}
 use mathlib.Core.List.{List, [], _∷_, _++_}
 use mathlib.Core.Logic.{_≢_}
 use Prim.Native.Nat.{ℕ, zero, suc}
@@ -8,7 +9,7 @@ use borrow.Author.Tests.{eq-eqb, ne-eqb}
 use lib.ListN.{length}
 use Rattle.call.specs.declared.Call.{Call}
 use Rattle.text.specs.Decimal.{word}
-use Rattle.text.specs.Texts.{whatText, stateText, serviceText, timeText, termsText, detailsText}
+use Rattle.text.specs.Texts.{whatText, whichText, stateText, serviceText, timeText, termsText, detailsText}
 
 pub withdrawn-text : (s : ℕ) → s ≢ 0 → s ≢ 1 → word " withdrawn" ≡ stateText s
 unfolding stateText
@@ -47,3 +48,11 @@ pub named : (what : List ℕ) → length what ≢ 0 → what ++ word ": " ≡ wh
 unfolding whatText
 named [] h = absurd (h refl)
 named (b ∷ bs) h = refl
+
+pub second-text : (second : Bool) → second ≡ true → word "second " ≡ whichText second
+unfolding whichText
+second-text second h = ap whichText (sym h)
+
+pub first-text : (second : Bool) → second ≡ false → word "first " ≡ whichText second
+unfolding whichText
+first-text second h = ap whichText (sym h)

@@ -28,6 +28,26 @@ mostRefusedAbout what = mostRefusal + 2 + length what
 abbrev pub mostFailed : List ℕ → List ℕ → ℕ
 mostFailed what why = 7 + 2 + 1 + length what + length why
 
+-- `failed argument ` and a number
+abbrev pub mostArgument : ℕ
+mostArgument = 16 + mostDecimal
+
+-- besides those bytes `: `, a line feed and why
+abbrev pub mostBadArgument : List ℕ → ℕ
+mostBadArgument why = mostArgument + 2 + 1 + length why
+
+-- besides those bytes `: no number up to `, a number and a line feed
+abbrev pub mostNoNumber : ℕ
+mostNoNumber = mostArgument + 18 + mostDecimal + 1
+
+-- `: ` and a line feed, besides what the remark is about and the remark
+abbrev pub mostNote : List ℕ → List ℕ → ℕ
+mostNote what why = 2 + 1 + length what + length why
+
+-- `desk ` and a line feed, besides how a command is called
+abbrev pub mostUsage : List ℕ → ℕ
+mostUsage line = 5 + 1 + length line
+
 -- `total `, a number, a line feed
 abbrev pub mostTotal : ℕ
 mostTotal = 6 + mostDecimal + 1
@@ -43,6 +63,10 @@ mostStatement = mostTotal + 64 * mostLine
 -- seven numbers, and the words of a live call with the longest name of a service
 abbrev pub mostCall : ℕ
 mostCall = 95 + 7 * mostDecimal
+
+-- `second ` and a call
+abbrev pub mostFound : ℕ
+mostFound = 7 + mostCall
 
 abbrev pub mostHeader : ℕ
 mostHeader = 26 + 4 * mostDecimal

@@ -1,5 +1,5 @@
 -- What the programs print of an outcome, byte by byte. Assumes nothing.
-use mathlib.Core.Bool.{cond}
+use mathlib.Core.Bool.{Bool, cond}
 use mathlib.Core.List.{List, [], _∷_, _++_}
 use Prim.Native.Nat.{ℕ, zero, suc}
 use lib.Dec.{eqb}
@@ -58,6 +58,26 @@ whatText (b ∷ bs) = (b ∷ bs) ++ word ": "
 unfoldable pub failedText : List ℕ → List ℕ → List ℕ
 failedText what why = word "failed " ++ whatText what ++ why ++ word "\n"
 
+-- an argument that is not taken, by its place among the program's words
+unfoldable pub argumentText : ℕ → List ℕ
+argumentText i = field "failed argument " i
+
+-- the same, and why
+unfoldable pub badArgumentText : ℕ → List ℕ → List ℕ
+badArgumentText i why = argumentText i ++ word ": " ++ why ++ word "\n"
+
+-- the same of a number that is none, or is too large
+unfoldable pub noNumberText : ℕ → ℕ → List ℕ
+noNumberText i most = argumentText i ++ field ": no number up to " most ++ word "\n"
+
+-- a remark in front of the last line: what it is about, and the remark
+unfoldable pub noteText : List ℕ → List ℕ → List ℕ
+noteText what why = what ++ word ": " ++ why ++ word "\n"
+
+-- how a command is called
+unfoldable pub usageText : List ℕ → List ℕ
+usageText line = word "desk " ++ line ++ word "\n"
+
 -- the state of a call
 unfoldable pub stateText : ℕ → List ℕ
 stateText state = cond (eqb state live) (word " live") (cond (eqb state contested) (word " contested") (word " withdrawn"))
@@ -99,6 +119,14 @@ detailsText c = cond (eqb (c .state) live) (timeText c ++ termsText c) []
 -- a call, on one line
 unfoldable pub callText : Call → List ℕ
 callText c = keyText c ++ detailsText c ++ word "\n"
+
+-- which of two books has a call
+unfoldable pub whichText : Bool → List ℕ
+whichText second = cond second (word "second ") (word "first ")
+
+-- the same, and the call
+unfoldable pub foundText : Bool → Call → List ℕ
+foundText second c = whichText second ++ callText c
 
 -- whose month a book is of
 unfoldable pub dateText : Header → List ℕ

@@ -1,8 +1,8 @@
 // What the desk prints of a month: every score, R, and what each member carries and gets.
 use crate::put::put_field;
 use crate::put::put_money;
+use crate::put::put_total;
 use crate::put::put_word;
-use crate::sharing::put_total;
 use share::Line;
 use share::Shared;
 use share::array::seen;

@@ -1,4 +1,4 @@
-// Words and numbers from a place of a buffer on. Each answers the place behind what it put.
+// Words and numbers, a refusal and R, from a place of a buffer on. Each answers the place behind what it put.
 use units::SignedFen;
 ghost use mathlib.Core.Path.{_≡_};
 ghost use mathlib.Core.List.{_++_};
@@ -7,7 +7,8 @@ ghost use lib.IntN.{natAbs};
 ghost use lib.ListN.{length};
 ghost use Rattle.text.specs.Decimal.{decimal, signedDecimal};
 ghost use Rattle.text.specs.Inner.{Puts};
-ghost use Rattle.text.specs.Room.{mostDecimal};
+ghost use Rattle.text.specs.Room.{mostDecimal, mostRefusal, mostTotal};
+ghost use Rattle.text.specs.Texts.{refusalText, totalText};
 
 pub fn put_word(out: &mut [u8], at: usize, word: &[u8]) -> usize
     requires { ⌜ at + length (now word) ≤ length (now out) ⌝ }
@@ -93,4 +94,22 @@ pub fn put_signed_field32(out: &mut [u8], at: usize, name: &[u8], n: i32) -> usi
     ensures { λ r. ⌜ Puts (length (now (name .entry)) + mostDecimal) (now (out .entry)) at (now (name .entry) ++ signedDecimal n) (now (out .exit)) r ⌝ }
 {
     put_signed_field(out, at, name, wide(n))
+}
+
+// A refusal's number and place.
+pub fn put_refusal(out: &mut [u8], at: usize, number: u32, place: usize) -> usize
+    requires { ⌜ at + mostRefusal ≤ length (now out) ⌝ }
+    ensures { λ r. ⌜ Puts mostRefusal (now (out .entry)) at (refusalText number place) (now (out .exit)) r ⌝ }
+{
+    let next = put_field(out, at, b"refused ", number as u64);
+    put_field(out, next, b" ", place as u64)
+}
+
+// R.
+pub fn put_total(out: &mut [u8], at: usize, gap: SignedFen) -> usize
+    requires { ⌜ at + mostTotal ≤ length (now out) ⌝ }
+    ensures { λ r. ⌜ Puts mostTotal (now (out .entry)) at (totalText (gap .0)) (now (out .exit)) r ⌝ }
+{
+    let next = put_money(out, at, b"total ", gap);
+    put_word(out, next, b"\n")
 }

@@ -12,11 +12,13 @@ ghost use Prim.Native.Nat.{_+_, _≤_};
 ghost use lib.ListN.{length};
 ghost use Rattle.io.specs.Counts.{Counts};
 ghost use Rattle.text.specs.Inner.{Puts};
-ghost use Rattle.text.specs.Room.{Renders, mostCall, mostHeader, mostScore};
-ghost use Rattle.text.specs.Texts.{stateText, serviceText, keyText, timeText, termsText, detailsText, callText, dateText, headerText, scoreText};
+ghost use Rattle.text.specs.Room.{Renders, mostCall, mostFound, mostHeader, mostScore};
+ghost use Rattle.text.specs.Texts.{stateText, serviceText, keyText, timeText, termsText, detailsText, callText, whichText, foundText, dateText, headerText, scoreText};
 
 // The most bytes of each.
 pub const MOST_CALL: usize = 235;
+
+pub const MOST_FOUND: usize = 242;
 
 pub const MOST_HEADER: usize = 106;
 
@@ -100,6 +102,25 @@ fn put_call(out: &mut [u8], at: usize, x: Call) -> usize
     put_word(out, b, b"\n")
 }
 
+fn put_which(out: &mut [u8], at: usize, second: bool) -> usize
+    requires { ⌜ at + 7 ≤ length (now out) ⌝ }
+    ensures { λ r. ⌜ Puts 7 (now (out .entry)) at (whichText second) (now (out .exit)) r ⌝ }
+{
+    if second {
+        put_word(out, at, b"second ")
+    } else {
+        put_word(out, at, b"first ")
+    }
+}
+
+fn put_found(out: &mut [u8], second: bool, x: Call) -> usize
+    requires { ⌜ mostFound ≤ length (now out) ⌝ }
+    ensures { λ r. ⌜ Puts mostFound (now (out .entry)) 0 (foundText second x) (now (out .exit)) r ⌝ }
+{
+    let next = put_which(out, 0, second);
+    put_call(out, next, x)
+}
+
 fn put_date(out: &mut [u8], at: usize, h: Header) -> usize
     requires { ⌜ at + 78 ≤ length (now out) ⌝ }
     ensures { λ r. ⌜ Puts 78 (now (out .entry)) at (dateText h) (now (out .exit)) r ⌝ }
@@ -136,6 +157,17 @@ pub fn call_text(x: Call, out: &mut [u8]) -> usize
         return 0;
     }
     put_call(out, 0, x)
+}
+
+// Which of two books has a call, and the call, on one line.
+pub fn found_text(second: bool, x: Call, out: &mut [u8]) -> usize
+    ensures { λ r. ⌜ Renders mostFound (foundText second x) (now (out .entry)) (now (out .exit)) r ⌝ }
+    ensures { λ r. ⌜ Counts r (now (out .exit)) ⌝ }
+{
+    if out.len() < MOST_FOUND {
+        return 0;
+    }
+    put_found(out, second, x)
 }
 
 // Whose month a book is of, and how many calls it has.

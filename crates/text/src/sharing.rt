@@ -1,7 +1,8 @@
 // What `statement` prints: R and the lines, or a refusal.
 use crate::put::put_decimal;
-use crate::put::put_field;
 use crate::put::put_money;
+use crate::put::put_refusal;
+use crate::put::put_total;
 use crate::put::put_word;
 use share::Line;
 use share::Shared;
@@ -12,35 +13,19 @@ ghost use Prim.Native.Nat.{_+_, _*_, _≤_};
 ghost use lib.ListN.{length, take};
 ghost use Rattle.io.specs.Counts.{Counts};
 ghost use Rattle.text.specs.Inner.{Puts};
-ghost use Rattle.text.specs.Room.{Renders, mostRefusal, mostRefused, mostTotal, mostLine, mostStatement};
-ghost use Rattle.text.specs.Texts.{refusalText, refusedText, totalText, lineText, linesText, statementText};
+ghost use Rattle.text.specs.Room.{Renders, mostRefused, mostLine, mostStatement};
+ghost use Rattle.text.specs.Texts.{refusedText, totalText, lineText, linesText, statementText};
 
 // The most bytes of a refusal, and of a statement: 27 of R, and 63 for each of 64 lines.
 pub const MOST_REFUSED: usize = 50;
 
 pub const MOST_STATEMENT: usize = 4059;
 
-pub fn put_refusal(out: &mut [u8], at: usize, number: u32, place: usize) -> usize
-    requires { ⌜ at + mostRefusal ≤ length (now out) ⌝ }
-    ensures { λ r. ⌜ Puts mostRefusal (now (out .entry)) at (refusalText number place) (now (out .exit)) r ⌝ }
-{
-    let next = put_field(out, at, b"refused ", number as u64);
-    put_field(out, next, b" ", place as u64)
-}
-
 fn put_refused(out: &mut [u8], at: usize, number: u32, place: usize) -> usize
     requires { ⌜ at + mostRefused ≤ length (now out) ⌝ }
     ensures { λ r. ⌜ Puts mostRefused (now (out .entry)) at (refusedText number place) (now (out .exit)) r ⌝ }
 {
     let next = put_refusal(out, at, number, place);
-    put_word(out, next, b"\n")
-}
-
-pub fn put_total(out: &mut [u8], at: usize, gap: SignedFen) -> usize
-    requires { ⌜ at + mostTotal ≤ length (now out) ⌝ }
-    ensures { λ r. ⌜ Puts mostTotal (now (out .entry)) at (totalText (gap .0)) (now (out .exit)) r ⌝ }
-{
-    let next = put_money(out, at, b"total ", gap);
     put_word(out, next, b"\n")
 }
 

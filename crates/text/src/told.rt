@@ -1,17 +1,26 @@
-// A refusal and what it is about; what failed, and why.
+// A refusal and what it is about; what failed, and why; an argument that is not taken; a remark; how a command is called.
+use crate::put::put_field;
+use crate::put::put_refusal;
 use crate::put::put_word;
-use crate::sharing::put_refusal;
 ghost use Prim.Native.Nat.{_+_, _≤_};
 ghost use lib.ListN.{length};
 ghost use Rattle.io.specs.Counts.{Counts};
 ghost use Rattle.text.specs.Inner.{Puts};
-ghost use Rattle.text.specs.Room.{Renders, mostRefusedAbout, mostFailed};
-ghost use Rattle.text.specs.Texts.{whatText, refusedAboutText, failedText};
+ghost use Rattle.text.specs.Room.{Renders, mostRefusedAbout, mostFailed, mostArgument, mostBadArgument, mostNoNumber, mostNote, mostUsage};
+ghost use Rattle.text.specs.Texts.{whatText, refusedAboutText, failedText, argumentText, badArgumentText, noNumberText, noteText, usageText};
 
 // The most bytes of each, besides those of what is named.
 pub const MOST_REFUSED_ABOUT: usize = 51;
 
 pub const MOST_FAILED: usize = 10;
+
+pub const MOST_BAD_ARGUMENT: usize = 39;
+
+pub const MOST_NO_NUMBER: usize = 75;
+
+pub const MOST_NOTE: usize = 3;
+
+pub const MOST_USAGE: usize = 6;
 
 fn put_refused_about(out: &mut [u8], number: u32, place: usize, what: &[u8]) -> usize
     requires { ⌜ mostRefusedAbout (now what) ≤ length (now out) ⌝ }
@@ -73,4 +82,105 @@ pub fn failed_text(what: &[u8], why: &[u8], out: &mut [u8]) -> usize
         return 0;
     }
     put_failed(out, what, why)
+}
+
+fn put_argument(out: &mut [u8], i: usize) -> usize
+    requires { ⌜ mostArgument ≤ length (now out) ⌝ }
+    ensures { λ r. ⌜ Puts mostArgument (now (out .entry)) 0 (argumentText i) (now (out .exit)) r ⌝ }
+{
+    put_field(out, 0, b"failed argument ", i as u64)
+}
+
+fn put_bad_argument(out: &mut [u8], i: usize, why: &[u8]) -> usize
+    requires { ⌜ mostBadArgument (now why) ≤ length (now out) ⌝ }
+    ensures { λ r. ⌜ Puts (mostBadArgument (now (why .entry))) (now (out .entry)) 0 (badArgumentText i (now (why .entry))) (now (out .exit)) r ⌝ }
+{
+    let a = put_argument(out, i);
+    let b = put_word(out, a, b": ");
+    let c = put_word(out, b, why);
+    put_word(out, c, b"\n")
+}
+
+// An argument that is not taken, and why.
+pub fn bad_argument_text(i: usize, why: &[u8], out: &mut [u8]) -> usize
+    ensures { λ r. ⌜ Renders (mostBadArgument (now (why .entry))) (badArgumentText i (now (why .entry))) (now (out .entry)) (now (out .exit)) r ⌝ }
+    ensures { λ r. ⌜ Counts r (now (out .exit)) ⌝ }
+{
+    if out.len() < MOST_BAD_ARGUMENT {
+        return 0;
+    }
+    if out.len() - MOST_BAD_ARGUMENT < why.len() {
+        return 0;
+    }
+    put_bad_argument(out, i, why)
+}
+
+fn put_no_number(out: &mut [u8], i: usize, most: u64) -> usize
+    requires { ⌜ mostNoNumber ≤ length (now out) ⌝ }
+    ensures { λ r. ⌜ Puts mostNoNumber (now (out .entry)) 0 (noNumberText i most) (now (out .exit)) r ⌝ }
+{
+    let a = put_argument(out, i);
+    let b = put_field(out, a, b": no number up to ", most);
+    put_word(out, b, b"\n")
+}
+
+// An argument that is no number, or one too large.
+pub fn no_number_text(i: usize, most: u64, out: &mut [u8]) -> usize
+    ensures { λ r. ⌜ Renders mostNoNumber (noNumberText i most) (now (out .entry)) (now (out .exit)) r ⌝ }
+    ensures { λ r. ⌜ Counts r (now (out .exit)) ⌝ }
+{
+    if out.len() < MOST_NO_NUMBER {
+        return 0;
+    }
+    put_no_number(out, i, most)
+}
+
+fn put_note(out: &mut [u8], what: &[u8], why: &[u8]) -> usize
+    requires { ⌜ mostNote (now what) (now why) ≤ length (now out) ⌝ }
+    ensures { λ r. ⌜ Puts (mostNote (now (what .entry)) (now (why .entry))) (now (out .entry)) 0 (noteText (now (what .entry)) (now (why .entry))) (now (out .exit)) r ⌝ }
+{
+    let a = put_word(out, 0, what);
+    let b = put_word(out, a, b": ");
+    let c = put_word(out, b, why);
+    put_word(out, c, b"\n")
+}
+
+// A remark, and what it is about.
+pub fn note_text(what: &[u8], why: &[u8], out: &mut [u8]) -> usize
+    ensures { λ r. ⌜ Renders (mostNote (now (what .entry)) (now (why .entry))) (noteText (now (what .entry)) (now (why .entry))) (now (out .entry)) (now (out .exit)) r ⌝ }
+    ensures { λ r. ⌜ Counts r (now (out .exit)) ⌝ }
+{
+    if out.len() < MOST_NOTE {
+        return 0;
+    }
+    if out.len() - MOST_NOTE < what.len() {
+        return 0;
+    }
+    if out.len() - MOST_NOTE - what.len() < why.len() {
+        return 0;
+    }
+    put_note(out, what, why)
+}
+
+fn put_usage(out: &mut [u8], line: &[u8]) -> usize
+    requires { ⌜ mostUsage (now line) ≤ length (now out) ⌝ }
+    ensures { λ r. ⌜ Puts (mostUsage (now (line .entry))) (now (out .entry)) 0 (usageText (now (line .entry))) (now (out .exit)) r ⌝ }
+{
+    let a = put_word(out, 0, b"desk ");
+    let b = put_word(out, a, line);
+    put_word(out, b, b"\n")
+}
+
+// How a command is called.
+pub fn usage_text(line: &[u8], out: &mut [u8]) -> usize
+    ensures { λ r. ⌜ Renders (mostUsage (now (line .entry))) (usageText (now (line .entry))) (now (out .entry)) (now (out .exit)) r ⌝ }
+    ensures { λ r. ⌜ Counts r (now (out .exit)) ⌝ }
+{
+    if out.len() < MOST_USAGE {
+        return 0;
+    }
+    if out.len() - MOST_USAGE < line.len() {
+        return 0;
+    }
+    put_usage(out, line)
 }

@@ -1,6 +1,6 @@
 -- Two sound books of one month and area with 513 different keys: every tree of joins over them stops in refusal 8. Assumes nothing.
 use mathlib.Core.Path.{_≡_, refl, sym, _∙_, ap, ap₂}
-use mathlib.Core.Logic.{⊎-elim}
+use mathlib.Core.Logic.{_⊎_, ⊎-elim}
 use mathlib.Core.List.{List, [], _∷_, List·Memᴰ as In, List·Memᴰ·head as here, List·Memᴰ·tail as there, List·Memᴰ·cases-cons as in-cons, List·Memᴰ·eq-of-singleton as eq-of-one}
 use Prim.Native.Nat.{ℕ, zero, suc, _+_, _≤_, _<_}
 use native.Mathlib.Omega.{arith}
@@ -22,7 +22,7 @@ use Rattle.rule.proofs.Bounds.{Calls}
 use Rattle.join.specs.Joining.{joinRefused, keyCount, joining}
 use Rattle.join.specs.Trees.{Plan, books, result, Room, OneMonth, Covers}
 use Rattle.join.proofs.Trees.{book-sound, book-refused}
-use Rattle.join.proofs.Orders.{too-many}
+use Rattle.join.proofs.Orders.{too-many, never-through}
 use Rattle.worked.specs.Crowded.{january, gone, numbered, manyCalls, lastCall, full, oneMore, crowd, output, two, three}
 
 -- Calls numbered in turn
@@ -117,6 +117,10 @@ keys-513 =
 -- every tree of joins over the two books, given room, stops in refusal 8
 pub every-tree-stops : (p : Plan) → Covers p crowd → Room p → result p .number ≡ 8
 every-tree-stops p covers room = too-many january crowd one-month p covers room (omega (arith, keys-513))
+
+-- and without room none gets through either
+pub no-tree-through : (p : Plan) → Covers p crowd → (result p .number ≡ 8) ⊎ (result p .number ≡ 9)
+no-tree-through p covers = never-through january crowd one-month p covers (omega (arith, keys-513))
 
 -- Two trees, with room
 

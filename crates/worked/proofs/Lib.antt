@@ -1,2 +1,4 @@
+pub mod Written
 pub mod Table
 pub mod Crowded
+pub mod Every

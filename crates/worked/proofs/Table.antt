@@ -1,10 +1,14 @@
 -- Every sum that the paper works through and marks is what the definitions of scoring and joining give. Assumes nothing.
 use mathlib.Core.Path.{_≡_, refl}
-use mathlib.Core.Bool.{true}
+use mathlib.Core.Bool.{true, _&&_}
+use mathlib.Core.List.{List, [], _∷_}
 use lib.ListN.{length}
+use Rattle.le.proofs.Tests.{each}
+use Rattle.units.specs.Month.{isLeap, daysOf, minutesOf, quartersOf}
 use Rattle.units.specs.Money.{grainsToFen}
+use Rattle.call.specs.Limits.{table, limitsOf, limitsAllow, callIsSound}
 use Rattle.pay.specs.Sum.{total, totalZ}
-use Rattle.pay.specs.Member.{isByRate}
+use Rattle.pay.specs.Member.{memberIsSound, isByRate}
 use Rattle.pay.specs.Window.{lacking, deepPeakMinute, coalBand, coalMinute, reserveMinute, minutePay, quarterPay, quarterAt, windowPay}
 use Rattle.pay.specs.Rate.{startStopRate, blackStartRate, eventBand, eventRate, rateOf, ratedPay}
 use Rattle.pay.specs.Event.{eventWh, clamp, energyPay}
@@ -17,11 +21,14 @@ use Rattle.rule.specs.Standing.{sameCall, decide, given, standing}
 use Rattle.rule.specs.Keys.{recordOf, also, put, putAll, differentKeys, recordsAt}
 use Rattle.rule.specs.Joined.{joinedAt, joinedFor, joinCalls}
 use Rattle.rule.specs.Whole.{recordsOf, those, all, highest, withdrawnAt, ruling, ruleFor, ruleOver, ruleCalls}
-use Rattle.worked.specs.Worked.{sums, gives, sameCalls, rowCallAt, joinInTurn, holds, every}
+use Rattle.worked.specs.Worked.{Sum, Scoring, Joining, OverBytes, pays, sums}
+use Rattle.worked.specs.Worked.{wholeMonth, sameScore, sameCalls, rowCallAt, joinInTurn, outputsAreSound, callsAreSound, rowIsSound, rowScore, holds, every}
+use Rattle.worked.proofs.Written.{row-over-bytes}
 
 pub all-starred : every sums ≡ true
 unfolding
-    every holds gives sameCalls rowCallAt joinInTurn
+    every holds sameScore sameCalls rowCallAt joinInTurn wholeMonth outputsAreSound callsAreSound rowIsSound rowScore
+    isLeap daysOf minutesOf quartersOf table limitsOf limitsAllow callIsSound memberIsSound
     grainsToFen total totalZ isByRate lacking deepPeakMinute coalBand coalMinute reserveMinute minutePay quarterPay quarterAt windowPay
     startStopRate blackStartRate eventBand eventRate rateOf ratedPay eventWh clamp energyPay isZero reserveOpen eventOpen openTo livePay liveWh
     firstNonzero anyBelow overlaps isOnce clashes clashAt numberOf refusalAt isOwnLive payOf whOf payAt whAt monthGrains firstRefused recordsEarned inFen
@@ -31,3 +38,17 @@ all-starred = refl
 
 pub sixteen : length sums ≡ 16
 sixteen = refl
+
+-- A row's test gives its sum over bytes
+
+rows-written : (xs : List Sum) → every xs ≡ true → OverBytes xs
+unfolding every holds
+rows-written [] h = tt
+rows-written (Scoring m output calls grains fen ∷ xs) h =
+    let t = each (rowIsSound m (output ∷ []) calls && sameScore (rowScore m (output ∷ []) calls) (pays grains fen)) (every xs ∷ []) h in
+    let u = each (rowIsSound m (output ∷ []) calls) (sameScore (rowScore m (output ∷ []) calls) (pays grains fen) ∷ []) (t .0) in
+    (row-over-bytes m (output ∷ []) calls (pays grains fen) (u .0) (u .1 .0), rows-written xs (t .1 .0))
+rows-written (Joining books calls ∷ xs) h = rows-written xs (each (holds (Joining books calls)) (every xs ∷ []) h .1 .0)
+
+pub starred-over-bytes : OverBytes sums
+starred-over-bytes = rows-written sums all-starred

@@ -1,2 +1,3 @@
-pub mod Worked
 pub mod Crowded
+pub mod Worked
+pub mod Every

@@ -1,20 +1,28 @@
 -- The sums that the paper works through and marks, as one table. Assumes nothing.
+use mathlib.Core.Path.{_≡_}
 use mathlib.Core.Bool.{Bool, true, false, _&&_}
-use mathlib.Core.List.{List, [], _∷_}
-use Prim.Native.Nat.{ℕ}
-use lib.Dec.{eqb}
+use mathlib.Core.List.{List, [], _∷_, _++_}
+use Prim.Native.Nat.{ℕ, suc, _-_}
+use lib.Dec.{eqb, ltb, leb}
 use lib.IntN.{ℤ, pos, negsuc}
-use lib.ListN.{getD, length}
+use lib.ListN.{getD, length, replicate}
+use Rattle.units.specs.Month.{minutesOf, quartersOf}
 use Rattle.call.specs.declared.Call.{Call}
+use Rattle.call.specs.Key.{callKey}
+use Rattle.call.specs.Limits.{callIsSound}
 use Rattle.call.specs.Revising.{live, callWithdrawn, callContested}
 use Rattle.call.specs.Services.{deepPeak, reserve, startStop, blackStart, frequencyEvent}
+use Rattle.book.specs.Book.{version, mostRecords, bookBytes}
 use Rattle.pay.specs.declared.Member.{Member}
 use Rattle.pay.specs.declared.open.Month.{Month}
+use Rattle.pay.specs.Member.{memberIsSound}
 use Rattle.score.specs.declared.answer.Score.{Score}
-use Rattle.score.specs.Scoring.{recordsEarned, inFen}
+use Rattle.score.specs.Series.{mostOutput}
+use Rattle.score.specs.Scoring.{recordsEarned, inFen, scoring}
 use Rattle.rule.specs.Standing.{sameCall}
 use Rattle.rule.specs.Joined.{joinCalls}
 use Rattle.rule.specs.Whole.{ruleCalls}
+use Rattle.worked.specs.Crowded.{january}
 
 -- a member, its mean output in the month's first quarter hour, its calls, and the grains and fen that they give;
 -- or books to be joined, and the records of the book that they give
@@ -25,6 +33,10 @@ pub data Sum : Type 0 where
 -- the month of the sums
 abbrev pub sumsMonth : Month
 sumsMonth = record { year = 2026; month = 1 }
+
+-- its series: these outputs first, and none in the quarter hours after them
+unfoldable pub wholeMonth : List ℕ → List ℕ
+wholeMonth outputs = outputs ++ replicate (quartersOf (sumsMonth .year) (sumsMonth .month) - length outputs) 0
 
 -- a row's member is member 1, by kind and rated kW
 abbrev pub rowMember : ℕ → ℕ → Member
@@ -114,9 +126,12 @@ sums =
     ∷ Joining (alone (rowLiveAt 3 300) ∷ alone (rowLiveAt 3 240) ∷ alone (rowLiveAt 4 180) ∷ []) (alone (rowLiveAt 4 180))
     ∷ []
 
--- a score is accepted, with these grains and fen
-unfoldable pub gives : Score → ℕ → ℕ → Bool
-gives s grains fen = eqb (s .number) 0 && eqb (s .place) 0 && eqb (s .grains .0) grains && eqb (s .fen .0) fen
+-- accepted, with these grains and fen
+abbrev pub pays : ℕ → ℕ → Score
+pays grains fen = record { number = 0; place = 0; grains = record { 0 = grains }; fen = record { 0 = fen } }
+
+unfoldable pub sameScore : Score → Score → Bool
+sameScore r s = eqb (r .number) (s .number) && eqb (r .place) (s .place) && eqb (r .grains .0) (s .grains .0) && eqb (r .fen .0) (s .fen .0)
 
 -- the same calls, in the same order
 unfoldable pub sameCalls : List Call → List Call → Bool
@@ -134,11 +149,49 @@ unfoldable pub joinInTurn : List Call → List (List Call) → List Call
 joinInTurn done [] = done
 joinInTurn done (b ∷ bs) = joinInTurn (joinCalls done b) bs
 
--- a member's score is as said; books joined by the rule over the whole list, and in turn, give the calls said
+-- outputs within the limit
+unfoldable pub outputsAreSound : List ℕ → Bool
+outputsAreSound [] = true
+outputsAreSound (p ∷ ps) = leb p mostOutput && outputsAreSound ps
+
+-- calls that a book of the month may have: sound, numbers of 32 bits, keys rising, the first being `low` or above
+unfoldable pub callsAreSound : ℕ → List Call → Bool
+callsAreSound low [] = true
+callsAreSound low (x ∷ xs) =
+    leb low (callKey x)
+    && ltb (x .number) 4294967296
+    && ltb (x .revision) 4294967296
+    && callIsSound (minutesOf (sumsMonth .year) (sumsMonth .month)) x
+    && callsAreSound (suc (callKey x)) xs
+
+-- a row's register line, outputs and calls are within the paper's limits
+unfoldable pub rowIsSound : Member → List ℕ → List Call → Bool
+rowIsSound m outputs calls =
+    memberIsSound m
+    && leb (length outputs) (quartersOf (sumsMonth .year) (sumsMonth .month))
+    && outputsAreSound outputs
+    && leb (length calls) (mostRecords version)
+    && callsAreSound 0 calls
+
+-- the member's score by the records in turn
+unfoldable pub rowScore : Member → List ℕ → List Call → Score
+rowScore m outputs calls = inFen (recordsEarned sumsMonth m (wholeMonth outputs) (rowCallAt calls) (length calls))
+
+-- the row is sound, and the member's score is as said; books joined by the rule over the whole list, and in turn, give the calls said
 unfoldable pub holds : Sum → Bool
-holds (Scoring m output calls grains fen) = gives (inFen (recordsEarned sumsMonth m (output ∷ []) (rowCallAt calls) (length calls))) grains fen
+holds (Scoring m output calls grains fen) = rowIsSound m (output ∷ []) calls && sameScore (rowScore m (output ∷ []) calls) (pays grains fen)
 holds (Joining books calls) = sameCalls (ruleCalls books) calls && sameCalls (joinInTurn [] books) calls
 
 unfoldable pub every : List Sum → Bool
 every [] = true
 every (x ∷ xs) = holds x && every xs
+
+-- the book of the month with a row's calls
+unfoldable pub rowBook : List Call → List ℕ
+rowBook calls = bookBytes version january calls
+
+-- each sum of a member is what scoring gives of that book's bytes and the whole month's series
+abbrev pub OverBytes : List Sum → Type 0
+OverBytes [] = Unit {0}
+OverBytes (Scoring m output calls grains fen ∷ xs) = (scoring m (rowBook calls) (wholeMonth (output ∷ [])) ≡ pays grains fen) × OverBytes xs
+OverBytes (Joining books calls ∷ xs) = OverBytes xs

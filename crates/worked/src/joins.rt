@@ -2,6 +2,7 @@
 use crate::scores::january;
 use crate::tell;
 use book::call_of;
+use book::header_of;
 use book::write::write_one;
 use call::Call;
 use call::LIVE;
@@ -30,29 +31,46 @@ fn joined(before: &[u8], x: Call, out: &mut [u8]) {
     join::join(before, &b, out);
 }
 
-fn two(x: Call, y: Call) -> Call {
+// The only call of a book of one.
+fn tell_only(name: &[u8], book: &[u8]) {
+    let o = header_of(book);
+    if o.number != 0 {
+        return;
+    }
+    if 0 < o.calls {
+        tell::record(name, call_of(book, 0));
+    }
+}
+
+fn two(name: &[u8], x: Call, y: Call) {
     let mut first = [0u8; 48];
     let mut out = [0u8; 48];
     write_one(january(), x, &mut first);
     joined(&first, y, &mut out);
-    call_of(&out, 0)
+    tell_only(name, &out);
 }
 
-fn three(x: Call, y: Call, z: Call) -> Call {
+fn three(name: &[u8], x: Call, y: Call, z: Call) {
     let mut first = [0u8; 48];
     let mut second = [0u8; 48];
     let mut out = [0u8; 48];
     write_one(january(), x, &mut first);
     joined(&first, y, &mut second);
     joined(&second, z, &mut out);
-    call_of(&out, 0)
+    tell_only(name, &out);
 }
 
 pub fn all() {
-    let kept = two(live(2, 300).withdrawn(), live(7, 300));
-    tell::record(b"withdrawn at 2 and live at 7", kept);
-    let struck = two(live(3, 300), live(3, 240));
-    tell::record(b"two unequal live at 3", struck);
-    let later = three(live(3, 300), live(3, 240), live(4, 180));
-    tell::record(b"those two and a live at 4", later);
+    two(
+        b"withdrawn at 2 and live at 7",
+        live(2, 300).withdrawn(),
+        live(7, 300),
+    );
+    two(b"two unequal live at 3", live(3, 300), live(3, 240));
+    three(
+        b"those two and a live at 4",
+        live(3, 300),
+        live(3, 240),
+        live(4, 180),
+    );
 }

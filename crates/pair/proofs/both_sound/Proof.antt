@@ -2,7 +2,8 @@ use mathlib.Core.Path.{_≡_, sym, _∙_, ap}
 use native.Mathlib.Omega.{arith}
 use Rattle.book.specs.declared.Verdict.{Verdict}
 use Rattle.pair.specs.Screening.{IsAccepted}
-use Rattle.pair.proofs.Screening.{check-most, zero-accepted, both-first, both-second, both-pass}
+use Rattle.book.proofs.Judged.{check-most, zero-accepted}
+use Rattle.pair.proofs.Screening.{both-first, both-second, both-pass}
 use borrow.Author.Needs.{needs}
 use Rattle.pair.proofs.both_sound.Statement.{statement}
 use Rattle.pair.proofs.both_sound.Tie as tie

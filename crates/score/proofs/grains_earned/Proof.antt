@@ -5,7 +5,7 @@ use Rattle.book.specs.declared.Verdict.{Verdict}
 use Rattle.book.specs.Check.{check}
 use Rattle.pay.specs.Member.{memberIsSound}
 use Rattle.score.proofs.Turns.{earned-10, earned-book, earned-sound}
-use Rattle.score.proofs.Checked.{zero-accepted}
+use Rattle.book.proofs.Judged.{zero-accepted}
 use borrow.Author.Needs.{needs}
 use Rattle.score.proofs.grains_earned.Statement.{statement}
 use Rattle.score.proofs.grains_earned.Tie as tie

@@ -4,14 +4,17 @@ use borrow.Author.Needs.{needs}
 use Rattle.lines.proofs.Taken.shared.Statement.{statement}
 use Rattle.lines.proofs.Taken.shared.Tie as tie
 
-share-requires : tie.Need-share-requires
-share-requires c κs = search needs
+share-front-requires : tie.Need-share-front-requires
+share-front-requires c κs = search needs
 
 returns : tie.Need-returns
-returns c = c .share .ensures ∙ shared-yes (c .before .before .before .before .args .self) (c .before .if1 .taken)
+returns c = c .share-front .ensures ∙ shared-yes (c .before .before .before .before .args .self) (c .before .if1 .taken)
+
+nothing-shared-requires : tie.Need-nothing-shared-requires
+nothing-shared-requires c κs = search needs
 
 returns-2 : tie.Need-returns-2
-returns-2 c = shared-no (c .before .before .before .args .self) (c .if1 .left)
+returns-2 c = c .nothing-shared .ensures ∙ shared-no (c .before .before .before .before .args .self) (c .before .if1 .left)
 
 pub shared-spec : {M : Type 1} → statement M
-shared-spec = tie.close (tie.spec share-requires returns returns-2)
+shared-spec = tie.close (tie.spec share-front-requires returns nothing-shared-requires returns-2)

@@ -1,8 +1,8 @@
 use Rattle.text.specs.Texts.{refusalText}
 use Rattle.text.proofs.Placed.{and-then}
 use borrow.Author.Needs.{needs}
-use Rattle.text.proofs.sharing.put_refusal.Statement.{statement}
-use Rattle.text.proofs.sharing.put_refusal.Tie as tie
+use Rattle.text.proofs.put.put_refusal.Statement.{statement}
+use Rattle.text.proofs.put.put_refusal.Tie as tie
 
 slice-aggregate-put-field : tie.Need-slice-aggregate-put-field
 slice-aggregate-put-field c = search needs

@@ -1,13 +1,13 @@
 use Prim.Native.Nat.{_≤_, _-_}
 use borrow.Author.Needs.{needs}
-use Rattle.edges.proofs.texts.same.Statement.{statement}
-use Rattle.edges.proofs.texts.same.Tie as tie
+use Rattle.edges.proofs.texts.same_lines.Statement.{statement}
+use Rattle.edges.proofs.texts.same_lines.Tie as tie
 
 abbrev Inv-loop : tie.InvT-loop
-Inv-loop all₀ a b i₀ all i = i ≤ 64
+Inv-loop x y all₀ i₀ all i = i ≤ 64
 
 abbrev μ-loop : tie.MeasureT-loop
-μ-loop all₀ a b i₀ all i = 64 - i
+μ-loop x y all₀ i₀ all i = 64 - i
 
 loop-holds : tie.Need-loop-holds Inv-loop μ-loop
 loop-holds c = search needs
@@ -27,7 +27,7 @@ loop-again c = search needs
 returns : tie.Need-returns Inv-loop μ-loop
 returns c = search needs
 
-pub same-spec : {M : Type 1} → statement M
-same-spec =
+pub same-lines-spec : {M : Type 1} → statement M
+same-lines-spec =
     tie.close
     (tie.spec Inv-loop μ-loop loop-holds same-at-requires add-i loop-less loop-again returns)

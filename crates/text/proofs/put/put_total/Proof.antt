@@ -1,8 +1,8 @@
 use Rattle.text.specs.Texts.{totalText}
 use Rattle.text.proofs.Placed.{and-then}
 use borrow.Author.Needs.{needs}
-use Rattle.text.proofs.sharing.put_total.Statement.{statement}
-use Rattle.text.proofs.sharing.put_total.Tie as tie
+use Rattle.text.proofs.put.put_total.Statement.{statement}
+use Rattle.text.proofs.put.put_total.Tie as tie
 
 slice-aggregate-put-money : tie.Need-slice-aggregate-put-money
 slice-aggregate-put-money c = search needs

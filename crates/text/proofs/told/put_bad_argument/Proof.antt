@@ -1,0 +1,49 @@
+use Rattle.text.specs.Texts.{badArgumentText}
+use Rattle.text.proofs.Placed.{and-then, looser}
+use native.Mathlib.Omega.{arith}
+use borrow.Author.Needs.{needs}
+use Rattle.text.proofs.told.put_bad_argument.Statement.{statement}
+use Rattle.text.proofs.told.put_bad_argument.Tie as tie
+
+put-argument-requires : tie.Need-put-argument-requires
+put-argument-requires c κs = search needs
+
+slice-aggregate-put-word : tie.Need-slice-aggregate-put-word
+slice-aggregate-put-word c = search needs
+
+put-word-requires : tie.Need-put-word-requires
+put-word-requires c κs = search needs
+
+put-word-requires-2 : tie.Need-put-word-requires-2
+put-word-requires-2 c κs = search needs
+
+slice-aggregate-put-word-2 : tie.Need-slice-aggregate-put-word-2
+slice-aggregate-put-word-2 c = search needs
+
+put-word-requires-3 : tie.Need-put-word-requires-3
+put-word-requires-3 c κs = search needs
+
+same-length : tie.Need-same-length
+same-length c = search needs
+
+returns : tie.Need-returns
+unfolding badArgumentText
+returns c =
+    let p = c .before .before .before .before .before .before .before .before .before .before .before .before .before .before .before .before .put-argument .ensures in
+    let q = c .before .before .before .before .before .before .before .before .before .before .before .put-word .ensures in
+    let r = c .before .before .before .before .before .before .before .put-word2 .ensures in
+    let s = c .before .before .put-word3 .ensures in
+    looser _ (omega arith) (and-then (and-then (and-then p q) r) s)
+
+pub put-bad-argument-spec : {M : Type 1} → statement M
+put-bad-argument-spec =
+    tie.close
+    (tie.spec
+    put-argument-requires
+    slice-aggregate-put-word
+    put-word-requires
+    put-word-requires-2
+    slice-aggregate-put-word-2
+    put-word-requires-3
+    same-length
+    returns)

@@ -1,0 +1,34 @@
+use native.Mathlib.Omega.{arith}
+use Rattle.text.specs.Room.{mostUsage}
+use Rattle.text.proofs.Placed.{no-room, rendered}
+use borrow.Author.Needs.{needs}
+use Rattle.text.proofs.told.usage_text.Statement.{statement}
+use Rattle.text.proofs.told.usage_text.Tie as tie
+
+returns : tie.Need-returns
+returns c =
+    let a = c .before .before .before .args in
+    no-room (mostUsage (a .line .now)) _ (a .out .now) (omega arith)
+
+sub-if2 : tie.Need-sub-if2
+sub-if2 c = search needs
+
+returns-2 : tie.Need-returns-2
+returns-2 c =
+    let a = c .before .before .before .before .args in
+    no-room (mostUsage (a .line .now)) _ (a .out .now) (omega arith)
+
+put-usage-requires : tie.Need-put-usage-requires
+put-usage-requires c κs = search needs
+
+same-length : tie.Need-same-length
+same-length c = search needs
+
+returns-3 : tie.Need-returns-3
+returns-3 c =
+    let a = c .before .before .before .before .before .before .before .before .args in
+    rendered (mostUsage (a .line .now)) (omega arith) (c .before .before .put-usage .ensures)
+
+pub usage-text-spec : {M : Type 1} → statement M
+usage-text-spec =
+    tie.close (tie.spec returns sub-if2 returns-2 put-usage-requires same-length returns-3)
