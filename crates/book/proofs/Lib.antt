@@ -10,3 +10,4 @@ pub mod Numbers
 pub mod Writing
 pub mod Determined
 pub mod Example
+pub mod Without

@@ -4,3 +4,4 @@ pub mod Sound
 pub mod Refusals
 pub mod Write
 pub mod Inner
+pub mod Without

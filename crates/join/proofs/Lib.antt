@@ -10,3 +10,7 @@ pub mod Entering
 pub mod Determined
 pub mod Exact
 pub mod Story
+pub mod Without
+pub mod WithoutStory
+pub mod Nothing
+pub mod NothingStory

@@ -70,7 +70,7 @@ module _ (h : Header) (bs : List (List ℕ)) (month : OneMonth h bs) (p : Plan) 
       any-order = (given-book .0, given-book .1, given-book .2 ∙ ap (bookBytes version h) (whole-list.any-order (headerMinutes h) (treeOf p) (map callsOf bs) over sounds))
 
       -- the calls of the result
-      calls : callsOf (written (result p)) ≡ treeJoined (treeOf p)
+      pub calls : callsOf (written (result p)) ≡ treeJoined (treeOf p)
       calls =
           ap callsOf (given-book .2)
           ∙ reads-back h (treeJoined (treeOf p)) (heading h p of-leaves) (omega (arith, count)) (tree-calls h p of-leaves .within) .1

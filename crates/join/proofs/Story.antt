@@ -91,7 +91,7 @@ head-office = one withdrawal
 unfoldable pub spare : List ℕ
 spare = one early
 
-pub three : List (List ℕ)
+unfoldable pub three : List (List ℕ)
 three = plant ∷ head-office ∷ spare ∷ []
 
 -- what holds of each of the three
@@ -101,7 +101,7 @@ each P x y z b i =
     ⊎-elim (λ (e : b ≡ plant). rw e x)
     (λ j. ⊎-elim (λ (e : b ≡ head-office). rw e y) (λ k. ⊎-elim (λ (e : b ≡ spare). rw e z) (λ l. absurd (in-nil l)) (in-cons k)) (in-cons j)) (in-cons i)
 
-one-month : OneMonth march three
+pub one-month : OneMonth march three
 unfolding plant head-office spare
 one-month =
     record {
@@ -122,9 +122,9 @@ count-three : (x y z : List ℕ) (c d f : Call) → callsOf x ≡ c ∷ [] → c
 unfolding keyCount
 count-three x y z c d f e g h = rw (e, g, h) refl
 
-office-head-office : keyCount (plant ∷ head-office ∷ []) ≡ 1
+pub plant-and-office : keyCount (plant ∷ head-office ∷ []) ≡ 1
 unfolding plant head-office entered withdrawal stop differentKeys putAll put
-office-head-office = count-two plant head-office entered withdrawal (one-reads entered entered-within .1) (one-reads withdrawal withdrawal-within .1)
+plant-and-office = count-two plant head-office entered withdrawal (one-reads entered entered-within .1) (one-reads withdrawal withdrawal-within .1)
 
 head-office-spare : keyCount (head-office ∷ spare ∷ []) ≡ 1
 unfolding head-office spare early withdrawal stop differentKeys putAll put
@@ -145,29 +145,29 @@ unfolding output
 output-long = refl
 
 -- (plant and head office) and spare; plant and (head office and spare)
-pub left : Plan
+unfoldable pub left : Plan
 left = join (join (book plant) (book head-office) output) (book spare) output
 
-pub right : Plan
+unfoldable pub right : Plan
 right = join (book plant) (join (book head-office) (book spare) output) output
 
-left-room : Room left
+pub left-room : Room left
 unfolding left books
-left-room = ((tt, tt, λ f. omega (arith, office-head-office, output-long)), tt, λ f. omega (arith, all-three, output-long))
+left-room = ((tt, tt, λ f. omega (arith, plant-and-office, output-long)), tt, λ f. omega (arith, all-three, output-long))
 
-right-room : Room right
+pub right-room : Room right
 unfolding right books
 right-room = (tt, (tt, tt, λ f. omega (arith, head-office-spare, output-long)), λ f. omega (arith, all-three, output-long))
 
-left-covers : Covers left three
+pub left-covers : Covers left three
 unfolding left books three
 left-covers = record { all = λ b i. i; only = λ b i. i }
 
-right-covers : Covers right three
+pub right-covers : Covers right three
 unfolding right books three
 right-covers = record { all = λ b i. i; only = λ b i. i }
 
-few : keyCount three ≤ mostRecords version
+pub few : keyCount three ≤ mostRecords version
 unfolding three
 few = omega (arith, all-three)
 
@@ -179,7 +179,7 @@ pub one-book : written (result left) ≡ written (result right)
 one-book = same-bytes march three one-month few left right left-covers right-covers left-room right-room
 
 -- and the stop is withdrawn in it
-withdrawn-there : In withdrawal (callsOf head-office)
+pub withdrawn-there : In withdrawal (callsOf head-office)
 unfolding head-office
 withdrawn-there = rw (one-reads withdrawal withdrawal-within .1) (here refl)
 

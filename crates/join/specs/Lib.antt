@@ -3,3 +3,5 @@ pub mod Verdict
 pub mod Steps
 pub mod Trees
 pub mod Changing
+pub mod Without
+pub mod Nothing

@@ -9,12 +9,12 @@ use native.Mathlib.Omega.{arith}
 use lib.Dec.{T, lit<, eqb, ltb, leb}
 use lib.Signed.{leZ}
 use lib.ListN.{getD, length}
-use borrow.Author.Tests.{leb-true, ltb-true}
+use borrow.Author.Tests.{leb-true, ltb-true, eqb-true}
 use Rattle.le.proofs.Tests.{Hold, each}
 use Rattle.call.specs.declared.Call.{Call}
 use Rattle.call.specs.declared.service.Limits.{Limits}
 use Rattle.call.specs.Limits.{table, limitsOf, limitsAllow, callIsSound}
-use Rattle.call.specs.Services.{deepPeak, reserve, startStop, standby, blackStart, agcAvailability, agcContribution, frequencyEvent, avc, stabilityTrip}
+use Rattle.call.specs.Services.{deepPeak, reserve, startStop, standby, blackStart, agcAvailability, agcContribution, frequencyEvent, avc, stabilityTrip, mostMoved}
 use Rattle.pay.specs.declared.Member.{Member}
 use Rattle.pay.specs.Kinds.{coal, gas, hydro, wind, photovoltaic, solarThermal, pumpedStorage, newStorage}
 use Rattle.pay.specs.Member.{mostRated, isByRate, hasAvailability}
@@ -22,7 +22,8 @@ use Rattle.pay.specs.Sum.{total}
 use Rattle.pay.specs.Window.{lacking, deepPeakMinute, coalBand, coalMinute, gasHydroMinute, reserveMinute, minutePay, quarterPay, quarterAt, windowPay}
 use Rattle.pay.specs.Rate.{percentsAbove, startStopRate, standbyRate, blackStartRate, availabilityRate, contributionRate, eventBand, eventRate, avcRate, rateOf}
 use Rattle.pay.specs.Rate.{ratedPay}
-use Rattle.pay.specs.Event.{clamp}
+use Rattle.pay.specs.Event.{clamp, calledUp}
+use Rattle.pay.specs.Live.{livePay}
 use Rattle.pay.specs.Inner.{mostPay}
 use Rattle.pay.proofs.Sums.{total-most}
 use Rattle.pay.proofs.Signed.{clamp-top}
@@ -187,3 +188,20 @@ module _ (minutes : ℕ) (x : Call) (h : callIsSound minutes x ≡ true) where
   pub called-most : x .service ≡ reserve → clamp (x .a) ≤ mostRated
   unfolding limitsOf table
   called-most e = clamp-top (x .a) mostRated (simp e at (held .1 .1 .1 .1 .1 .0))
+
+  -- an event moves up no more than the limit
+  pub moved-most : x .service ≡ frequencyEvent → clamp (x .a) ≤ mostMoved
+  unfolding limitsOf table
+  moved-most e = clamp-top (x .a) mostMoved (simp e at (held .1 .1 .1 .1 .1 .0))
+
+  -- no sound call pays more than the most
+  pub live-most : (m : Member) (series : List ℕ) → m .rated .0 ≤ mostRated → minutes ≤ 44640 → livePay m series x ≤ mostPay
+  unfolding livePay
+  live-most m series hn hm =
+      let l : x .length ≤ 44640 = omega (arith, ends-within) in
+      cond-most (eqb (x .service) deepPeak) (window-most m deepPeak 0 series (x .start) (x .length) hn (omega arith) l) (go (eqb (x .service) reserve) refl l)
+    where
+      go : (t : Bool) → eqb (x .service) reserve ≡ t → x .length ≤ 44640
+          → cond t (windowPay m reserve (calledUp (x .a)) series (x .start) (x .length)) (ratedPay m x) ≤ mostPay
+      go true e l = window-most m reserve (clamp (x .a)) series (x .start) (x .length) hn (called-most (eqb-true _ _ e)) l
+      go false e l = rated-most m x hn l b-is-rate

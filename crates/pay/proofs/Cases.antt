@@ -13,11 +13,11 @@ use Rattle.call.specs.Services.{deepPeak, reserve, frequencyEvent}
 use Rattle.pay.specs.declared.Member.{Member}
 use Rattle.pay.specs.declared.open.Month.{Month}
 use Rattle.pay.specs.Member.{isByRate}
-use Rattle.pay.specs.Window.{windowPay}
+use Rattle.pay.specs.Window.{windowPay, windowQuarters}
 use Rattle.pay.specs.Rate.{eventRate, rateOf, ratedPay}
 use Rattle.pay.specs.Event.{eventWh, clamp}
 use Rattle.pay.specs.Open.{eventOpen, openTo}
-use Rattle.pay.specs.Live.{livePay, liveWh}
+use Rattle.pay.specs.Live.{livePay, quartersPaid, liveWh}
 use Rattle.pay.specs.Inner.{isByEnergy}
 
 module _ (m : Member) (series : List ℕ) (x : Call) where
@@ -32,6 +32,18 @@ module _ (m : Member) (series : List ℕ) (x : Call) where
   pub live-rest : (x .service ≡ deepPeak → ⊥) → (x .service ≡ reserve → ⊥) → livePay m series x ≡ ratedPay m x
   unfolding livePay
   live-rest p q = simp (ne-eqb _ _ p, ne-eqb _ _ q)
+
+  pub quarters-1 : x .service ≡ deepPeak → quartersPaid m series x ≡ windowQuarters m deepPeak 0 series (x .start) (x .length)
+  unfolding quartersPaid
+  quarters-1 e = simp e
+
+  pub quarters-2 : x .service ≡ reserve → quartersPaid m series x ≡ windowQuarters m reserve (clamp (x .a)) series (x .start) (x .length)
+  unfolding quartersPaid
+  quarters-2 e = simp e
+
+  pub quarters-rest : (x .service ≡ deepPeak → ⊥) → (x .service ≡ reserve → ⊥) → quartersPaid m series x ≡ 0
+  unfolding quartersPaid
+  quarters-rest p q = simp (ne-eqb _ _ p, ne-eqb _ _ q)
 
 -- An event that gives energy
 module _ (m : Member) (x : Call) (h : isByEnergy (m .kind) x ≡ true) where

@@ -12,9 +12,9 @@ use Rattle.call.specs.Services.{deepPeak, reserve}
 use Rattle.pay.specs.declared.Member.{Member}
 use Rattle.pay.specs.Kinds.{coal, gas, hydro}
 use Rattle.pay.specs.Sum.{total}
-use Rattle.pay.specs.Window.{lacking, deepPeakMinute, coalBand, coalMinute, gasHydroMinute, reserveMinute, minutePay, quarterPay, quarterAt, windowPay}
+use Rattle.pay.specs.Window.{lacking, deepPeakMinute, coalBand, coalMinute, gasHydroMinute, reserveMinute, minutePay, quarterPay, quarterAt, windowPay, quarterCounts}
 use Rattle.pay.specs.Inner.{lackingAt, coalAt}
-use Rattle.pay.proofs.Sums.{total-most, total-same, total-zero}
+use Rattle.pay.proofs.Sums.{total-one, total-most, total-same, total-zero}
 use Rattle.pay.proofs.Bounds.{cond-most, lacking-most, band-most}
 
 -- A minute
@@ -89,3 +89,21 @@ module _ (m : Member) (a : ℕ) (series : List ℕ) (start n : ℕ) where
   unfolding windowPay quarterAt quarterPay
   none-window service h =
       total-same (quarterAt m service a series) (λ i. 0) (start / 15) (n / 15) (λ i l. rw (h (getD series (start / 15 + i) 0)) refl) ∙ total-zero (start / 15) (n / 15)
+
+-- A quarter hour that counts
+
+module _ (m : Member) (service a : ℕ) (series : List ℕ) where
+  -- a window of one quarter hour
+  pub one-quarter : (i n : ℕ) → n ≡ i * 15 → windowPay m service a series n 15 ≡ quarterAt m service a series i
+  unfolding windowPay
+  one-quarter i n e =
+      let d : n / 15 ≡ i = omega arith in
+      rw d (total-one (quarterAt m service a series) i)
+
+  pub counts : (i : ℕ) → 0 < quarterAt m service a series i → quarterCounts m service a series i ≡ 1
+  unfolding quarterCounts
+  counts i h = simp (lt-ltb 0 (quarterAt m service a series i) h)
+
+  pub counts-not : (i : ℕ) → quarterAt m service a series i ≤ 0 → quarterCounts m service a series i ≡ 0
+  unfolding quarterCounts
+  counts-not i h = simp (le-ltb 0 (quarterAt m service a series i) h)

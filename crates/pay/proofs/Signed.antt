@@ -71,6 +71,35 @@ unfolding clamp
 clamp-top (pos n) k h = leb-true n k h
 clamp-top (negsuc n) k h = omega arith
 
+-- what counts of an event is no more than what was moved up
+pub event-clamp : (a : ℤ) (b c k : ℕ) → clamp a ≤ k → clamp (eventWh a b c) ≤ k
+unfolding eventWh clamp
+event-clamp a b c k p = go (eqb c 1) a p
+  where
+    below : (n : ℕ) (t : Bool) → ltb n b ≡ t → n ≤ k → clamp (cond t (pos n) (pos b)) ≤ k
+    below n true e p = p
+    below n false e p = omega (arith, ltb-false n b e)
+
+    go : (t : Bool) (a : ℤ) → clamp a ≤ k → clamp (cond t (pos 0) (cond (ltZ a (pos b)) a (pos b))) ≤ k
+    go true a p = omega arith
+    go false (pos n) p = below n (ltb n b) refl p
+    go false (negsuc n) p = omega arith
+
+clamp-sub : (a b : ℕ) → clamp (subℕ a b) ≤ a
+unfolding clamp
+clamp-sub a b = go (ltb a b)
+  where
+    go : (t : Bool) → clamp (cond t (negsuc (b - suc a)) (pos (a - b))) ≤ a
+    go true = omega arith
+    go false = omega arith
+
+pub clamp-plus : (x y : ℤ) → clamp (x +ℤ y) ≤ clamp x + clamp y
+unfolding clamp
+clamp-plus (pos a) (pos b) = omega arith
+clamp-plus (pos a) (negsuc b) = omega (arith, clamp-sub a (suc b))
+clamp-plus (negsuc a) (pos b) = omega (arith, clamp-sub b (suc a))
+clamp-plus (negsuc a) (negsuc b) = omega arith
+
 -- the machine's reading of a number that fits is the number, of 32 bits, of 64, and widened
 pub back32 : (z : ℤ) → mag z < 2 ^ 31 → toZ w32 (ofZ w32 z) ≡ z
 back32 z h = toZ-ofZ w32 z (record { sfits = h })

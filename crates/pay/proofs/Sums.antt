@@ -18,6 +18,10 @@ pub total-suc : (f : ℕ → ℕ) (s n : ℕ) → total f s (suc n) ≡ total f 
 unfolding total
 total-suc f s n = refl
 
+pub total-one : (f : ℕ → ℕ) (s : ℕ) → total f s 1 ≡ f s
+unfolding total
+total-one f s = simp (zero-add, add-zero)
+
 pub total0-suc : (f : ℕ → ℕ) (n : ℕ) → total f 0 (suc n) ≡ total f 0 n + f n
 unfolding total
 total0-suc f n = simp zero-add

@@ -1,4 +1,4 @@
--- A live call: its grains, and the energy of its event. Assumes nothing.
+-- A live call: its grains, the quarter hours that pay, and the energy of its event. Assumes nothing.
 use mathlib.Core.Bool.{cond}
 use mathlib.Core.List.{List}
 use Prim.Native.Nat.{ℕ}
@@ -8,7 +8,7 @@ use Rattle.call.specs.declared.Call.{Call}
 use Rattle.call.specs.Services.{deepPeak, reserve, frequencyEvent}
 use Rattle.pay.specs.declared.Member.{Member}
 use Rattle.pay.specs.Member.{isByRate}
-use Rattle.pay.specs.Window.{windowPay}
+use Rattle.pay.specs.Window.{windowPay, windowQuarters}
 use Rattle.pay.specs.Rate.{ratedPay}
 use Rattle.pay.specs.Event.{eventWh, calledUp}
 
@@ -18,6 +18,13 @@ livePay m series x =
     cond (eqb (x .service) deepPeak) (windowPay m deepPeak 0 series (x .start) (x .length))
     (cond (eqb (x .service) reserve) (windowPay m reserve (calledUp (x .a)) series (x .start) (x .length))
     (ratedPay m x))
+
+-- quarter hours that pay something: of 1 and 2, the called power as above; the others have none
+unfoldable pub quartersPaid : Member → List ℕ → Call → ℕ
+quartersPaid m series x =
+    cond (eqb (x .service) deepPeak) (windowQuarters m deepPeak 0 series (x .start) (x .length))
+    (cond (eqb (x .service) reserve) (windowQuarters m reserve (calledUp (x .a)) series (x .start) (x .length))
+    0)
 
 -- energy: of an event of a kind that is not paid by rate; it is summed over the month, and paid then
 unfoldable pub liveWh : ℕ → Call → ℤ

@@ -58,3 +58,11 @@ quarterAt m service a series i = quarterPay m service a (getD series i 0)
 -- a window is the sum over its quarter hours
 unfoldable pub windowPay : Member → ℕ → ℕ → List ℕ → ℕ → ℕ → ℕ
 windowPay m service a series start minutes = total (quarterAt m service a series) (start / minutesPerQuarter) (minutes / minutesPerQuarter)
+
+-- 1 where quarter hour i pays something
+unfoldable pub quarterCounts : Member → ℕ → ℕ → List ℕ → ℕ → ℕ
+quarterCounts m service a series i = cond (ltb 0 (quarterAt m service a series i)) 1 0
+
+-- how many quarter hours of a window pay something
+unfoldable pub windowQuarters : Member → ℕ → ℕ → List ℕ → ℕ → ℕ → ℕ
+windowQuarters m service a series start minutes = total (quarterCounts m service a series) (start / minutesPerQuarter) (minutes / minutesPerQuarter)

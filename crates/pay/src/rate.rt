@@ -152,7 +152,7 @@ fn avc_rate(minutes: u16, b: u32, c: u32) -> PerKw
     PerKw(0)
 }
 
-fn rate_of(kind: u8, x: Call) -> PerKw
+pub fn rate_of(kind: u8, x: Call) -> PerKw
     ensures { λ r. ⌜ r .0 ≡ rateOf kind x ⌝ }
 {
     let service = x.service;

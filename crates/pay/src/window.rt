@@ -1,10 +1,10 @@
 // Services 1 and 2, deep peaking and reserve: a minute, a run of quarter hours, a window.
 ghost use mathlib.Core.Path.{_≡_};
-ghost use Prim.Native.Nat.{_+_, _*_, _/_, _≤_};
+ghost use Prim.Native.Nat.{_+_, _*_, _/_, _<_, _≤_};
 ghost use lib.ListN.{length};
 ghost use Rattle.pay.specs.Member.{mostRated};
 ghost use Rattle.pay.specs.Sum.{total};
-ghost use Rattle.pay.specs.Window.{lacking, coalBand, coalMinute, windowPay};
+ghost use Rattle.pay.specs.Window.{lacking, coalBand, coalMinute, windowPay, quarterCounts, windowQuarters};
 ghost use Rattle.pay.specs.Inner.{Run, lackingAt, coalAt};
 use crate::Member;
 use crate::kind::COAL;
@@ -158,4 +158,47 @@ pub fn window_pay(
         }
         _ => Grains(0),
     }
+}
+
+// 1 where quarter hour i pays something: a window of this one quarter hour does.
+fn quarter_counts(member: Member, service: u8, top: Kw, series: &[u32], i: usize) -> u32
+    requires { ⌜ member .rated .0 ≤ mostRated ⌝ }
+    requires { ⌜ top .0 ≤ mostRated ⌝ }
+    requires { ⌜ length (now series) ≤ 2976 ⌝ }
+    requires { ⌜ i < length (now series) ⌝ }
+    ensures { λ r. ⌜ (r ≡ quarterCounts member service (top .0) (now (series .entry)) i) × (r ≤ 1) ⌝ }
+{
+    let start = (i * 15) as u16;
+    let pay = window_pay(member, service, top, series, start, 15);
+    if 0 < pay.0 {
+        return 1;
+    }
+    0
+}
+
+// How many of the window's quarter hours pay something.
+pub fn window_quarters(
+    member: Member,
+    service: u8,
+    top: Kw,
+    series: &[u32],
+    start: u16,
+    minutes: u16,
+) -> u32
+    requires { ⌜ member .rated .0 ≤ mostRated ⌝ }
+    requires { ⌜ top .0 ≤ mostRated ⌝ }
+    requires { ⌜ length (now series) ≤ 2976 ⌝ }
+    requires { ⌜ start / 15 + minutes / 15 ≤ length (now series) ⌝ }
+    ensures { λ r. ⌜ r ≡ windowQuarters member service (top .0) (now (series .entry)) start minutes ⌝ }
+{
+    let from = (start / 15) as usize;
+    let count = (minutes / 15) as usize;
+    let mut sum: u32 = 0;
+    let mut k: usize = 0;
+    while k < count {
+        let one = quarter_counts(member, service, top, series, from + k);
+        sum += one;
+        k += 1;
+    }
+    sum
 }

@@ -9,3 +9,4 @@ pub mod Bounds
 pub mod Ruling
 pub mod Orders
 pub mod Whole
+pub mod Without

@@ -9,3 +9,6 @@ pub mod Voltage
 pub mod Empty
 pub mod Listed
 pub mod Example
+pub mod TakenOut
+pub mod Withdrawn
+pub mod WithdrawnStory

@@ -1,6 +1,6 @@
 -- A score over a book's bytes is the score over the calls that the book has, so a sum worked out over calls is one over bytes. Assumes nothing.
 use mathlib.Core.Path.{_≡_, refl, sym, _∙_, ap}
-use mathlib.Core.List.{List, [], _∷_}
+use mathlib.Core.List.{List}
 use Prim.Native.Nat.{ℕ, zero, suc, _+_, _<_}
 use native.Mathlib.Omega.{arith}
 use lib.ListN.{getD, length}
@@ -10,7 +10,7 @@ use Rattle.book.proofs.Records.{length-calls}
 use Rattle.pay.specs.declared.Member.{Member}
 use Rattle.score.specs.declared.answer.Earned.{Earned}
 use Rattle.score.specs.declared.answer.Earned.the-variants.{Accepted, Refused}
-use Rattle.score.specs.Scoring.{recordsEarned, monthAt, inFen, scoring}
+use Rattle.score.specs.Scoring.{recordsEarned, monthAt, grainsEarned, inFen, scoring}
 use Rattle.score.specs.Outcomes.{Ready}
 use Rattle.score.proofs.Turns.{score-is}
 use Rattle.score.proofs.Own.{moved, same-run, score-moved}
@@ -29,15 +29,19 @@ unfolding moved
 unmoved (Accepted g) = refl
 unmoved (Refused v p) = ap (Refused v) (omega arith)
 
--- Where line, book and series are good, the score is that of the book's calls in turn.
-pub over-calls : (m : Member) (b series : List ℕ) (none : Call) → Ready m b series
-    → scoring m b series ≡ inFen (recordsEarned (monthAt b) m series (λ (i : ℕ). getD (callsOf b) i none) (length (callsOf b)))
+-- Where line, book and series are good, a member earns what the book's calls in turn give it,
+pub earned-over-calls : (m : Member) (b series : List ℕ) (none : Call) → Ready m b series
+    → grainsEarned m b series ≡ recordsEarned (monthAt b) m series (λ (i : ℕ). getD (callsOf b) i none) (length (callsOf b))
 unfolding callsOf
-over-calls m b series none ready =
+earned-over-calls m b series none ready =
     let book : ℕ → Call = λ (i : ℕ). getD (callsOf b) i none in
     let n = countAt b in
-    score-is m b series _ (ready-records m b series ready)
-    ∙ ap inFen
-    (score-moved (monthAt b) m series (recordAt b) book 0 n n (same-run m (recordAt b) book n (λ k l. ap (recordAt b) (omega arith) ∙ call-at b none n 0 k l))
+    ready-records m b series ready
+    ∙ score-moved (monthAt b) m series (recordAt b) book 0 n n (same-run m (recordAt b) book n (λ k l. ap (recordAt b) (omega arith) ∙ call-at b none n 0 k l))
     ∙ unmoved (recordsEarned (monthAt b) m series book n)
-    ∙ ap (recordsEarned (monthAt b) m series book) (sym (length-calls b n 0)))
+    ∙ ap (recordsEarned (monthAt b) m series book) (sym (length-calls b n 0))
+
+-- and that is its score.
+pub over-calls : (m : Member) (b series : List ℕ) (none : Call) → Ready m b series
+    → scoring m b series ≡ inFen (recordsEarned (monthAt b) m series (λ (i : ℕ). getD (callsOf b) i none) (length (callsOf b)))
+over-calls m b series none ready = score-is m b series _ (earned-over-calls m b series none ready)

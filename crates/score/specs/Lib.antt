@@ -5,3 +5,4 @@ pub mod Scoring
 pub mod Inner
 pub mod Own
 pub mod Outcomes
+pub mod Lowered

@@ -53,7 +53,7 @@ fn factor_of(negative: bool, status: u8) -> u64
     }
 }
 
-fn weight_of(l: Line, negative: bool) -> u64
+pub fn weight_of(l: Line, negative: bool) -> u64
     requires { ⌜ l .energy .0 ≤ mostEnergy ⌝ }
     ensures { λ r. ⌜ r ≡ weightOf negative l ⌝ }
 {

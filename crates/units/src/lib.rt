@@ -1,7 +1,7 @@
 // Units that share a name, kept apart by their types: points from money, power from energy.
 ghost use mathlib.Core.Path.{_≡_};
 ghost use Prim.Native.Nat.{_*_};
-ghost use Rattle.units.specs.Money.{grainsToFen, fenPerThousandth};
+ghost use Rattle.units.specs.Money.{grainsPlus, grainsToFen, fenPerThousandth};
 
 pub mod month;
 
@@ -11,6 +11,9 @@ pub const GRAINS_PER_FEN: u64 = 60_000;
 pub const HALF_FEN: u64 = 30_000;
 
 pub const FEN_PER_THOUSANDTH: u64 = 100;
+
+// The top of 64 bits.
+const MOST_GRAINS: u64 = 0xffff_ffff_ffff_ffff;
 
 // Points, counted in grains: 6,000,000,000 to a point.
 pub struct Grains(pub u64);
@@ -44,6 +47,17 @@ impl Grains {
         let whole = self.0 / GRAINS_PER_FEN;
         let rest = self.0 % GRAINS_PER_FEN;
         Fen(whole + (rest + HALF_FEN) / GRAINS_PER_FEN)
+    }
+
+    // Grains, and more of them. A sum past the top of 64 bits is told as the top, so that none wraps.
+    pub fn plus(self, other: Grains) -> Grains
+        ensures { λ r. ⌜ r .0 ≡ grainsPlus (self .0) (other .0) ⌝ }
+    {
+        let room = MOST_GRAINS - self.0;
+        if room < other.0 {
+            return Grains(MOST_GRAINS);
+        }
+        Grains(self.0 + other.0)
     }
 }
 

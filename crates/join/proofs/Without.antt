@@ -1,0 +1,142 @@
+-- One key taken out of every book of a month: whatever the tree of joins, it gives the book of before without that key. Assumes nothing.
+use mathlib.Core.Path.{_≡_, refl, sym, _∙_, ap, ap₂, subst}
+use mathlib.Core.Bool.{true}
+use mathlib.Core.List.{List, [], _∷_, _++_, map, Memᴰ·append-left, Memᴰ·append-right, Memᴰ·map, Memᴰ·of-map, Memᴰ·cast, List·Memᴰ as In, List·Memᴰ·head as here, List·Memᴰ·tail as there}
+use Prim.Native.Nat.{ℕ, _≤_, _<_}
+use native.Mathlib.Omega.{arith}
+use lib.ListN.{length}
+use borrow.Author.Tests.{eqb-true}
+use Rattle.call.specs.declared.Call.{Call}
+use Rattle.call.specs.Key.{callKey}
+use Rattle.call.specs.Revising.{withdrawn}
+use Rattle.book.specs.declared.Header.{Header}
+use Rattle.book.specs.Book.{version, mostRecords, headerAt, countAt, recordAt, callsOf, bookBytes}
+use Rattle.book.specs.Check.{headerMinutes}
+use Rattle.book.specs.Sound.{Heading, Sound}
+use Rattle.book.specs.Without.{without, bookWithout}
+use Rattle.book.proofs.Exact.{reads-back}
+use Rattle.book.proofs.Without.{without-sound, without-reads, call-place}
+use Rattle.rule.specs.Keys.{differentKeys}
+use Rattle.rule.specs.Standing.{isWithdrawn}
+use Rattle.rule.specs.Whole.{ruleCalls}
+use Rattle.rule.proofs.Bounds.{Calls}
+use Rattle.rule.proofs.Whole.{any-order as list-order, number-of-keys}
+use Rattle.rule.proofs.Without.{rule-without, fewer-keys, more-books}
+use Rattle.join.specs.Joining.{keyCount}
+use Rattle.join.specs.Trees.{Plan, book, join, books, written, result, Room, OneMonth, Covers, ruleBook}
+use Rattle.join.specs.Without.{planWithout}
+use Rattle.join.proofs.Trees.{book-sound, treeOf, covers-over, month-sounds, heading, tree-calls}
+use Rattle.join.proofs.Orders.{any-order, stays-withdrawn}
+
+module _ (h : Header) (bs : List (List ℕ)) (month : OneMonth h bs) (k : ℕ) where
+  -- The books without that key are sound books of the same month and area,
+  pub without-month : OneMonth h (map (bookWithout k) bs)
+  without-month = record { sound = sound; header = header }
+    where
+      sound : (b : List ℕ) → In b (map (bookWithout k) bs) → Sound b
+      sound b i = let m = Memᴰ·of-map (bookWithout k) bs i in rw (sym (m .2)) (without-sound k (m .0) (month .sound (m .0) (m .1)))
+
+      header : (b : List ℕ) → In b (map (bookWithout k) bs) → headerAt b ≡ h
+      header b i =
+          let m = Memᴰ·of-map (bookWithout k) bs i in
+          sym (ap headerAt (m .2)) ∙ without-reads k (m .0) (month .sound (m .0) (m .1)) .0 ∙ month .header (m .0) (m .1)
+
+  calls-without : map callsOf (map (bookWithout k) bs) ≡ map (without k) (map callsOf bs)
+  calls-without = go bs (month .sound)
+    where
+      go : (cs : List (List ℕ)) → ((b : List ℕ) → In b cs → Sound b) → map callsOf (map (bookWithout k) cs) ≡ map (without k) (map callsOf cs)
+      go [] s = refl
+      go (b ∷ cs) s = ap₂ (λ (x : List Call) (xs : List (List Call)). x ∷ xs) (without-reads k b (s b (here refl)) .1) (go cs (λ c i. s c (there i)))
+
+  -- of no more different keys.
+  pub without-few : keyCount (map (bookWithout k) bs) ≤ keyCount bs
+  unfolding keyCount
+  without-few = omega (arith, ap (λ (cs : List (List Call)). length (differentKeys cs)) calls-without, fewer-keys k (map callsOf bs))
+
+  rule-book : ruleBook h (map (bookWithout k) bs) ≡ bookBytes version h (without k (ruleCalls (map callsOf bs)))
+  unfolding ruleBook
+  rule-book = ap (λ (cs : List (List Call)). bookBytes version h (ruleCalls cs)) calls-without ∙ ap (bookBytes version h) (rule-without k (map callsOf bs))
+
+-- A tree that covers the books, their keys not too many
+module _ (h : Header) (bs : List (List ℕ)) (month : OneMonth h bs) (p : Plan) (covers : Covers p bs) (few : keyCount bs ≤ mostRecords version) where
+  ruled : Heading h × (length (ruleCalls (map callsOf bs)) ≤ mostRecords version) × Calls (headerMinutes h) (ruleCalls (map callsOf bs))
+  unfolding keyCount
+  ruled =
+      let o = covers-over p bs covers in
+      let s = month-sounds h bs month in
+      let e = list-order (headerMinutes h) (treeOf p) (map callsOf bs) o s in
+      let n = number-of-keys (headerMinutes h) (treeOf p) (map callsOf bs) o s in
+      let leaves : OneMonth h (books p) = record { sound = λ b i. month .sound b (covers .only b i); header = λ b i. month .header b (covers .only b i) } in
+      (heading h p leaves, omega (arith, ap length e), rw e at (tree-calls h p leaves))
+
+  -- the rule's book without a key
+  book-without : (k : ℕ) → bookWithout k (ruleBook h bs) ≡ bookBytes version h (without k (ruleCalls (map callsOf bs)))
+  unfolding bookWithout ruleBook
+  book-without k =
+      let r = reads-back h (ruleCalls (map callsOf bs)) (ruled .0) (ruled .1) (ruled .2 .within) in
+      ap₂ (λ (g : Header) (cs : List Call). bookBytes version g (without k cs)) (r .0) (r .1)
+
+  module _ (room : Room p) where
+    -- It gives a sound book,
+    pub result-sound : Sound (written (result p))
+    unfolding ruleBook
+    result-sound = rw (any-order h bs month p covers room few .2) (book-sound h (ruleCalls (map callsOf bs)) (ruled .0) (ruled .1) (ruled .2))
+
+    -- in which a call that is withdrawn in any of the books is a withdrawn record.
+    pub withdrawn-place : (b : List ℕ) → In b bs → (w : Call) → In w (callsOf b) → isWithdrawn w ≡ true
+        → (j : ℕ) × (j < countAt (written (result p))) × (callKey (recordAt (written (result p)) j) ≡ callKey w) × (recordAt (written (result p)) j .state ≡ withdrawn)
+    withdrawn-place b i w l t =
+        let r = stays-withdrawn h bs month p covers room few b i w l t in
+        let f = call-place (written (result p)) (r .0) (r .1) in
+        (f .0, f .1, ap callKey (f .2) ∙ r .2, ap (λ (c : Call). c .state) (f .2) ∙ eqb-true _ _ (r .3))
+
+-- Any tree over the books without a key gives the bytes of any tree over the books, without that key.
+pub taken-out : (h : Header) (bs : List (List ℕ)) → OneMonth h bs → keyCount bs ≤ mostRecords version → (k : ℕ)
+    → (p q : Plan) → Covers p bs → Covers q (map (bookWithout k) bs) → Room p → Room q → written (result q) ≡ bookWithout k (written (result p))
+taken-out h bs month few k p q c d r s =
+    let less = without-few h bs month k in
+    any-order h (map (bookWithout k) bs) (without-month h bs month k) q d s (omega arith) .2 ∙ rule-book h bs month k
+    ∙ sym (ap (bookWithout k) (any-order h bs month p c r few .2) ∙ book-without h bs month p c few k)
+
+-- The same tree over the books without a key
+
+map-append : (k : ℕ) (bs cs : List (List ℕ)) → map (bookWithout k) (bs ++ cs) ≡ map (bookWithout k) bs ++ map (bookWithout k) cs
+map-append k [] cs = refl
+map-append k (b ∷ bs) cs = ap (λ (l : List (List ℕ)). bookWithout k b ∷ l) (map-append k bs cs)
+
+pub books-without : (k : ℕ) (p : Plan) → books (planWithout k p) ≡ map (bookWithout k) (books p)
+unfolding books planWithout
+books-without k (book b) = refl
+books-without k (join l r out) = ap₂ (λ (x y : List (List ℕ)). x ++ y) (books-without k l) (books-without k r) ∙ sym (map-append k (books l) (books r))
+
+pub keys-of : (bs cs : List (List ℕ)) → ((b : List ℕ) → In b bs → In b cs) → keyCount bs ≤ keyCount cs
+unfolding keyCount
+keys-of bs cs h =
+    more-books (map callsOf bs) (map callsOf cs)
+    (λ d i. let m = Memᴰ·of-map callsOf bs i in Memᴰ·cast (sym (m .2)) (Memᴰ·map callsOf (h (m .0) (m .1))))
+
+part-month : (h : Header) (bs cs : List (List ℕ)) → ((b : List ℕ) → In b bs → In b cs) → OneMonth h cs → OneMonth h bs
+part-month h bs cs f o = record { sound = λ b i. o .sound b (f b i); header = λ b i. o .header b (f b i) }
+
+module _ (h : Header) (k : ℕ) where
+  -- has room where the tree has,
+  pub room-without : (p : Plan) → OneMonth h (books p) → keyCount (books p) ≤ mostRecords version → Room p → Room (planWithout k p)
+  unfolding books planWithout
+  room-without (book b) o few r = tt
+  room-without (join l r out) o few s =
+      let bs = books l ++ books r in
+      let low : (b : List ℕ) → In b (books l) → In b bs = λ b i. Memᴰ·append-left (books r) i in
+      let high : (b : List ℕ) → In b (books r) → In b bs = λ b i. Memᴰ·append-right (books l) i in
+      let less = without-few h bs o k in
+      let same = ap keyCount (books-without k (join l r out)) in (
+        room-without l (part-month h (books l) bs low o) (omega (arith, keys-of (books l) bs low)) (s .0),
+        room-without r (part-month h (books r) bs high o) (omega (arith, keys-of (books r) bs high)) (s .1),
+        λ f. omega (arith, s .2 few),
+      )
+
+  -- and gives the same bytes without that key.
+  pub same-tree : (p : Plan) → OneMonth h (books p) → keyCount (books p) ≤ mostRecords version → Room p → written (result (planWithout k p)) ≡ bookWithout k (written (result p))
+  same-tree p o few r =
+      let e = books-without k p in
+      taken-out h (books p) o few k p (planWithout k p) (record { all = λ b i. i; only = λ b i. i })
+      (record { all = λ b i. subst (λ (l : List (List ℕ)). In b l) (sym e) i; only = λ b i. subst (λ (l : List (List ℕ)). In b l) e i }) r (room-without p o few r)

@@ -1,0 +1,231 @@
+-- A month that is settled: what it has passed, and its lines place by place. Assumes nothing.
+use mathlib.Core.Path.{_≡_, refl, sym, ap, _∙_}
+use mathlib.Core.Bool.{Bool, true, false, cond, not, true≢false}
+use mathlib.Core.List.{List, [], _∷_}
+use Prim.Native.Nat.{ℕ, zero, suc, _-_, _≤_, _<_}
+use native.Mathlib.Omega.{arith}
+use borrow.Author.Tests.{ltb-true, ltb-false, eqb-true}
+use lib.Dec.{ltb, eqb}
+use lib.IntN.{pos}
+use lib.ListN.{length, getD, take, drop, length-map, List·getD-append}
+use lib.Seq.{drop-drop}
+use Rattle.units.specs.declared.Grains.{Grains}
+use Rattle.units.specs.Money.{grainsPlus}
+use Rattle.book.specs.Book.{countAt, callsOf}
+use Rattle.book.specs.Check.{accepted, check}
+use Rattle.score.specs.declared.answer.Earned.{Earned}
+use Rattle.score.specs.declared.answer.Earned.the-variants.{Accepted, Refused}
+use Rattle.score.specs.Scoring.{grainsEarned}
+use Rattle.book.proofs.Judged.{zero-accepted}
+use Rattle.apportion.specs.Apportion.{total}
+use Rattle.share.specs.declared.Line.{Line}
+use Rattle.share.specs.Sharing.{Part, below, SharingOutcome, sharing}
+use Rattle.share.specs.Forms.{blankLine}
+use Rattle.share.proofs.Lists.{getD-mapped}
+use Rattle.register.specs.declared.Entry.{Entry}
+use Rattle.register.specs.Register.{blankEntry, entryLine, firstBadEntry}
+use Rattle.register.proofs.Entries.{length-lines, line-at}
+use Rattle.month.specs.declared.Fault.{Fault}
+use Rattle.month.specs.declared.Fault.the-variants.{NoFault, InRegister, InBook, Unlisted, OfMember, InSharing}
+use Rattle.month.specs.declared.Row.{Row}
+use Rattle.month.specs.declared.Statement.{Statement}
+use Rattle.month.specs.Settling.{MonthGiven, firstUnlisted, earnedWith, earnings, firstRefusedMember, memberFault, earnedGrains, compensations}
+use Rattle.month.specs.Settling.{rowOf, rowsOf, blankRow, filledRows, monthRefused, sharedMonth, monthLines, earnedMonth, settling}
+use Rattle.month.specs.Outcomes.{ownSeries, earnedIn, linesIn, grainsIn, statementOf}
+use Rattle.month.proofs.Walking.{noGrains, noFen, fenOf, length-earnings}
+
+abbrev pub rowsSettled : MonthGiven → List Row
+rowsSettled g = rowsOf (below (linesIn g)) (linesIn g) (grainsIn g) (sharing (linesIn g) .parts)
+
+-- what it has passed
+pub record Passed (g : MonthGiven) : Type 0 where
+  pub register : g .count ≤ firstBadEntry 0 (g .entries)
+  pub book : check (g .book) ≡ accepted
+  pub listed : countAt (g .book) ≤ firstUnlisted (g .entries) (callsOf (g .book))
+  pub members : length (earnedIn g) ≤ firstRefusedMember (earnedIn g)
+  pub shared : sharing (linesIn g) .number ≡ 0
+  pub is : settling g ≡ statementOf g
+
+-- a fault is one
+abbrev isFault : Fault → Bool
+isFault NoFault = false
+isFault (InRegister line) = true
+isFault (InBook number place) = true
+isFault (Unlisted call) = true
+isFault (OfMember line number place) = true
+isFault (InSharing number place) = true
+
+no-refusal : (fault : Fault) → isFault fault ≡ true → monthRefused fault .fault ≡ NoFault → ⊥
+unfolding monthRefused
+no-refusal fault e h = true≢false (sym e ∙ ap isFault h)
+
+-- the first refused member has a refusal; where none is refused, each is accepted
+refused-at : (line : ℕ) (es : List Earned) → firstRefusedMember es < length es → isFault (memberFault line (getD es (firstRefusedMember es) (Refused 0 0))) ≡ true
+unfolding firstRefusedMember memberFault
+refused-at line [] h = absurd (omega arith)
+refused-at line (Accepted g ∷ es) h = refused-at line es (omega arith)
+refused-at line (Refused number place ∷ es) h = refl
+
+pub accepted-at : (es : List Earned) (i : ℕ) (d : Earned) → length es ≤ firstRefusedMember es → i < length es → getD es i d ≡ Accepted (earnedGrains (getD es i d))
+unfolding firstRefusedMember earnedGrains
+accepted-at [] i d h l = absurd (omega arith)
+accepted-at (Accepted g ∷ es) zero d h l = refl
+accepted-at (Accepted g ∷ es) (suc i) d h l = accepted-at es i d (omega arith) (omega arith)
+accepted-at (Refused number place ∷ es) i d h l = absurd (omega arith)
+
+-- what is behind the register, the book and the listing
+abbrev restOf : MonthGiven → Statement
+restOf g = earnedMonth (g .entries) (g .book) (earnedIn g)
+
+record Reached (g : MonthGiven) : Type 0 where
+  register : g .count ≤ firstBadEntry 0 (g .entries)
+  book : check (g .book) .number ≡ 0
+  listed : countAt (g .book) ≤ firstUnlisted (g .entries) (callsOf (g .book))
+  none : restOf g .fault ≡ NoFault
+  is : settling g ≡ restOf g
+
+reached : (g : MonthGiven) → settling g .fault ≡ NoFault → Reached g
+unfolding settling
+reached g = go (ltb bad (g .count)) (eqb (check (g .book) .number) 0) (ltb call n) refl refl refl
+  where
+    bad : ℕ
+    bad = firstBadEntry 0 (g .entries)
+
+    call : ℕ
+    call = firstUnlisted (g .entries) (callsOf (g .book))
+
+    n : ℕ
+    n = countAt (g .book)
+
+    all : Bool → Bool → Bool → Statement
+    all a b c =
+        cond a (monthRefused (InRegister bad))
+        (cond (not b) (monthRefused (InBook (check (g .book) .number) (check (g .book) .place))) (cond c (monthRefused (Unlisted call)) (restOf g)))
+
+    go : (a b c : Bool) → ltb bad (g .count) ≡ a → eqb (check (g .book) .number) 0 ≡ b → ltb call n ≡ c → all a b c .fault ≡ NoFault → Reached g
+    go true b c ea eb ec h = absurd (no-refusal _ refl h)
+    go false false c ea eb ec h = absurd (no-refusal _ refl h)
+    go false true true ea eb ec h = absurd (no-refusal _ refl h)
+    go false true false ea eb ec h =
+        record {
+          register = ltb-false bad (g .count) ea;
+          book = eqb-true (check (g .book) .number) 0 eb;
+          listed = ltb-false call n ec;
+          none = h;
+          is = rw (ea, eb, ec) refl;
+        }
+
+pub passed : (g : MonthGiven) → settling g .fault ≡ NoFault → Passed g
+unfolding earnedMonth sharedMonth
+passed g h = go (ltb first (length es)) (eqb (o .number) 0) refl refl (r .none)
+  where
+    r : Reached g
+    r = reached g h
+
+    es : List Earned
+    es = earnedIn g
+
+    first : ℕ
+    first = firstRefusedMember es
+
+    o : SharingOutcome
+    o = sharing (linesIn g)
+
+    all : Bool → Bool → Statement
+    all a b =
+        cond a (monthRefused (memberFault first (getD es first (Refused 0 0))))
+        (cond b (statementOf g) (monthRefused (InSharing (o .number) (o .place))))
+
+    go : (a b : Bool) → ltb first (length es) ≡ a → eqb (o .number) 0 ≡ b → all a b .fault ≡ NoFault → Passed g
+    go true b ea eb k = absurd (no-refusal _ (refused-at first es (ltb-true first (length es) ea)) k)
+    go false false ea eb k = absurd (no-refusal _ refl k)
+    go false true ea eb k =
+        record {
+          register = r .register;
+          book = zero-accepted (g .book) (r .book);
+          listed = r .listed;
+          members = ltb-false first (length es) ea;
+          shared = eqb-true (o .number) 0 eb;
+          is = r .is ∙ rw (ea, eb) refl;
+        }
+
+-- The members' own series
+
+own-next : (series lengths : List ℕ) (i : ℕ) → ownSeries (drop (getD lengths 0 0) series) (drop 1 lengths) i ≡ ownSeries series lengths (suc i)
+own-next series [] zero = refl
+own-next series [] (suc i) = refl
+own-next series (l ∷ ls) i = ap (take (getD ls i 0)) (drop-drop (total (take i ls)) l series)
+
+pub earned-at : (es : List Entry) (book series lengths : List ℕ) (added : List Grains) (i : ℕ) (d : Earned) → i < length es
+    → getD (earnings es book series lengths added) i d
+    ≡ earnedWith (grainsEarned (getD es i blankEntry .member) book (ownSeries series lengths i)) (getD added i noGrains)
+unfolding earnings
+earned-at [] book series lengths added i d h = absurd (omega arith)
+earned-at (e ∷ es) book series lengths added zero d h = refl
+earned-at (e ∷ es) book series lengths added (suc i) d h =
+    earned-at es book (drop (getD lengths 0 0) series) (drop 1 lengths) (drop 1 added) i d (omega arith)
+    ∙ rw (own-next series lengths i, next added) refl
+  where
+    next : (xs : List Grains) → getD (drop 1 xs) i noGrains ≡ getD xs (suc i) noGrains
+    next [] = refl
+    next (x ∷ xs) = refl
+
+abbrev isAccepted : Earned → Bool
+isAccepted (Accepted g) = true
+isAccepted (Refused number place) = false
+
+-- what was added was added to something
+pub with-accepted : (x : Earned) (a g : Grains) → earnedWith x a ≡ Accepted g → (x ≡ Accepted (earnedGrains x)) × (g .0 ≡ grainsPlus (earnedGrains x .0) (a .0))
+unfolding earnedWith earnedGrains
+with-accepted (Accepted y) a g e = (refl, sym (ap (λ (x : Earned). earnedGrains x .0) e))
+with-accepted (Refused number place) a g e = absurd (true≢false (sym (ap isAccepted e)))
+
+-- The rows
+
+abbrev pub noPart : Part
+noPart = record { share = pos 0; amount = pos 0 }
+
+pub length-rows : (isBelow : Bool) (ls : List Line) (gs : List Grains) (ps : List Part) → length (rowsOf isBelow ls gs ps) ≡ length ls
+unfolding rowsOf
+length-rows isBelow [] gs ps = refl
+length-rows isBelow (l ∷ ls) gs ps = ap suc (length-rows isBelow ls (drop 1 gs) (drop 1 ps))
+
+pub row-at : (isBelow : Bool) (ls : List Line) (gs : List Grains) (ps : List Part) (i : ℕ) (d : Row) → i < length ls
+    → getD (rowsOf isBelow ls gs ps) i d ≡ rowOf isBelow (getD ls i blankLine) (getD gs i noGrains) (getD ps i noPart)
+unfolding rowsOf
+row-at isBelow [] gs ps i d h = absurd (omega arith)
+row-at isBelow (l ∷ ls) gs ps zero d h = refl
+row-at isBelow (l ∷ ls) gs ps (suc i) d h =
+    row-at isBelow ls (drop 1 gs) (drop 1 ps) i d (omega arith) ∙ rw (next gs noGrains, next ps noPart) refl
+  where
+    next : {A : Type 0} (xs : List A) (z : A) → getD (drop 1 xs) i z ≡ getD xs (suc i) z
+    next [] z = refl
+    next (x ∷ xs) z = refl
+
+module _ (g : MonthGiven) where
+  pub length-in : length (linesIn g) ≡ length (g .entries)
+  unfolding monthLines
+  length-in = length-lines (g .entries) (compensations (grainsIn g))
+
+  -- the row of line i
+  pub settled-row : (i : ℕ) → Passed g → i < length (g .entries)
+      → getD (settling g .rows) i blankRow ≡ rowOf (below (linesIn g)) (getD (linesIn g) i blankLine) (getD (grainsIn g) i noGrains) (getD (sharing (linesIn g) .parts) i noPart)
+  unfolding filledRows
+  settled-row i p h =
+      let long = length-in in
+      let rows = length-rows (below (linesIn g)) (linesIn g) (grainsIn g) (sharing (linesIn g) .parts) in
+      ap (λ (s : Statement). getD (s .rows) i blankRow) (p .is) ∙ List·getD-append (rowsSettled g) _ blankRow i (omega arith)
+      ∙ row-at (below (linesIn g)) (linesIn g) (grainsIn g) (sharing (linesIn g) .parts) i blankRow (omega arith)
+
+  -- the grains of line i, and the fen of them
+  pub grains-at : (i : ℕ) → i < length (g .entries) → getD (grainsIn g) i noGrains ≡ earnedGrains (getD (earnedIn g) i (Refused 0 0))
+  grains-at i h =
+      getD-mapped earnedGrains (earnedIn g) i (Refused 0 0) noGrains (omega (arith, length-earnings (g .entries) (g .book) (g .series) (g .lengths) (g .added)))
+
+  pub line-in : (i : ℕ) → i < length (g .entries) → getD (linesIn g) i blankLine ≡ entryLine (getD (g .entries) i blankEntry) (fenOf (getD (grainsIn g) i noGrains))
+  unfolding monthLines
+  line-in i h =
+      let long = length-map (earnedIn g) earnedGrains in
+      line-at (g .entries) (compensations (grainsIn g)) i blankEntry h
+      ∙ ap (entryLine (getD (g .entries) i blankEntry))
+      (getD-mapped fenOf (grainsIn g) i noGrains noFen (omega (arith, length-earnings (g .entries) (g .book) (g .series) (g .lengths) (g .added))))

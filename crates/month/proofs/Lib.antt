@@ -1,0 +1,11 @@
+pub mod Listing
+pub mod Walking
+pub mod Statements
+pub mod Settled
+pub mod Accepted
+pub mod Bounds
+pub mod Promises
+pub mod Exact
+pub mod Withdrawn
+pub mod Drawer
+pub mod DrawerStory

@@ -1,0 +1,207 @@
+-- The month's sharing and the cases of a month, over plain values. Assumes nothing.
+use mathlib.Core.Path.{_≡_, refl, sym, ap, _∙_, subst}
+use mathlib.Core.Bool.{Bool}
+use mathlib.Core.List.{List, [], _∷_, map}
+use Prim.Native.Nat.{ℕ, zero, suc, _-_, _≤_, _<_, min}
+use native.Mathlib.Nat.{min-eq-left, min-eq-right}
+use native.Mathlib.Decide.{decLt, decLe}
+use native.Mathlib.Omega.{arith}
+use borrow.Author.Tests.{eq-eqb, ne-eqb, lt-ltb, le-ltb}
+use lib.Dec.{ltb}
+use lib.IntN.{ℤ, pos, _-ℤ_}
+use lib.Signed.{ltZ}
+use lib.ListN.{length, getD, take, length-map, length-take}
+use lib.Seq.{length-take-le, take-all}
+use Rattle.units.specs.declared.Fen.{Fen}
+use Rattle.units.specs.declared.Grains.{Grains}
+use Rattle.book.specs.declared.Header.{Header}
+use Rattle.book.specs.declared.Verdict.{Verdict}
+use Rattle.book.specs.Book.{headerAt, countAt, callsFrom, callsOf}
+use Rattle.book.specs.Check.{check}
+use Rattle.score.specs.declared.answer.Earned.{Earned}
+use Rattle.score.specs.declared.answer.Earned.the-variants.{Refused}
+use Rattle.share.specs.declared.Line.{Line}
+use Rattle.share.specs.declared.Shared.{Shared}
+use Rattle.share.specs.Sharing.{Part, below, gap, assessed, compensated, firstBadLine, sharing, mostNumber}
+use Rattle.share.specs.Forms.{filled, fillIn, cleared, clear, arrayOf, sharedArray}
+use Rattle.share.specs.Limits.{LineWithin, LinesWithin, CountedWithin}
+use Rattle.share.proofs.Lists.{getD-mapped}
+use Rattle.share.proofs.Lines.{fill-at, length-filled}
+use Rattle.share.proofs.Counted.{counted-few}
+use Rattle.share.proofs.Cases.{bad-of-64}
+use Rattle.share.proofs.Bounds.{all-within}
+use Rattle.share.proofs.Signs.{diff-up, diff-down}
+use Rattle.share.proofs.Outcomes.{Taken, taken-list, each-given}
+use Rattle.share.proofs.Promises.{gap-is}
+use Rattle.month.specs.declared.Row.{Row}
+use Rattle.month.specs.declared.Statement.{Statement}
+use Rattle.register.specs.declared.Entry.{Entry}
+use Rattle.register.specs.Register.{firstBadEntry, linesFor}
+use Rattle.register.proofs.Entries.{bad-le, take-lines}
+use Rattle.month.specs.declared.Fault.{Fault}
+use Rattle.month.specs.declared.Fault.the-variants.{NoFault, InRegister, InBook, Unlisted, InSharing}
+use Rattle.month.specs.Settling.{MonthGiven, firstUnlisted, earnings, firstRefusedMember, memberFault, earnedGrains, compensations, filledRows, monthRefused, sharedMonth, rowsOf}
+use Rattle.month.specs.Settling.{monthLines, earnedMonth, settling}
+use Rattle.month.specs.Inner.{rowsIn}
+use Rattle.month.proofs.Walking.{fenOf}
+use Rattle.month.proofs.Statements.{rows-filled}
+
+-- R is below zero where A < C
+below-is : (a c : ℕ) → ltZ (pos a -ℤ pos c) (pos 0) ≡ ltb a c
+below-is a c = go (decLt a c)
+  where
+    go : Dec (a < c) → ltZ (pos a -ℤ pos c) (pos 0) ≡ ltb a c
+    go (yes l) = rw (diff-down a c l, lt-ltb a c l) refl
+    go (no f) =
+        let k : c ≤ a = omega arith in
+        rw (diff-up a c k, le-ltb a c k) (le-ltb (a - c) 0 (omega arith))
+
+-- the first lines of an array that is filled in
+take-clear : (n : ℕ) (ls : List Line) → take n (clear ls) ≡ clear (take n ls)
+take-clear zero ls = refl
+take-clear (suc n) [] = refl
+take-clear (suc n) (l ∷ ls) = ap (λ (x : List Line). cleared l ∷ x) (take-clear n ls)
+
+take-fill : (n : ℕ) (ps : List Part) (ls : List Line) → length ps ≤ n → take n (fillIn ps ls) ≡ fillIn ps (take n ls)
+take-fill n [] ls h = refl
+take-fill zero (p ∷ ps) ls h = absurd (omega arith)
+take-fill (suc n) (p ∷ ps) [] h = refl
+take-fill (suc n) (p ∷ ps) (l ∷ ls) h = ap (λ (x : List Line). filled l p ∷ x) (take-fill n ps ls (omega arith))
+
+-- filling a line leaves its limits
+within-filled : (ps : List Part) (ls : List Line) → length ps ≡ length ls → LinesWithin ls → LinesWithin (fillIn ps (clear ls))
+within-filled ps ls e w i d h =
+    let long = length-filled ps ls in
+    let l = getD ls i d in
+    let p : Part = record { share = pos 0; amount = pos 0 } in
+    let c : getD (clear ls) i d ≡ cleared l = getD-mapped (λ x. cleared x) ls i d d (omega arith) in
+    let long₂ = length-map ls (λ x. cleared x) in
+    let is : getD (fillIn ps (clear ls)) i d ≡ filled l (getD ps i p) = fill-at ps (clear ls) i d p (omega arith) (omega arith) ∙ ap (λ (x : Line). filled x (getD ps i p)) c in
+    let k = w i d (omega arith) in
+    subst LineWithin (sym is) (record { energy = k .energy; compensation = k .compensation; assessment = k .assessment })
+
+-- The sharing of the first lines of an array
+module _ (book : List ℕ) (lines : List Line) (grains : List Grains) (count : ℕ) (h : count ≤ 64) (long : length lines ≡ 64)
+    (s : Shared) (is : s ≡ sharedArray lines count) where
+  abbrev ls : List Line
+  ls = take count lines
+
+  array-is : s ≡ arrayOf lines (sharing ls)
+  unfolding sharedArray
+  array-is = is ∙ ap (arrayOf lines) (counted-few lines count (omega arith))
+
+  length-ls : length ls ≡ count
+  length-ls = length-take-le count lines (omega arith)
+
+  number-is : s .number ≡ sharing ls .number
+  number-is = ap (λ (x : Shared). x .number) array-is
+
+  pub shared-refused : (s .number ≡ 0 → ⊥) → monthRefused (InSharing (s .number) (s .place)) ≡ sharedMonth book ls (take count grains) (sharing ls)
+  unfolding sharedMonth
+  shared-refused some =
+      rw (number-is, ap (λ (x : Shared). x .place) array-is, ne-eqb (sharing ls .number) 0 (λ e. some (number-is ∙ e))) refl
+
+  module _ (none : s .number ≡ 0) where
+    none-told : sharing ls .number ≡ 0
+    none-told = sym number-is ∙ none
+
+    taken : Taken (firstBadLine 0 (take mostNumber ls)) (length ls) ls
+    taken = taken-list ls none-told
+
+    each : length (sharing ls .parts) ≡ length ls
+    each = each-given _ (length ls) ls taken
+
+    lines-are : take count (s .lines) ≡ fillIn (sharing ls .parts) (clear ls)
+    lines-are =
+        ap (λ (x : Shared). take count (x .lines)) array-is
+        ∙ take-fill count (sharing ls .parts) (clear lines) (omega (arith, each, length-ls))
+        ∙ ap (fillIn (sharing ls .parts)) (take-clear count lines)
+
+    pub shared-within : CountedWithin (s .lines) count
+    shared-within =
+        let bad = bad-of-64 ls in
+        (h, subst LinesWithin (sym lines-are) (within-filled (sharing ls .parts) ls each (all-within 0 ls (omega (arith, taken .sound, bad .0)))))
+
+    gap-told : s .gap .0 ≡ gap ls
+    gap-told = ap (λ (x : Shared). x .gap .0) array-is ∙ gap-is ls none-told
+
+    below-told : ltZ (s .gap .0) (pos 0) ≡ below ls
+    unfolding gap
+    below-told = ap (λ (z : ℤ). ltZ z (pos 0)) gap-told ∙ below-is (assessed ls) (compensated ls)
+
+    pub shared-is : (header : Header) (calls : ℕ) (negative : Bool) (rows : List Row) → header ≡ headerAt book → calls ≡ countAt book
+        → negative ≡ ltZ (s .gap .0) (pos 0) → rows ≡ filledRows (rowsIn negative (take count (s .lines)) (take count grains))
+        → _≡_ {A = Statement} (record { fault = NoFault; header = header; calls = calls; gap = s .gap; count = count; rows = rows }) (sharedMonth book ls (take count grains) (sharing ls))
+    unfolding sharedMonth
+    shared-is header calls negative rows eh ec en er =
+        let all : rows ≡ filledRows (rowsOf (below ls) ls (take count grains) (sharing ls .parts)) =
+        er ∙ rw (en, below-told, lines-are) (ap filledRows (rows-filled (below ls) ls (take count grains) (sharing ls .parts) each)) in
+        let g : s .gap .0 ≡ sharing ls .gap = ap (λ (x : Shared). x .gap .0) array-is in
+        rw (eq-eqb (sharing ls .number) 0 none-told)
+        (λ i. record { fault = NoFault; header = eh i; calls = ec i; gap = record { 0 = g i }; count = sym length-ls i; rows = all i })
+
+-- The members
+
+module _ {A B : Type 0} (f : A → B) where
+  pub take-map : (n : ℕ) (xs : List A) → take n (map f xs) ≡ map f (take n xs)
+  take-map zero xs = refl
+  take-map (suc n) [] = refl
+  take-map (suc n) (x ∷ xs) = ap (λ (ys : List B). f x ∷ ys) (take-map n xs)
+
+pub earned-refused : (es : List Entry) (book : List ℕ) (earned : List Earned) (fault : Fault) → firstRefusedMember earned < length earned
+    → fault ≡ memberFault (firstRefusedMember earned) (getD earned (firstRefusedMember earned) (Refused 0 0)) → monthRefused fault ≡ earnedMonth es book earned
+unfolding earnedMonth
+earned-refused es book earned fault h e = rw (lt-ltb _ _ h, e) refl
+
+pub earned-shared : (entries : List Entry) (book : List ℕ) (earned : List Earned) (count : ℕ) (grains : List Grains) (fens : List Fen) (lines : List Line)
+    → firstRefusedMember earned ≡ length earned → take count grains ≡ map earnedGrains earned → fens ≡ compensations grains → lines ≡ linesFor entries fens
+    → sharedMonth book (take count lines) (take count grains) (sharing (take count lines)) ≡ earnedMonth (take count entries) book earned
+unfolding earnedMonth monthLines
+earned-shared entries book earned count grains fens lines none eg ef el =
+    let all : take count lines ≡ linesFor (take count entries) (compensations (map earnedGrains earned)) =
+    ap (take count) el ∙ take-lines count entries fens
+    ∙ ap (linesFor (take count entries)) (ap (take count) ef ∙ take-map fenOf count grains ∙ ap compensations eg) in
+    rw (le-ltb (firstRefusedMember earned) (length earned) (omega arith), eg, all) refl
+
+-- The month
+
+pub take-seen : (entries : List Entry) (count n : ℕ) → length entries ≡ 64 → n ≡ min count 64 → take n entries ≡ take count entries
+take-seen entries count n e m = go (decLe count 64)
+  where
+    go : Dec (count ≤ 64) → take n entries ≡ take count entries
+    go (yes f) = ap (λ (k : ℕ). take k entries) (m ∙ min-eq-left f)
+    go (no f) =
+        let same : n ≡ 64 = m ∙ min-eq-right (omega arith) in
+        take-all n entries (omega arith) ∙ sym (take-all count entries (omega arith))
+
+-- no bad entry before the count: there are at most 64
+pub few-entries : (entries : List Entry) (count : ℕ) → length entries ≡ 64 → count ≤ firstBadEntry 0 (take count entries) → count ≤ 64
+few-entries entries count e h =
+    omega (arith, bad-le 0 (take count entries), length-take count entries)
+
+module _ (g : MonthGiven) where
+  abbrev bad : ℕ
+  bad = firstBadEntry 0 (g .entries)
+
+  pub in-register : bad < g .count → monthRefused (InRegister bad) ≡ settling g
+  unfolding settling
+  in-register h = rw (lt-ltb bad (g .count) h) refl
+
+  module _ (sound : g .count ≤ bad) where
+    pub in-book : (v : Verdict) → v ≡ check (g .book) → (v .number ≡ 0 → ⊥) → monthRefused (InBook (v .number) (v .place)) ≡ settling g
+    unfolding settling
+    in-book v e some = rw (le-ltb bad (g .count) sound, ← e, ne-eqb (v .number) 0 some) refl
+
+    module _ (none : check (g .book) .number ≡ 0) where
+      pub unlisted : (n i : ℕ) → n ≡ countAt (g .book) → i ≡ firstUnlisted (g .entries) (callsFrom (g .book) 0 n) → i < n → monthRefused (Unlisted i) ≡ settling g
+      unfolding settling callsOf
+      unlisted n i en ei h =
+          let is : i ≡ firstUnlisted (g .entries) (callsFrom (g .book) 0 (countAt (g .book))) = ei ∙ ap (λ (k : ℕ). firstUnlisted (g .entries) (callsFrom (g .book) 0 k)) en in
+          rw (le-ltb bad (g .count) sound, none, ← is, ← en, lt-ltb i n h) refl
+
+      pub listed : (n i : ℕ) → n ≡ countAt (g .book) → i ≡ firstUnlisted (g .entries) (callsFrom (g .book) 0 n) → n ≤ i
+          → earnedMonth (g .entries) (g .book) (earnings (g .entries) (g .book) (g .series) (g .lengths) (g .added)) ≡ settling g
+      unfolding settling callsOf
+      listed n i en ei h =
+          let is : i ≡ firstUnlisted (g .entries) (callsFrom (g .book) 0 (countAt (g .book))) = ei ∙ ap (λ (k : ℕ). firstUnlisted (g .entries) (callsFrom (g .book) 0 k)) en in
+          rw (le-ltb bad (g .count) sound, none, ← is, ← en, le-ltb i n h) refl

@@ -1,0 +1,51 @@
+use mathlib.Core.Path.{_∙_}
+use lib.ListN.{take}
+use Rattle.month.specs.Settling.{earnings}
+use Rattle.month.proofs.Settled.{earned-refused, earned-shared}
+use borrow.Author.Needs.{needs}
+use Rattle.month.proofs.earned_month.Statement.{statement}
+use Rattle.month.proofs.earned_month.Tie as tie
+
+members-earned-requires : tie.Need-members-earned-requires
+members-earned-requires c κs = search needs
+
+month-refused-requires : tie.Need-month-refused-requires
+month-refused-requires c κs = search needs
+
+returns : tie.Need-returns
+returns c =
+    let a = c .before .before .before .before .before .args in
+    let es = take (a .count) (a .entries) in
+    let e = c .before .before .members-earned .ensures .refusal (c .before .if1 .taken) in
+    c .month-refused .ensures ∙ earned-refused es (a .book .now) (earnings es (a .book .now) (a .series .now) (a .lengths) (a .added)) (c .before .before .members-earned .result .fault) (e .0) (e .1)
+
+compensations-requires : tie.Need-compensations-requires
+compensations-requires c κs = search needs
+
+lines-for-requires : tie.Need-lines-for-requires
+lines-for-requires c κs = search needs
+
+shared-month-requires : tie.Need-shared-month-requires
+shared-month-requires c κs = search needs
+
+returns-2 : tie.Need-returns-2
+returns-2 c =
+    let a = c .before .before .before .before .before .before .before .before .args in
+    let es = take (a .count) (a .entries) in
+    let m = c .before .before .before .before .before .members-earned in
+    let e = m .ensures .each (c .before .before .before .before .if1 .left) in
+    c .shared-month .ensures
+    ∙ earned-shared (a .entries) (a .book .now) (earnings es (a .book .now) (a .series .now) (a .lengths) (a .added)) (a .count) (m .result .grains)
+    (c .before .before .compensations .result) (c .before .lines-for .result) (e .0) (e .1) (c .before .before .compensations .ensures) (c .before .lines-for .ensures)
+
+pub earned-month-spec : {M : Type 1} → statement M
+earned-month-spec =
+    tie.close
+    (tie.spec
+    members-earned-requires
+    month-refused-requires
+    returns
+    compensations-requires
+    lines-for-requires
+    shared-month-requires
+    returns-2)

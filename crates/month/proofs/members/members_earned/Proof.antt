@@ -1,0 +1,149 @@
+use mathlib.Core.Path.{_≡_, refl, sym, _∙_}
+use Prim.Native.Nat.{_-_, _≤_}
+use native.Mathlib.Omega.{arith}
+use lib.ListN.{length, take, length-set}
+use lib.Seq.{length-take-le}
+use mathlib.Core.Bool.{true≢false}
+use Rattle.month.proofs.Walking.{Walk, walk-start, walk-on, walk-stop, walk-end, turn-is, cut-take}
+use borrow.Author.Needs.{needs}
+use Rattle.month.proofs.members.members_earned.Statement.{statement}
+use Rattle.month.proofs.members.members_earned.Tie as tie
+
+abbrev Inv-loop : tie.InvT-loop
+Inv-loop count book series entries lengths added grains₀ at₀ i₀ grains at i = (i ≤ count) × (length grains ≡ 64) × Walk (take count entries) book series lengths added grains at i
+
+abbrev μ-loop : tie.MeasureT-loop
+μ-loop count book series entries lengths added grains₀ at₀ i₀ grains at i = count - i
+
+no-grains-requires : tie.Need-no-grains-requires Inv-loop μ-loop
+no-grains-requires c κs = search needs
+
+loop-holds : tie.Need-loop-holds Inv-loop μ-loop
+loop-holds c = (omega arith, c .no-grains .ensures, walk-start _ _ _ _ _ _)
+
+mul-part-end : tie.Need-mul-part-end Inv-loop μ-loop
+mul-part-end c = omega arith
+
+array-read-part-end : tie.Need-array-read-part-end Inv-loop μ-loop
+array-read-part-end c = omega arith
+
+part-end-requires : tie.Need-part-end-requires Inv-loop μ-loop
+part-end-requires c κs = c .before .loop .inv .2 .within
+
+mul-e : tie.Need-mul-e Inv-loop μ-loop
+mul-e c = omega arith
+
+array-copy-out-e : tie.Need-array-copy-out-e Inv-loop μ-loop
+array-copy-out-e c = omega arith
+
+mul-member-earned : tie.Need-mul-member-earned Inv-loop μ-loop
+mul-member-earned c = search needs
+
+sub-member-earned : tie.Need-sub-member-earned Inv-loop μ-loop
+sub-member-earned c = search needs
+
+part-member-earned-start : tie.Need-part-member-earned-start Inv-loop μ-loop
+part-member-earned-start c = search needs
+
+part-member-earned-end : tie.Need-part-member-earned-end Inv-loop μ-loop
+part-member-earned-end c = search needs
+
+mul-member-earned-2 : tie.Need-mul-member-earned-2 Inv-loop μ-loop
+mul-member-earned-2 c = omega arith
+
+array-copy-out-member-earned : tie.Need-array-copy-out-member-earned Inv-loop μ-loop
+array-copy-out-member-earned c = omega arith
+
+member-earned-requires : tie.Need-member-earned-requires Inv-loop μ-loop
+member-earned-requires c κs = search needs
+
+enum-known-earned : tie.Need-enum-known-earned Inv-loop μ-loop
+enum-known-earned c = search needs
+
+mul-grains : tie.Need-mul-grains Inv-loop μ-loop
+mul-grains c = omega arith
+
+array-set-from-grains : tie.Need-array-set-from-grains Inv-loop μ-loop
+array-set-from-grains c = omega arith
+
+enum-known-earned-2 : tie.Need-enum-known-earned-2 Inv-loop μ-loop
+enum-known-earned-2 c = search needs
+
+returns : tie.Need-returns Inv-loop μ-loop
+returns c =
+    let l = c .before .before .before .before .before .before .before .before .before .loop in
+    let a = c .before .before .before .before .before .before .before .before .before .before .before .before .before .args in
+    let all : length (a .t1) ≡ 64 = search needs in
+    let long = length-take-le (a .count) (a .t1) (omega arith) in
+    let turned = c .before .before .before in
+    let end = c .before .before .before .before .before .before .before .part-end in
+    let own = cut-take (a .series .now) (l .at) _ (end .result) (l .inv .2 .within) (end .ensures .0) in
+    let t =
+    turn-is (take (a .count) (a .t1)) (a .book .now) (a .series .now) (a .t5) (a .t6) (a .t1) (a .count) (l .at) (l .i) _ (turned .member-earned .result) refl
+    (omega arith) own (turned .member-earned .ensures) in
+    let stop =
+    walk-stop (take (a .count) (a .t1)) (a .book .now) (a .series .now) (a .t5) (a .t6) (l .grains) (l .at) (l .i) (l .inv .2) (omega arith) _ _
+    (t ∙ c .before .earned2 .given .1) in
+    record { refusal = λ e. stop; each = λ e. absurd (true≢false e) }
+
+add-i : tie.Need-add-i Inv-loop μ-loop
+add-i c = omega arith
+
+loop-less : tie.Need-loop-less Inv-loop μ-loop
+loop-less c = omega arith
+
+loop-again : tie.Need-loop-again Inv-loop μ-loop
+loop-again c =
+    let l = c .before .before .before .before .before .before .before .before .before .loop in
+    let a = c .before .before .before .before .before .before .before .before .before .before .before .before .before .args in
+    let all : length (a .t1) ≡ 64 = search needs in
+    let long = length-take-le (a .count) (a .t1) (omega arith) in
+    let turned = c .before .before .before in
+    let end = c .before .before .before .before .before .before .before .part-end in
+    let own = cut-take (a .series .now) (l .at) _ (end .result) (l .inv .2 .within) (end .ensures .0) in
+    let t =
+    turn-is (take (a .count) (a .t1)) (a .book .now) (a .series .now) (a .t5) (a .t6) (a .t1) (a .count) (l .at) (l .i) _ (turned .member-earned .result) refl
+    (omega arith) own (turned .member-earned .ensures) in
+    let on =
+    walk-on (take (a .count) (a .t1)) (a .book .now) (a .series .now) (a .t5) (a .t6) (l .grains) (l .at) (l .i) (l .inv .2) (omega arith) _ (end .result) _ refl
+    (end .ensures .0) (end .ensures .2) (omega (arith, l .inv .1)) (t ∙ c .before .earned .given .1) in
+    (omega arith, simp length-set (l .inv .1), on)
+
+returns-2 : tie.Need-returns-2 Inv-loop μ-loop
+returns-2 c =
+    let l = c .before .loop in
+    let a = c .before .before .before .before .before .args in
+    let long : length (a .t1) ≡ 64 = search needs in
+    let e : l .i ≡ a .count = omega arith in
+    let done = walk-end (take (a .count) (a .t1)) (a .book .now) (a .series .now) (a .t5) (a .t6) (l .grains) (l .at) (l .i) (l .inv .2) (e ∙ sym (length-take-le (a .count) (a .t1) (omega arith))) in
+    record { refusal = λ f. absurd (true≢false (sym f)); each = λ f. (done .0, rw e at (done .1)) }
+
+pub members-earned-spec : {M : Type 1} → statement M
+members-earned-spec =
+    tie.close
+    (tie.spec
+    Inv-loop
+    μ-loop
+    no-grains-requires
+    loop-holds
+    mul-part-end
+    array-read-part-end
+    part-end-requires
+    mul-e
+    array-copy-out-e
+    mul-member-earned
+    sub-member-earned
+    part-member-earned-start
+    part-member-earned-end
+    mul-member-earned-2
+    array-copy-out-member-earned
+    member-earned-requires
+    enum-known-earned
+    mul-grains
+    array-set-from-grains
+    enum-known-earned-2
+    returns
+    add-i
+    loop-less
+    loop-again
+    returns-2)

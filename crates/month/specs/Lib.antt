@@ -1,0 +1,4 @@
+pub mod Settling
+pub mod Outcomes
+pub mod Inner
+pub mod Lowered

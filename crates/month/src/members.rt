@@ -1,0 +1,113 @@
+// The members in turn: each one's grains over the book and its own part of the series.
+use crate::Fault;
+use pay::Member;
+use register::Entry;
+use register::MOST_ENTRIES;
+use score::answer::Earned;
+use score::grains_earned;
+use units::Fen;
+use units::Grains;
+ghost use mathlib.Core.Path.{_≡_};
+ghost use Prim.Native.Nat.{_+_, _-_, _≤_, min};
+ghost use lib.ListN.{length, take};
+ghost use Rattle.score.specs.Scoring.{grainsEarned};
+ghost use Rattle.register.specs.Register.{mostEntries};
+ghost use Rattle.month.specs.Settling.{earnedWith, earnings, compensations};
+ghost use Rattle.month.specs.Inner.{MembersEarned};
+
+// What the members earned: whether one is refused, and its refusal; else the grains of each.
+pub struct Members {
+    pub grains: [Grains; MOST_ENTRIES],
+    pub fault: Fault,
+    pub refused: bool,
+}
+
+fn no_grains() -> [Grains; MOST_ENTRIES]
+    ensures { λ r. ⌜ length r ≡ mostEntries ⌝ }
+{
+    [Grains(0); MOST_ENTRIES]
+}
+
+fn no_fens() -> [Fen; MOST_ENTRIES]
+    ensures { λ r. ⌜ length r ≡ mostEntries ⌝ }
+{
+    [Fen(0); MOST_ENTRIES]
+}
+
+// Where the part of a member ends that begins at `at` and has so many values, of so many in all.
+fn part_end(at: usize, values: usize, all: usize) -> usize
+    requires { ⌜ at ≤ all ⌝ }
+    ensures { λ r. ⌜ (r ≡ at + min values (all - at)) × (at ≤ r) × (r ≤ all) ⌝ }
+{
+    let left = all - at;
+    if values < left { at + values } else { all }
+}
+
+// What a member earns over its series, and what is added to it; a refusal stays.
+fn member_earned(member: Member, book: &[u8], series: &[u32], added: Grains) -> Earned
+    ensures { λ r. ⌜ r ≡ earnedWith (grainsEarned member (now (book .entry)) (now (series .entry))) added ⌝ }
+{
+    let earned = grains_earned(member, book, series);
+    match earned {
+        Earned::Accepted(g) => {
+            let sum = g.plus(added);
+            Earned::Accepted(sum)
+        }
+        Earned::Refused(number, place) => Earned::Refused(number, place),
+    }
+}
+
+// The members in turn, each with the next so many values of the series.
+pub fn members_earned(
+    entries: [Entry; MOST_ENTRIES],
+    count: usize,
+    book: &[u8],
+    series: &[u32],
+    lengths: [usize; MOST_ENTRIES],
+    added: [Grains; MOST_ENTRIES],
+) -> Members
+    requires { ⌜ count ≤ mostEntries ⌝ }
+    ensures { λ r. ⌜ MembersEarned (earnings (take count entries) (now (book .entry)) (now (series .entry)) lengths added) count r ⌝ }
+{
+    let mut grains = no_grains();
+    let mut at: usize = 0;
+    let mut i: usize = 0;
+    while i < count {
+        let end = part_end(at, lengths[i], series.len());
+        let e = entries[i];
+        let earned = member_earned(e.member, book, &series[at..end], added[i]);
+        match earned {
+            Earned::Accepted(g) => {
+                grains[i] = g;
+            }
+            Earned::Refused(number, place) => {
+                return Members {
+                    grains,
+                    fault: Fault::OfMember(i, number, place),
+                    refused: true,
+                };
+            }
+        }
+        at = end;
+        i += 1;
+    }
+    Members {
+        grains,
+        fault: Fault::NoFault,
+        refused: false,
+    }
+}
+
+// The fen of grains, once for each member: the compensations.
+pub fn compensations(grains: [Grains; MOST_ENTRIES]) -> [Fen; MOST_ENTRIES]
+    ensures { λ r. ⌜ r ≡ compensations grains ⌝ }
+{
+    let mut fens = no_fens();
+    let mut i: usize = 0;
+    while i < MOST_ENTRIES {
+        let g = grains[i];
+        fens[i] = g.to_fen();
+        i += 1;
+    }
+    fens
+}

@@ -1,0 +1,41 @@
+use mathlib.Core.Path.{ap₂}
+use mathlib.Core.Bool.{_&&_}
+use Rattle.share.specs.Sharing.{lineIsSound}
+use Rattle.register.specs.Register.{entryIsSound, entryLine}
+use borrow.Author.Needs.{needs}
+use Rattle.register.proofs.Entry.is_sound.Statement.{statement}
+use Rattle.register.proofs.Entry.is_sound.Tie as tie
+
+cast-numbers-are-sound : tie.Need-cast-numbers-are-sound
+cast-numbers-are-sound c = search needs
+
+cast-numbers-are-sound-2 : tie.Need-cast-numbers-are-sound-2
+cast-numbers-are-sound-2 c = search needs
+
+cast-numbers-are-sound-3 : tie.Need-cast-numbers-are-sound-3
+cast-numbers-are-sound-3 c = search needs
+
+cast-numbers-are-sound-4 : tie.Need-cast-numbers-are-sound-4
+cast-numbers-are-sound-4 c = search needs
+
+numbers-are-sound-requires : tie.Need-numbers-are-sound-requires
+numbers-are-sound-requires c κs = search needs
+
+is-sound-requires : tie.Need-is-sound-requires
+is-sound-requires c κs = search needs
+
+returns : tie.Need-returns
+unfolding entryIsSound entryLine lineIsSound
+returns c = ap₂ _&&_ (c .is-sound .ensures) (c .before .numbers-are-sound .ensures)
+
+pub is-sound-spec : {M : Type 1} → statement M
+is-sound-spec =
+    tie.close
+    (tie.spec
+    cast-numbers-are-sound
+    cast-numbers-are-sound-2
+    cast-numbers-are-sound-3
+    cast-numbers-are-sound-4
+    numbers-are-sound-requires
+    is-sound-requires
+    returns)
