@@ -70,6 +70,13 @@ pub fn path(i: usize, buf: &mut [u8]) -> Held {
     Held::Bytes(n)
 }
 
+// Whether argument i is `-`: no file.
+pub fn is_none(i: usize) -> bool {
+    let mut buf = io::buffer();
+    let n = os::arg(i, &mut buf);
+    (n == 1) & (buf[0] == b'-')
+}
+
 fn read_number(i: usize) -> Told {
     let mut buf = io::buffer();
     let n = os::arg(i, &mut buf);

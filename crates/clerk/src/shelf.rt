@@ -38,13 +38,26 @@ pub fn save(i: usize, bytes: &[u8]) -> bool {
     let Held::Bytes(n) = path(i, &mut buf) else {
         return false;
     };
-    store(first(&buf, n), bytes)
+    let path = first(&buf, n);
+    told(path, files::store(path, bytes))
 }
 
-fn store(path: &[u8], bytes: &[u8]) -> bool {
-    match files::store(path, bytes) {
+// The bytes as a new file that argument i names; one that is there already stands.
+pub fn save_new(i: usize, bytes: &[u8]) -> bool {
+    let mut buf = io::buffer();
+    let Held::Bytes(n) = path(i, &mut buf) else {
+        return false;
+    };
+    let path = first(&buf, n);
+    told(path, files::store_new(path, bytes))
+}
+
+// Whether it was done. Where not, one line says why.
+fn told(path: &[u8], stored: Stored) -> bool {
+    match stored {
         Stored::Done => return true,
         Stored::BadName => print::failed(path, b"too long a name to write beside it"),
+        Stored::Taken => print::failed(path, b"is there already, and a statement stands"),
         Stored::NotMade => print::failed(path, b"no file can be made beside it"),
         Stored::NotWritten => print::failed(path, b"could not be written whole, and is as it was"),
         Stored::NotRenamed => print::failed(path, b"could not be replaced, and is as it was"),

@@ -120,6 +120,17 @@ pub fn join_all(from: usize, all: &mut [u8]) -> Held
     held
 }
 
+// Call i of a sound book.
+pub fn show_call(book: &[u8], i: usize) {
+    let o = header_of(book);
+    if o.number != 0 {
+        return;
+    }
+    if i < o.calls {
+        print::call(call_of(book, i));
+    }
+}
+
 // Whose month a sound book is of, and how many calls it has.
 pub fn tell_header(book: &[u8]) {
     let o = header_of(book);

@@ -1,7 +1,10 @@
 // The desk's day, on files: `desk help` says how.
 mod books;
 mod change;
-mod month;
+mod member;
+mod series;
+mod settle;
+mod why;
 
 use clerk::args::Held;
 use clerk::args::argument;
@@ -19,6 +22,7 @@ enum Command {
     Find,
     Score,
     Month,
+    Explain,
     Help,
     Unknown,
 }
@@ -71,8 +75,13 @@ fn rows(usage: bool, word: &[u8]) -> Command {
     if row(usage, word, b"score MEMBER KIND RATED BOOK SERIES", 7, 7) {
         return Command::Score;
     }
-    if row(usage, word, b"month REGISTER SERIES-FOLDER BOOK..", 5, MANY) {
+    let month = b"month STATEMENT REGISTER SERIES-FOLDER BOOK..";
+    if row(usage, word, month, 6, MANY) {
         return Command::Month;
+    }
+    let why = b"explain MEMBER REGISTER SERIES-FOLDER BOOK..";
+    if row(usage, word, why, 6, MANY) {
+        return Command::Explain;
     }
     if row(false, word, b"help", 2, 2) {
         return Command::Help;
@@ -115,8 +124,9 @@ fn run(word: &[u8]) {
         Command::Withdraw => change::withdraw(),
         Command::Join => books::join_books(),
         Command::Find => books::find_call(),
-        Command::Score => month::score_member(),
-        Command::Month => month::settle_month(),
+        Command::Score => member::score_member(),
+        Command::Month => settle::settle_month(),
+        Command::Explain => why::explain_member(),
         Command::Help => help(),
         Command::Unknown => unknown(),
     }

@@ -1,4 +1,4 @@
-// Whole files: read into a lent buffer, and written beside the target, then renamed over it.
+// Whole files: read into a lent buffer, and written beside the target, then renamed over it or, of a new file, to its name.
 ghost use mathlib.Core.Path.{_≡_};
 ghost use Prim.Native.Nat.{_+_, _≤_};
 ghost use lib.ListN.{length};
@@ -17,11 +17,12 @@ pub enum Loaded {
     Failed,
 }
 
-// What became of writing a file. Where it is not done, the target is as it was; `Unsure` alone says that the new file stands and its
+// What became of writing a file; `Taken`: a new file's name is that of another. Where it is not done, the target is as it was; `Unsure` alone says that the new file stands and its
 // folder could not be brought to the device.
 pub enum Stored {
     Done,
     BadName,
+    Taken,
     NotMade,
     NotWritten,
     NotRenamed,
@@ -182,4 +183,25 @@ pub fn store(path: &[u8], bytes: &[u8]) -> Stored {
     temp_name(path, &mut name);
     let end = n + BEHIND;
     store_by(path, &mut name[..end], bytes)
+}
+
+// Whether a path names anything.
+fn is_taken(path: &[u8]) -> bool
+    requires { ⌜ length (now path) ≤ 4095 ⌝ }
+{
+    let mut name = io::buffer();
+    bytes::copy(path, &mut name);
+    name[libc::PATH_MAX - 1] = 0;
+    libc::access(&name, libc::F_OK) == 0
+}
+
+// The bytes as a new file: a path that names something already keeps it.
+pub fn store_new(path: &[u8], bytes: &[u8]) -> Stored {
+    if MOST_NAME < path.len() {
+        return Stored::BadName;
+    }
+    if is_taken(path) {
+        return Stored::Taken;
+    }
+    store(path, bytes)
 }

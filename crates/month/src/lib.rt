@@ -9,6 +9,7 @@ use register::first_bad_entry;
 use register::lines_for;
 use share::Line;
 use share::array::seen;
+use share::lent::share_front;
 use units::Fen;
 use units::Grains;
 use units::Mwh;
@@ -96,7 +97,7 @@ fn shared_month(
     requires { ⌜ count ≤ mostEntries ⌝ }
     ensures { λ r. ⌜ r ≡ sharedMonth (now (book .entry)) (take count lines) (take count grains) (sharing (take count lines)) ⌝ }
 {
-    let shared = share::share(lines, count);
+    let shared = share_front(lines, count);
     let number = shared.number;
     if number != 0 {
         return month_refused(Fault::InSharing(number, shared.place));

@@ -17,9 +17,10 @@ use Rattle.row.proofs.Judging.{Lawful}
 use Rattle.share.specs.Sharing.{lineIsSound, mostNumber, mostStatus, mostEnergy, mostAssessment}
 use Rattle.pay.specs.Member.{memberIsSound}
 use Rattle.tables.specs.declared.cells.Cells.{Cells}
-use Rattle.tables.specs.declared.register.Entry.{Entry}
+use Rattle.register.specs.declared.Entry.{Entry}
 use Rattle.tables.specs.Table.{comma}
-use Rattle.tables.specs.Register.{asEntry, blankEntry, entryLine, entryIsSound, registerEntries}
+use Rattle.register.specs.Register.{blankEntry, entryLine, entryIsSound}
+use Rattle.tables.specs.Register.{asEntry, registerEntries}
 use Rattle.tables.specs.Meaning.{sixOf, fairEntry, entryIn}
 use Rattle.tables.proofs.Reading.{end-cells}
 
@@ -56,7 +57,6 @@ sound-is b e = go (leb 1 (e .member .number)) (leb (e .member .number) 64) (leb 
     go true true k c p q b s e a = once true true (k && c && p && q) b s e a
 
 pub lawful : Lawful registerEntries
-unfolding asEntry
 lawful =
     record {
       within = λ e. within e;
@@ -122,9 +122,6 @@ pub entry-whole : (cells : Cells) (five : List ℕ) (v : ℕ) → isRow 5 (cells
     → fairEntry (asEntry (sixOf five v)) ≡ entryIn cells
 entry-whole cells five v h f e = let six = end-cells 5 cells ∙ whole-row comma 5 (cells .row) v h e in rw (six, f)
 
-blank-beyond : within blankEntry ≡ false
-unfolding asEntry
-blank-beyond = refl
-
 pub entry-none : (cells : Cells) → isRow 5 (cells .row) [] [] ≡ false → blankEntry ≡ entryIn cells
-entry-none cells h = rw (end-cells 5 cells ∙ none-row comma 5 (cells .row) h) (sym (fair-by false blankEntry blank-beyond))
+unfolding asEntry
+entry-none cells h = rw (end-cells 5 cells ∙ none-row comma 5 (cells .row) h) (sym (fair-by false blankEntry refl))

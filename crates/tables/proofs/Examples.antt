@@ -1,4 +1,4 @@
--- Texts and what is read of them: a register, a series, a number, and the edges of a line. They show that the definitions are about something.
+-- Texts and what is read of them: a register, a series, a number, and the edges of a line. They show that the definitions are about something. Assumes nothing.
 use mathlib.Core.Path.{_≡_, refl}
 use mathlib.Core.Bool.{Bool, true, false, _&&_}
 use mathlib.Core.List.{List, [], _∷_, _++_}
@@ -8,11 +8,12 @@ use Rattle.row.specs.Numbers.{numbersIn, numbersOf}
 use Rattle.row.specs.Judging.{filledUp, allTaken, judged}
 use Rattle.share.specs.Sharing.{lineIsSound}
 use Rattle.pay.specs.Member.{memberIsSound}
-use Rattle.tables.specs.declared.register.Entry.{Entry}
-use Rattle.tables.specs.declared.register.Register.{Register}
+use Rattle.register.specs.declared.Entry.{Entry}
+use Rattle.tables.specs.declared.roll.Register.{Register}
 use Rattle.tables.specs.declared.Told.the-variants.{Number, Nothing}
 use Rattle.tables.specs.Table.{rowOf, toldOf}
-use Rattle.tables.specs.Register.{asEntry, entryLine, entryIsSound, entriesOf, registerEntries, readRegister}
+use Rattle.register.specs.Register.{entryLine, entryIsSound}
+use Rattle.tables.specs.Register.{asEntry, entriesOf, registerEntries, readRegister}
 use Rattle.tables.specs.Series.{outputOf, seriesOf, filledWith}
 
 -- Registers

@@ -7,8 +7,8 @@ use lib.ListN.{length, getD, drop}
 use Rattle.row.specs.Numbers.{linesOf}
 use Rattle.row.specs.Judging.{judged}
 use Rattle.tables.specs.declared.cells.Cells.{Cells}
-use Rattle.tables.specs.declared.register.Entry.{Entry}
-use Rattle.tables.specs.declared.register.Roll.{Roll}
+use Rattle.register.specs.declared.Entry.{Entry}
+use Rattle.tables.specs.declared.roll.Roll.{Roll}
 use Rattle.tables.specs.Table.{rowOf}
 use Rattle.tables.specs.Register.{asEntry, registerColumns, entriesOf, registerEntries, readRegister}
 use Rattle.tables.specs.Meaning.{cellsIsBegun, CellsFresh, CellsFollow, entryNumbers, entriesLeft, rollOutcome}

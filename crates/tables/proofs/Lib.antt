@@ -5,6 +5,5 @@ pub mod Names
 pub mod Filling
 pub mod Entries
 pub mod Judging
-pub mod Sharing
 pub mod Promises
 pub mod Examples

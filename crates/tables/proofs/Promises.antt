@@ -1,34 +1,30 @@
--- What reading a table promises: which lines are good, that a register is its lines in turn, and that no contract leaves a choice.
+-- What reading a table promises: which lines are good, that a register is its lines in turn, and that no contract leaves a choice. Assumes nothing.
 use mathlib.Core.Path.{_≡_, refl, ap, sym, _∙_}
 use mathlib.Core.Bool.{Bool, true, false, cond, _&&_}
 use mathlib.Core.List.{List, [], _∷_, _++_, map}
-use mathlib.Core.Logic.{_≢_}
-use Prim.Native.Nat.{ℕ, suc, min, _+_, _-_, _≤_, _<_}
+use Prim.Native.Nat.{ℕ, suc, min, _+_, _≤_, _<_}
 use native.Mathlib.Omega.{arith}
 use lib.Dec.{ltb, leb, eqb}
-use lib.IntN.{pos}
-use lib.ListN.{length, getD, take, drop, replicate, length-append, length-take, length-drop}
+use lib.ListN.{length, getD, take, drop, length-append, length-take, length-drop}
 use borrow.Author.Tests.{ltb-true, ltb-false, leb-true}
 use Rattle.le.proofs.Tests.{joined, each}
 use Rattle.row.specs.Numbers.{numbers, value, numbersIn, ceiling, hold, numbersOf}
 use Rattle.row.proofs.Texts.{by-parts}
 use Rattle.row.proofs.Held.{capped, at-least-one, held-at}
-use Rattle.row.specs.Judging.{filledUp, refusedAt, allTaken, firstUnsound}
+use Rattle.row.specs.Judging.{refusedAt, allTaken, firstUnsound}
 use Rattle.row.proofs.Judging.{sound-number, blank-bad, lowest-unsound, every-sound, after-most}
+use Rattle.share.specs.Sharing.{mostNumber, mostStatus, mostEnergy, mostAssessment}
 use Rattle.units.specs.declared.Fen.{Fen}
 use Rattle.share.specs.declared.Line.{Line}
-use Rattle.share.specs.declared.Shared.{Shared}
-use Rattle.share.specs.Sharing.{sharing, mostNumber, mostStatus, mostEnergy, mostAssessment}
-use Rattle.share.specs.Forms.{blankLine, arrayOf, nothingShared, sharingCounted, sharedArray}
-use Rattle.share.proofs.Counted.{counted-few}
+use Rattle.register.specs.declared.Entry.{Entry}
+use Rattle.register.specs.Register.{entryLine, entryIsSound, firstBadEntry}
 use Rattle.tables.specs.declared.Told.{Told}
-use Rattle.tables.specs.declared.register.Entry.{Entry}
-use Rattle.tables.specs.declared.register.Register.{Register}
+use Rattle.tables.specs.declared.roll.Register.{Register}
 use Rattle.tables.specs.Table.{plain, cellsOf, rowOf, toldOf}
-use Rattle.tables.specs.Register.{asEntry, blankEntry, entryLine, entryIsSound, entriesOf, registerEntries, readRegister, linesFor, registerStatement}
+use Rattle.tables.specs.Register.{asEntry, entriesOf, registerEntries, readRegister}
 use Rattle.tables.specs.Series.{Filled, noOutput, outputOf, seriesOf, filledWith}
+use Rattle.register.proofs.Entries.{bad-le}
 use Rattle.tables.proofs.Entries.{bounds, within, sound-is, lawful}
-use Rattle.tables.proofs.Sharing.{length-lines, statement-no}
 
 -- Two outcomes that a contract allows are one
 
@@ -49,10 +45,6 @@ series-determined before text after other n m e f =
 -- an entry and a compensation have one sharing line
 pub line-determined : (e : Entry) (fen : Fen) (l k : Line) → l ≡ entryLine e fen → k ≡ entryLine e fen → l ≡ k
 line-determined e fen l k p q = p ∙ sym q
-
--- a register and its members' compensations have one statement
-pub statement-determined : (r : Register) (fens : List Fen) (s t : Shared) → s ≡ registerStatement r fens → t ≡ registerStatement r fens → s ≡ t
-statement-determined r fens s t e f = e ∙ sym f
 
 -- a count of outputs is one of the list that was lent
 pub series-fits : (before vs after : List ℕ) (n : ℕ) → _≡_ {A = Filled} (record { count = n; values = after }) (filledWith before vs) → n ≤ length after
@@ -155,7 +147,7 @@ entry-as-written before l h =
 
 -- A line that is not six numbers is never sound.
 pub bad-line : (before : ℕ) (l : List ℕ) → isRowOf 6 l ≡ false → entryIsSound before (asEntry (rowOf 6 l)) ≡ false
-unfolding rowOf numbersOf numbersIn
+unfolding asEntry rowOf numbersOf numbersIn
 bad-line before l h = rw h (blank-bad registerEntries lawful before)
 
 -- Registers
@@ -210,30 +202,20 @@ register-at-most-64 text h = go (ltb (firstUnsound registerEntries 0 (entriesOf 
         let s = sound-rising 0 (entriesOf text) (omega arith) all in
         (all-taken text all, omega (arith, s .0), s .1)
 
--- The statement
+first-bad : (before : ℕ) (es : List Entry) → firstUnsound registerEntries before es ≡ firstBadEntry before es
+first-bad before [] = refl
+first-bad before (e ∷ es) = ap (λ (n : ℕ). cond (entryIsSound before e) (suc n) 0) (first-bad (e .member .number) es)
 
-first-lines : (es xs : List Entry) (fens : List Fen) → take (length es) (linesFor (es ++ xs) fens) ≡ linesFor es fens
-first-lines [] xs fens = refl
-first-lines (e ∷ es) xs fens = ap (λ (ls : List Line). entryLine e (getD fens 0 (record { 0 = 0 })) ∷ ls) (first-lines es xs (drop 1 fens))
+-- A REGISTER'S TEXT IS JUDGED AS THE MONTH JUDGES ENTRIES: the line that is refused is the first bad entry, and a text that is accepted has none.
+pub judged-as-entries : (text : List ℕ) → firstUnsound registerEntries 0 (entriesOf text) ≡ firstBadEntry 0 (entriesOf text)
+judged-as-entries text = first-bad 0 (entriesOf text)
 
-counted-lines : (es : List Entry) (fens : List Fen) → sharingCounted (linesFor (filledUp registerEntries es) fens) (length es) ≡ sharing (linesFor es fens)
-unfolding filledUp
-counted-lines es fens =
-    let xs = replicate (mostNumber - length es) blankEntry in
-    counted-few (linesFor (es ++ xs) fens) (length es) (omega (arith, length-lines (es ++ xs) fens, length-append es xs)) ∙ ap sharing (first-lines es xs fens)
-
-statement-all : (es : List Entry) (fens : List Fen)
-    → registerStatement (allTaken registerEntries es) fens ≡ arrayOf (linesFor (filledUp registerEntries es) fens) (sharing (linesFor es fens))
-unfolding registerStatement sharedArray
-statement-all es fens = ap (arrayOf (linesFor (filledUp registerEntries es) fens)) (counted-lines es fens)
-
--- THE STATEMENT OF A REGISTER that is accepted is the sharing of its lines, each with its member's compensation.
-pub statement-shared : (text : List ℕ) (fens : List Fen) → readRegister text .number ≡ 0
-    → registerStatement (readRegister text) fens ≡ arrayOf (linesFor (readRegister text .entries) fens) (sharing (linesFor (entriesOf text) fens))
-statement-shared text fens h = rw (register-at-most-64 text h .0) (statement-all (entriesOf text) fens)
-
--- Of a register that was refused it is that refusal, whatever the members are compensated: number and place, no gap, and no line.
-pub statement-refused : (r : Register) (fens : List Fen) → r .number ≢ 0
-    → registerStatement r fens ≡ record { number = r .number; place = r .place; gap = record { 0 = pos 0 }; lines = replicate 64 blankLine }
-unfolding nothingShared
-statement-refused r fens h = sym (statement-no r fens h)
+pub accepted-none-bad : (text : List ℕ) → readRegister text .number ≡ 0 → firstBadEntry 0 (entriesOf text) ≡ length (entriesOf text)
+accepted-none-bad text h = go (ltb (firstBadEntry 0 (entriesOf text)) (length (entriesOf text))) refl
+  where
+    go : (t : Bool) → ltb (firstBadEntry 0 (entriesOf text)) (length (entriesOf text)) ≡ t → firstBadEntry 0 (entriesOf text) ≡ length (entriesOf text)
+    go true e =
+        let ten : readRegister text .number ≡ 10 =
+        ap (λ (r : Register). r .number) (lowest-bad text (omega (arith, ltb-true (firstBadEntry 0 (entriesOf text)) (length (entriesOf text)) e, judged-as-entries text))) in
+        absurd (omega arith)
+    go false e = omega (arith, ltb-false (firstBadEntry 0 (entriesOf text)) (length (entriesOf text)) e, bad-le 0 (entriesOf text))

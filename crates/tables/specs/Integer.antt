@@ -28,7 +28,7 @@ unfoldable pub withSign : Told → Bool → ToldInteger
 withSign (Number size) isBelow = cond (ltb mostInteger size) NoInteger (Integer (signedAs isBelow size))
 withSign Nothing isBelow = NoInteger
 
--- what a text says: `-` and a number is one below zero, a number alone is one above, anything else is none
+-- what a text says: a number behind `-` is below zero, a number alone is itself, and anything else is none
 unfoldable pub integerOf : List ℕ → ToldInteger
 integerOf [] = NoInteger
 integerOf (b ∷ bs) = cond (eqb b minus) (withSign (toldOf (rowOf 1 bs)) true) (withSign (toldOf (rowOf 1 (b ∷ bs))) false)

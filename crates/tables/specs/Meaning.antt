@@ -11,9 +11,9 @@ use Rattle.row.specs.Meaning.{rowIsBegun, rowNumbers}
 use Rattle.row.specs.Inner.{fairBy, SoFar, judgedOn, leftFrom}
 use Rattle.tables.specs.declared.cells.Cells.{Cells}
 use Rattle.tables.specs.declared.Told.{Told}
-use Rattle.tables.specs.declared.register.Entry.{Entry}
-use Rattle.tables.specs.declared.register.Register.{Register}
-use Rattle.tables.specs.declared.register.Roll.{Roll}
+use Rattle.register.specs.declared.Entry.{Entry}
+use Rattle.tables.specs.declared.roll.Register.{Register}
+use Rattle.tables.specs.declared.roll.Roll.{Roll}
 use Rattle.tables.specs.Table.{comma, plain, rowOf, toldOf}
 use Rattle.tables.specs.Register.{registerColumns, asEntry, registerEntries}
 use Rattle.tables.specs.Series.{Filled, outputOf}

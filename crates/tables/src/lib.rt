@@ -1,6 +1,6 @@
 // Texts that a spreadsheet saves: a register, a series, a number, with or without a sign.
 mod cells;
-pub mod register;
+pub mod roll;
 pub mod series;
 
 use cells::Cells;

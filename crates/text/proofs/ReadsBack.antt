@@ -11,10 +11,10 @@ use lib.ListN.{take}
 use Rattle.row.specs.Numbers.{lineFeed, linesOf, partsOf, value, onto}
 use Rattle.share.specs.declared.Line.{Line}
 use Rattle.share.specs.declared.Shared.{Shared}
-use Rattle.text.specs.Decimal.{word, digit, decimalIn, decimal, signedDecimal}
+use Rattle.render.specs.Decimal.{word, digit, decimalIn, decimal, signedDecimal}
 use Rattle.text.specs.Reading.{blankByte, minus, wordNumber, rowsOf, readRows, readNumbers, lineNumbers}
 use Rattle.text.specs.Texts.{refusalText, refusedText, totalText, lineText, linesText, statementText}
-use Rattle.text.proofs.Decimals.{small, none-left, large}
+use Rattle.render.proofs.Decimals.{small, none-left, large}
 use Rattle.text.proofs.Statements.{append-none, accepted-text, refusal-text}
 
 -- Numbers

@@ -8,7 +8,7 @@ use native.Mathlib.Omega.{arith}
 use borrow.Author.Tests.{eq-eqb, ne-eqb}
 use lib.ListN.{length}
 use Rattle.call.specs.declared.Call.{Call}
-use Rattle.text.specs.Decimal.{word}
+use Rattle.render.specs.Decimal.{word}
 use Rattle.text.specs.Texts.{whatText, whichText, stateText, serviceText, timeText, termsText, detailsText}
 
 pub withdrawn-text : (s : ℕ) → s ≢ 0 → s ≢ 1 → word " withdrawn" ≡ stateText s

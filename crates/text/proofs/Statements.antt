@@ -12,9 +12,9 @@ use lib.ListN.{length, getD, take}
 use lib.Seq.{take-suc, take-all}
 use Rattle.share.specs.declared.Line.{Line}
 use Rattle.share.specs.declared.Shared.{Shared}
-use Rattle.text.specs.Inner.{Puts}
+use Rattle.render.specs.Inner.{Puts}
 use Rattle.text.specs.Texts.{refusedText, totalText, lineText, linesText, statementText}
-use Rattle.text.proofs.Placed.{and-then, looser, same-put, none-put}
+use Rattle.render.proofs.Placed.{and-then, looser, same-put, none-put}
 
 pub append-none : (xs : List ℕ) → xs ++ [] ≡ xs
 append-none [] = refl

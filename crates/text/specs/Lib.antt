@@ -1,5 +1,3 @@
-pub mod Decimal
 pub mod Texts
 pub mod Reading
 pub mod Room
-pub mod Inner

@@ -1,17 +1,8 @@
--- How much room a text takes, and what a lent buffer holds after it. Assumes nothing.
-use mathlib.Core.Path.{_≡_}
-use mathlib.Core.Bool.{cond}
-use mathlib.Core.List.{List, []}
+-- How much room a text takes: its words, and 20 bytes for each number. Assumes nothing.
+use mathlib.Core.List.{List}
 use Prim.Native.Nat.{ℕ, _+_, _*_}
-use lib.Dec.{leb}
 use lib.ListN.{length}
-use Rattle.le.specs.Le.{Stores}
-
--- The most bytes of a text: its words, and 20 for each number
-
--- a number of 64 bits, its sign included
-abbrev pub mostDecimal : ℕ
-mostDecimal = 20
+use Rattle.render.specs.Room.{mostDecimal}
 
 -- `refused `, a number, a blank, a number
 abbrev pub mostRefusal : ℕ
@@ -73,27 +64,3 @@ mostHeader = 26 + 4 * mostDecimal
 
 abbrev pub mostScore : ℕ
 mostScore = 13 + 2 * mostDecimal
-
--- `member `, ` grains `, ` fen ` and a line feed
-abbrev pub mostScored : ℕ
-mostScored = 21 + 3 * mostDecimal
-
--- `member `, ` share `, ` amount ` and a line feed
-abbrev pub mostShared : ℕ
-mostShared = 23 + 3 * mostDecimal
-
--- R, and the two lines of each of 64 members
-abbrev pub mostMonth : ℕ
-mostMonth = 64 * mostScored + mostTotal + 64 * mostShared
-
--- What is written
-
--- a text, or nothing where the buffer is shorter than the most bytes that such a text may have
-abbrev pub ifTextFits : ℕ → ℕ → List ℕ → List ℕ
-ifTextFits most room text = cond (leb most room) text []
-
--- the buffer as it was before and is after, and the answer: the text stands at its front, bytes behind it stay, the answer is how long
--- it is; where there is no room for every such text, nothing is written and the answer is 0
-pub record Renders (most : ℕ) (text before after : List ℕ) (answer : ℕ) : Type 0 where
-  pub long : answer ≡ length (ifTextFits most (length before) text)
-  pub bytes : Stores before 0 (ifTextFits most (length before) text) after

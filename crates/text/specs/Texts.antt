@@ -1,7 +1,7 @@
 -- What the programs print of an outcome, byte by byte. Assumes nothing.
 use mathlib.Core.Bool.{Bool, cond}
 use mathlib.Core.List.{List, [], _∷_, _++_}
-use Prim.Native.Nat.{ℕ, zero, suc}
+use Prim.Native.Nat.{ℕ}
 use lib.Dec.{eqb}
 use lib.IntN.{ℤ}
 use lib.ListN.{take, getD}
@@ -10,10 +10,7 @@ use Rattle.call.specs.declared.Call.{Call}
 use Rattle.call.specs.Revising.{live, contested}
 use Rattle.share.specs.declared.Line.{Line}
 use Rattle.share.specs.declared.Shared.{Shared}
-use Rattle.share.specs.Forms.{blankLine}
-use Rattle.units.specs.declared.Fen.{Fen}
-use Rattle.units.specs.declared.Grains.{Grains}
-use Rattle.text.specs.Decimal.{word, decimal, field, signedField}
+use Rattle.render.specs.Decimal.{word, decimal, field, signedField}
 
 -- Sharing
 
@@ -139,29 +136,3 @@ headerText h calls = dateText h ++ field " calls " calls ++ word "\n"
 -- a member's score
 unfoldable pub scoreText : ℕ → ℕ → List ℕ
 scoreText grains fen = field "grains " grains ++ field "\nfen " fen ++ word "\n"
-
--- The month
-
--- what a member was scored
-unfoldable pub scoredText : ℕ → ℕ → ℕ → List ℕ
-scoredText member grains fen = field "member " member ++ field " grains " grains ++ field " fen " fen ++ word "\n"
-
--- what a member carries and gets
-unfoldable pub sharedText : Line → List ℕ
-sharedText l = field "member " (l .number) ++ signedField " share " (l .share .0) ++ signedField " amount " (l .amount .0) ++ word "\n"
-
--- the scores of so many members, by their lines
-unfoldable pub scoresText : List Line → List Grains → List Fen → ℕ → List ℕ
-scoresText lines grains fens zero = []
-scoresText lines grains fens (suc n) =
-    scoresText lines grains fens n
-    ++ scoredText (getD lines n blankLine .number) (getD grains n (record { 0 = 0 }) .0) (getD fens n (record { 0 = 0 }) .0)
-
--- the shares and amounts of so many lines
-unfoldable pub sharesText : List Line → ℕ → List ℕ
-sharesText lines zero = []
-sharesText lines (suc n) = sharesText lines n ++ sharedText (getD lines n blankLine)
-
--- a month that was shared: the scores, R, and what each member carries and gets
-unfoldable pub monthText : Shared → List Grains → List Fen → ℕ → List ℕ
-monthText s grains fens count = scoresText (s .lines) grains fens count ++ totalText (s .gap .0) ++ sharesText (s .lines) count

@@ -1,6 +1,5 @@
 // What the programs print of an outcome, as bytes in a buffer that the caller lends; the caller then writes the text whole. Each function
 // answers how long its text is. It answers 0, and leaves the buffer alone, where that is shorter than the most bytes its text may have.
-pub mod month;
 mod put;
 pub mod record;
 pub mod sharing;

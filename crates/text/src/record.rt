@@ -1,18 +1,19 @@
 // What the desk prints of a call, a book's header and a member's score.
-use crate::put::put_field;
-use crate::put::put_signed_field32;
-use crate::put::put_word;
 use book::Header;
 use call::CONTESTED;
 use call::Call;
 use call::LIVE;
+use render::put_field;
+use render::put_signed_field32;
+use render::put_word;
 use units::Fen;
 use units::Grains;
 ghost use Prim.Native.Nat.{_+_, _≤_};
 ghost use lib.ListN.{length};
 ghost use Rattle.io.specs.Counts.{Counts};
-ghost use Rattle.text.specs.Inner.{Puts};
-ghost use Rattle.text.specs.Room.{Renders, mostCall, mostFound, mostHeader, mostScore};
+ghost use Rattle.render.specs.Inner.{Puts};
+ghost use Rattle.render.specs.Room.{Renders};
+ghost use Rattle.text.specs.Room.{mostCall, mostFound, mostHeader, mostScore};
 ghost use Rattle.text.specs.Texts.{stateText, serviceText, keyText, timeText, termsText, detailsText, callText, whichText, foundText, dateText, headerText, scoreText};
 
 // The most bytes of each.

@@ -1,9 +1,9 @@
 // What `statement` prints: R and the lines, or a refusal.
-use crate::put::put_decimal;
-use crate::put::put_money;
 use crate::put::put_refusal;
 use crate::put::put_total;
-use crate::put::put_word;
+use render::put_decimal;
+use render::put_money;
+use render::put_word;
 use share::Line;
 use share::Shared;
 use share::array::seen;
@@ -12,8 +12,9 @@ ghost use mathlib.Core.List.{_++_};
 ghost use Prim.Native.Nat.{_+_, _*_, _≤_};
 ghost use lib.ListN.{length, take};
 ghost use Rattle.io.specs.Counts.{Counts};
-ghost use Rattle.text.specs.Inner.{Puts};
-ghost use Rattle.text.specs.Room.{Renders, mostRefused, mostLine, mostStatement};
+ghost use Rattle.render.specs.Inner.{Puts};
+ghost use Rattle.render.specs.Room.{Renders};
+ghost use Rattle.text.specs.Room.{mostRefused, mostLine, mostStatement};
 ghost use Rattle.text.specs.Texts.{refusedText, totalText, lineText, linesText, statementText};
 
 // The most bytes of a refusal, and of a statement: 27 of R, and 63 for each of 64 lines.

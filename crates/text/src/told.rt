@@ -1,12 +1,13 @@
 // A refusal and what it is about; what failed, and why; an argument that is not taken; a remark; how a command is called.
-use crate::put::put_field;
 use crate::put::put_refusal;
-use crate::put::put_word;
+use render::put_field;
+use render::put_word;
 ghost use Prim.Native.Nat.{_+_, _≤_};
 ghost use lib.ListN.{length};
 ghost use Rattle.io.specs.Counts.{Counts};
-ghost use Rattle.text.specs.Inner.{Puts};
-ghost use Rattle.text.specs.Room.{Renders, mostRefusedAbout, mostFailed, mostArgument, mostBadArgument, mostNoNumber, mostNote, mostUsage};
+ghost use Rattle.render.specs.Inner.{Puts};
+ghost use Rattle.render.specs.Room.{Renders};
+ghost use Rattle.text.specs.Room.{mostRefusedAbout, mostFailed, mostArgument, mostBadArgument, mostNoNumber, mostNote, mostUsage};
 ghost use Rattle.text.specs.Texts.{whatText, refusedAboutText, failedText, argumentText, badArgumentText, noNumberText, noteText, usageText};
 
 // The most bytes of each, besides those of what is named.

@@ -1,5 +1,5 @@
 use Rattle.text.specs.Texts.{refusalText}
-use Rattle.text.proofs.Placed.{and-then}
+use Rattle.render.proofs.Placed.{and-then}
 use borrow.Author.Needs.{needs}
 use Rattle.text.proofs.put.put_refusal.Statement.{statement}
 use Rattle.text.proofs.put.put_refusal.Tie as tie

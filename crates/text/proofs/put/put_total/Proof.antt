@@ -1,5 +1,5 @@
 use Rattle.text.specs.Texts.{totalText}
-use Rattle.text.proofs.Placed.{and-then}
+use Rattle.render.proofs.Placed.{and-then}
 use borrow.Author.Needs.{needs}
 use Rattle.text.proofs.put.put_total.Statement.{statement}
 use Rattle.text.proofs.put.put_total.Tie as tie

@@ -1,5 +1,5 @@
 use Rattle.text.specs.Room.{mostFound}
-use Rattle.text.proofs.Placed.{no-room, rendered}
+use Rattle.render.proofs.Placed.{no-room, rendered}
 use borrow.Author.Needs.{needs}
 use Rattle.text.proofs.record.found_text.Statement.{statement}
 use Rattle.text.proofs.record.found_text.Tie as tie

@@ -1,5 +1,5 @@
 use Rattle.text.specs.Texts.{callText}
-use Rattle.text.proofs.Placed.{and-then}
+use Rattle.render.proofs.Placed.{and-then}
 use borrow.Author.Needs.{needs}
 use Rattle.text.proofs.record.put_call.Statement.{statement}
 use Rattle.text.proofs.record.put_call.Tie as tie

@@ -1,5 +1,5 @@
 use Rattle.text.specs.Texts.{dateText}
-use Rattle.text.proofs.Placed.{and-then}
+use Rattle.render.proofs.Placed.{and-then}
 use borrow.Author.Needs.{needs}
 use Rattle.text.proofs.record.put_date.Statement.{statement}
 use Rattle.text.proofs.record.put_date.Tie as tie

@@ -1,5 +1,5 @@
 use Rattle.text.specs.Texts.{headerText}
-use Rattle.text.proofs.Placed.{and-then}
+use Rattle.render.proofs.Placed.{and-then}
 use borrow.Author.Needs.{needs}
 use Rattle.text.proofs.record.put_header.Statement.{statement}
 use Rattle.text.proofs.record.put_header.Tie as tie

@@ -1,7 +1,7 @@
 use mathlib.Core.Path.{sym, ap}
 use native.Mathlib.Omega.{arith}
 use Rattle.text.specs.Texts.{stateText}
-use Rattle.text.proofs.Placed.{looser, same-put}
+use Rattle.render.proofs.Placed.{looser, same-put}
 use Rattle.text.proofs.Records.{withdrawn-text}
 use borrow.Author.Needs.{needs}
 use Rattle.text.proofs.record.put_state.Statement.{statement}

@@ -1,5 +1,5 @@
 use native.Mathlib.Omega.{arith}
-use Rattle.text.proofs.Placed.{looser, same-put}
+use Rattle.render.proofs.Placed.{looser, same-put}
 use Rattle.text.proofs.Records.{second-text, first-text}
 use borrow.Author.Needs.{needs}
 use Rattle.text.proofs.record.put_which.Statement.{statement}

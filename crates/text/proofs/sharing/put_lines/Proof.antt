@@ -3,9 +3,9 @@ use Prim.Native.Nat.{_*_, _-_, _≤_}
 use native.Mathlib.Omega.{arith}
 use lib.ListN.{length, take}
 use Rattle.share.specs.Forms.{blankLine}
-use Rattle.text.specs.Inner.{Puts}
+use Rattle.render.specs.Inner.{Puts}
 use Rattle.text.specs.Texts.{linesText}
-use Rattle.text.proofs.Placed.{looser}
+use Rattle.render.proofs.Placed.{looser}
 use Rattle.text.proofs.Statements.{lines-none, lines-more}
 use borrow.Author.Needs.{needs}
 use Rattle.text.proofs.sharing.put_lines.Statement.{statement}

@@ -1,5 +1,5 @@
 use Rattle.text.specs.Texts.{refusedText}
-use Rattle.text.proofs.Placed.{and-then}
+use Rattle.render.proofs.Placed.{and-then}
 use borrow.Author.Needs.{needs}
 use Rattle.text.proofs.sharing.put_refused.Statement.{statement}
 use Rattle.text.proofs.sharing.put_refused.Tie as tie

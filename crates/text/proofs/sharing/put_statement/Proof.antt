@@ -1,6 +1,6 @@
 use mathlib.Core.Path.{_≡_}
 use lib.ListN.{length}
-use Rattle.text.proofs.Placed.{and-then}
+use Rattle.render.proofs.Placed.{and-then}
 use Rattle.text.proofs.Statements.{seen-lines}
 use borrow.Author.Needs.{needs}
 use Rattle.text.proofs.sharing.put_statement.Statement.{statement}

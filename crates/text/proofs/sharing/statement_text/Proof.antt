@@ -1,6 +1,6 @@
 use native.Mathlib.Omega.{arith}
 use Rattle.text.specs.Room.{mostStatement}
-use Rattle.text.proofs.Placed.{no-room, rendered, same-put, looser}
+use Rattle.render.proofs.Placed.{no-room, rendered, same-put, looser}
 use Rattle.text.proofs.Statements.{accepted-text, refusal-text}
 use borrow.Author.Needs.{needs}
 use Rattle.text.proofs.sharing.statement_text.Statement.{statement}

@@ -1,5 +1,5 @@
 use Rattle.text.specs.Room.{mostNoNumber}
-use Rattle.text.proofs.Placed.{no-room, rendered}
+use Rattle.render.proofs.Placed.{no-room, rendered}
 use borrow.Author.Needs.{needs}
 use Rattle.text.proofs.told.no_number_text.Statement.{statement}
 use Rattle.text.proofs.told.no_number_text.Tie as tie

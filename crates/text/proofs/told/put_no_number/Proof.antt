@@ -1,5 +1,5 @@
 use Rattle.text.specs.Texts.{noNumberText}
-use Rattle.text.proofs.Placed.{and-then}
+use Rattle.render.proofs.Placed.{and-then}
 use borrow.Author.Needs.{needs}
 use Rattle.text.proofs.told.put_no_number.Statement.{statement}
 use Rattle.text.proofs.told.put_no_number.Tie as tie

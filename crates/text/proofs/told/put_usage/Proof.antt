@@ -1,5 +1,5 @@
 use Rattle.text.specs.Texts.{usageText}
-use Rattle.text.proofs.Placed.{and-then, looser}
+use Rattle.render.proofs.Placed.{and-then, looser}
 use native.Mathlib.Omega.{arith}
 use borrow.Author.Needs.{needs}
 use Rattle.text.proofs.told.put_usage.Statement.{statement}

@@ -1,5 +1,5 @@
 use native.Mathlib.Omega.{arith}
-use Rattle.text.proofs.Placed.{and-then, looser, same-put, none-put}
+use Rattle.render.proofs.Placed.{and-then, looser, same-put, none-put}
 use Rattle.text.proofs.Records.{no-name, named}
 use borrow.Author.Needs.{needs}
 use Rattle.text.proofs.told.put_what.Statement.{statement}

@@ -1,6 +1,6 @@
 use native.Mathlib.Omega.{arith}
 use Rattle.text.specs.Room.{mostRefusedAbout}
-use Rattle.text.proofs.Placed.{no-room, rendered}
+use Rattle.render.proofs.Placed.{no-room, rendered}
 use borrow.Author.Needs.{needs}
 use Rattle.text.proofs.told.refused_about_text.Statement.{statement}
 use Rattle.text.proofs.told.refused_about_text.Tie as tie

@@ -1,0 +1,64 @@
+use native.Mathlib.Omega.{arith}
+use mathlib.Core.Path.{_≡_, _∙_}
+use Prim.Native.Nat.{_*_, _-_, _≤_}
+use lib.ListN.{length}
+use Rattle.desk.specs.Room.{seriesRoom}
+use borrow.Author.Needs.{needs}
+use Rattle.desk.proofs.series.read_all.Statement.{statement}
+use Rattle.desk.proofs.series.read_all.Tie as tie
+
+abbrev Inv-loop : tie.InvT-loop
+Inv-loop count series₀ entries lengths₀ i₀ series lengths i = (i ≤ count) × (lengths .all ≤ i * seriesRoom) × (length series ≡ length series₀)
+
+abbrev μ-loop : tie.MeasureT-loop
+μ-loop count series₀ entries lengths₀ i₀ series lengths i = count - i
+
+none-read-requires : tie.Need-none-read-requires Inv-loop μ-loop
+none-read-requires c κs = search needs
+
+loop-holds : tie.Need-loop-holds Inv-loop μ-loop
+loop-holds c = let z = c .none-read .ensures in (omega arith, omega arith, search needs)
+
+mul-e : tie.Need-mul-e Inv-loop μ-loop
+mul-e c = search needs
+
+array-copy-out-e : tie.Need-array-copy-out-e Inv-loop μ-loop
+array-copy-out-e c = search needs
+
+read-next-requires : tie.Need-read-next-requires Inv-loop μ-loop
+read-next-requires c κs = let v = c .before .before .before .loop .inv in (omega arith, omega (arith, v .1, v .2))
+
+add-i : tie.Need-add-i Inv-loop μ-loop
+add-i c = search needs
+
+loop-less : tie.Need-loop-less Inv-loop μ-loop
+loop-less c = search needs
+
+loop-again : tie.Need-loop-again Inv-loop μ-loop
+loop-again c =
+    let l = c .before .before .before .before .before .before .loop in
+    let r = c .before .before .read-next in
+    (omega arith, omega (arith, r .ensures .0, l .inv .1), r .ensures .1 ∙ l .inv .2)
+
+same-length : tie.Need-same-length Inv-loop μ-loop
+same-length c = search needs
+
+returns : tie.Need-returns Inv-loop μ-loop
+returns c = search needs
+
+pub read-all-spec : {M : Type 1} → statement M
+read-all-spec =
+    tie.close
+    (tie.spec
+    Inv-loop
+    μ-loop
+    none-read-requires
+    loop-holds
+    mul-e
+    array-copy-out-e
+    read-next-requires
+    add-i
+    loop-less
+    loop-again
+    same-length
+    returns)

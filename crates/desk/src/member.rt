@@ -1,0 +1,93 @@
+// One member's score.
+use crate::books::show_call;
+use crate::series::SERIES_ROOM;
+use crate::series::Values;
+use crate::series::part;
+use crate::series::read_file;
+use clerk::args::Byte;
+use clerk::args::Held;
+use clerk::args::Long;
+use clerk::args::Short;
+use clerk::args::byte_at;
+use clerk::args::first;
+use clerk::args::long_at;
+use clerk::args::path;
+use clerk::args::short_at;
+use clerk::print;
+use clerk::shelf::open;
+use clerk::shelf::refused_at;
+use pay::Member;
+use score::answer::Score;
+use units::Kw;
+
+// The member that the arguments say is no register line.
+fn refuse_member() {
+    print::refused(10, 0, b"member");
+}
+
+// The score, or its refusal in one line. Of a call that is refused by 12, 13 or 14 a line before it says which it is.
+fn tell(r: Score, book: &[u8], series: &[u8]) {
+    if r.number == 0 {
+        print::score(r.grains, r.fen);
+        print::done();
+        return;
+    }
+    if r.number == 10 {
+        refuse_member();
+        return;
+    }
+    if r.number == 11 {
+        print::refused(r.number, r.place, series);
+        return;
+    }
+    if 11 < r.number {
+        show_call(book, r.place);
+    }
+    refused_at(r.number, r.place, 5);
+}
+
+// The member's score over a book and the series in a file.
+fn score_with(member: Member, book: &[u8], path: &[u8]) {
+    let mut series = [0u32; SERIES_ROOM];
+    if let Values::Read(n) = read_file(path, &mut series) {
+        let r = score::score(member, book, part(&series, 0, n));
+        tell(r, book, path);
+    }
+}
+
+// The member's score over the book and the series that arguments 5 and 6 name.
+fn score_of(member: Member) {
+    let mut book = io::large_buffer();
+    let Held::Bytes(n) = open(5, &mut book) else {
+        return;
+    };
+    let mut series = io::buffer();
+    let Held::Bytes(m) = path(6, &mut series) else {
+        return;
+    };
+    score_with(member, first(&book, n), first(&series, m));
+}
+
+// The paper's order: the member first, then the book, then the series.
+pub fn score_member() {
+    let Short::Number(number) = short_at(2) else {
+        return;
+    };
+    let Byte::Number(kind) = byte_at(3) else {
+        return;
+    };
+    let Long::Number(rated) = long_at(4) else {
+        return;
+    };
+    let rated = Kw(rated);
+    let member = Member {
+        number,
+        kind,
+        rated,
+    };
+    if !member.is_sound() {
+        refuse_member();
+        return;
+    }
+    score_of(member);
+}

@@ -1,0 +1,197 @@
+// The month: the register, the books joined, every member's series; then the library settles it.
+use crate::books::join_all;
+use crate::books::show_call;
+use crate::series::Lengths;
+use crate::series::entry_at;
+use crate::series::file_of;
+use crate::series::part_of;
+use crate::series::read_all;
+use crate::series::room;
+use book::call_of;
+use book::header_of;
+use clerk::args::Held;
+use clerk::args::first;
+use clerk::args::is_none;
+use clerk::args::path;
+use clerk::print;
+use clerk::shelf::load;
+use clerk::shelf::refused_at;
+use clerk::shelf::save_new;
+use month::Fault;
+use month::Statement;
+use posted::posted_text;
+use register::Entry;
+use register::MOST_ENTRIES;
+use report::above_text;
+use report::month_text;
+use report::no_line_text;
+use share::array::seen;
+use tables::roll::Register;
+use tables::roll::read_register;
+use units::Grains;
+
+// The arguments that name the statement's file and the register.
+const STATEMENT: usize = 2;
+
+const REGISTER: usize = 3;
+
+// The first argument that names a book.
+pub const BOOKS: usize = 5;
+
+// Nothing is added to a member's grains.
+fn nothing_added() -> [Grains; MOST_ENTRIES] {
+    [Grains(0); MOST_ENTRIES]
+}
+
+// The statement as the file that argument 2 names, if it names one.
+fn post(s: Statement) -> bool {
+    if is_none(STATEMENT) {
+        return true;
+    }
+    let mut out = io::large_buffer();
+    let n = posted_text(s, &mut out);
+    save_new(STATEMENT, &out[..n])
+}
+
+fn tell_statement(s: Statement) {
+    if !post(s) {
+        return;
+    }
+    print::header(s.header, s.calls);
+    let mut out = io::large_buffer();
+    let n = month_text(s, &mut out);
+    say::text(&out[..n]);
+    print::done();
+}
+
+// The member's refusal: of its series, of a call, which is shown before, or of its line.
+pub fn tell_member(e: Entry, line: usize, number: u32, place: usize, book: &[u8]) {
+    if number == 11 {
+        let name = file_of(e.member.number);
+        let bytes = name.bytes;
+        print::refused(number, place, first(&bytes, name.size));
+        return;
+    }
+    if number == 10 {
+        refused_at(number, line, REGISTER);
+        return;
+    }
+    if 11 < number {
+        show_call(book, place);
+    }
+    print::refused(number, place, b"joined");
+}
+
+// That the register has no line for a member.
+pub fn tell_no_line(member: u16) {
+    let mut name = io::buffer();
+    let k = os::arg(REGISTER, &mut name);
+    let mut out = io::large_buffer();
+    let n = no_line_text(&name[..k], member, &mut out);
+    say::text(&out[..n]);
+}
+
+// Call i of a sound book, and that its member has no line.
+fn tell_unlisted(book: &[u8], i: usize) {
+    let o = header_of(book);
+    if o.number != 0 {
+        return;
+    }
+    if i < o.calls {
+        let x = call_of(book, i);
+        print::call(x);
+        tell_no_line(x.participant);
+    }
+}
+
+// Sharing's refusal. A compensation above a line's limit is told in words before it.
+fn tell_sharing(e: Entry, number: u32, place: usize, book: &[u8], series: &[u32]) {
+    if number == 10 {
+        let r = score::score(e.member, book, series);
+        let mut out = io::buffer();
+        let n = above_text(e.member.number, r.fen, &mut out);
+        say::text(&out[..n]);
+    }
+    refused_at(number, place, REGISTER);
+}
+
+// Why there is no statement.
+fn tell_fault(fault: Fault, register: Register, book: &[u8], series: &[u32], lengths: Lengths) {
+    let entries = register.entries;
+    match fault {
+        Fault::NoFault => {}
+        Fault::InRegister(line) => refused_at(10, line, REGISTER),
+        Fault::InBook(number, place) => print::refused(number, place, b"joined"),
+        Fault::Unlisted(call) => tell_unlisted(book, call),
+        Fault::OfMember(line, number, place) => {
+            let e = entry_at(entries, line);
+            tell_member(e, line, number, place, book);
+        }
+        Fault::InSharing(number, place) => {
+            let e = entry_at(entries, place);
+            let part = part_of(lengths, place, series);
+            tell_sharing(e, number, place, book, part);
+        }
+    }
+}
+
+fn settle_with(register: Register, book: &[u8], series: &[u32], lengths: Lengths) {
+    let entries = register.entries;
+    let each = lengths.each;
+    let added = nothing_added();
+    let s = month::settle(entries, register.count, book, series, each, added);
+    let fault = s.fault;
+    if let Fault::NoFault = fault {
+        tell_statement(s);
+        return;
+    }
+    tell_fault(fault, register, book, series, lengths);
+}
+
+// The members' series are read, all of them, before anything is judged.
+fn settle_book(register: Register, book: &[u8]) {
+    let entries = register.entries;
+    let mut series = room();
+    let lengths = read_all(entries, seen(register.count), &mut series);
+    if lengths.whole {
+        settle_with(register, book, &series, lengths);
+    }
+}
+
+fn settle(register: Register) {
+    let mut all = io::large_buffer();
+    if let Held::Bytes(n) = join_all(BOOKS, &mut all) {
+        settle_book(register, first(&all, n));
+    }
+}
+
+// No register: one line has said why.
+fn no_register() -> Register {
+    let mut none = read_register(b"");
+    none.number = 10;
+    none
+}
+
+// The register that argument 3 names. Where its number is not 0, one line has said why.
+pub fn open_register() -> Register {
+    let mut name = io::buffer();
+    let Held::Bytes(n) = path(REGISTER, &mut name) else {
+        return no_register();
+    };
+    let mut text = io::large_buffer();
+    let Held::Bytes(size) = load(first(&name, n), &mut text) else {
+        return no_register();
+    };
+    let register = read_register(first(&text, size));
+    if register.number != 0 {
+        print::refused(register.number, register.place, first(&name, n));
+    }
+    register
+}
+
+pub fn settle_month() {
+    let register = open_register();
+    if register.number == 0 {
+        settle(register);
+    }
+}

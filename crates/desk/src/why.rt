@@ -1,0 +1,109 @@
+// Why a member got its grains: its calls, what each was paid by, and the sums.
+use crate::books::join_all;
+use crate::books::show_call;
+use crate::series::SERIES_ROOM;
+use crate::series::Values;
+use crate::series::entry_at;
+use crate::series::part;
+use crate::series::read_member;
+use crate::settle::BOOKS;
+use crate::settle::open_register;
+use crate::settle::tell_member;
+use crate::settle::tell_no_line;
+use book::MOST_RECORDS;
+use clerk::args::Held;
+use clerk::args::Short;
+use clerk::args::first;
+use clerk::args::short_at;
+use clerk::print;
+use explain::CallPart;
+use explain::Explained;
+use explain::explain;
+use register::Entry;
+use register::MOST_ENTRIES;
+use report::why::explained_text;
+use report::why::part_text;
+use units::Grains;
+
+// The line of a member, or count where it has none.
+fn line_of(entries: [Entry; MOST_ENTRIES], count: usize, number: u16) -> usize {
+    let mut i: usize = 0;
+    while i < count {
+        let e = entry_at(entries, i);
+        if e.member.number == number {
+            return i;
+        }
+        i += 1;
+    }
+    count
+}
+
+// A call and what it was paid by.
+fn tell_part(p: CallPart, book: &[u8]) {
+    show_call(book, p.place);
+    let mut out = io::buffer();
+    let n = part_text(p.quarters, p.rate, p.wh, p.grains, &mut out);
+    say::text(&out[..n]);
+}
+
+fn tell_at(parts: [CallPart; MOST_RECORDS], i: usize, book: &[u8]) {
+    if i < MOST_RECORDS {
+        tell_part(parts[i], book);
+    }
+}
+
+fn tell_parts(parts: [CallPart; MOST_RECORDS], count: usize, book: &[u8]) {
+    let mut i: usize = 0;
+    while i < count {
+        tell_at(parts, i, book);
+        i += 1;
+    }
+}
+
+fn tell_explained(x: Explained, book: &[u8]) {
+    let parts = x.parts;
+    tell_parts(parts, x.count, book);
+    let mut out = io::buffer();
+    let n = explained_text(x.wh, x.energy, x.added, x.grains, &mut out);
+    say::text(&out[..n]);
+    print::done();
+}
+
+// The explanation over the joined book and the member's series, or its refusal.
+fn explain_with(e: Entry, line: usize, book: &[u8]) {
+    let mut series = [0u32; SERIES_ROOM];
+    let Values::Read(n) = read_member(e.member.number, &mut series) else {
+        return;
+    };
+    let x = explain(e.member, book, part(&series, 0, n), Grains(0));
+    if x.number != 0 {
+        tell_member(e, line, x.number, x.place, book);
+        return;
+    }
+    tell_explained(x, book);
+}
+
+fn explain_line(e: Entry, line: usize) {
+    let mut all = io::large_buffer();
+    if let Held::Bytes(n) = join_all(BOOKS, &mut all) {
+        explain_with(e, line, first(&all, n));
+    }
+}
+
+// The member that argument 2 names, by its line of the register.
+pub fn explain_member() {
+    let Short::Number(number) = short_at(2) else {
+        return;
+    };
+    let register = open_register();
+    if register.number != 0 {
+        return;
+    }
+    let entries = register.entries;
+    let line = line_of(entries, register.count, number);
+    if line < register.count {
+        explain_line(entry_at(entries, line), line);
+        return;
+    }
+    tell_no_line(number);
+}

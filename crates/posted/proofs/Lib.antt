@@ -1,0 +1,9 @@
+pub mod Words
+pub mod Taking
+pub mod Signing
+pub mod Posting
+pub mod Lines
+pub mod Rows
+pub mod Answers
+pub mod Determined
+pub mod Promises

@@ -1,0 +1,190 @@
+-- The lines of a statement, read from a place of a text on. Assumes nothing.
+use mathlib.Core.Path.{_≡_, refl, sym, _∙_, ap}
+use mathlib.Core.Bool.{Bool, true, false}
+use mathlib.Core.List.{List, [], _∷_, _++_, append-assoc}
+use Prim.Native.Nat.{ℕ, suc, _+_, _-_, _^_, _≤_, _<_}
+use native.Mathlib.Omega.{arith}
+use lib.IntN.{ℤ}
+use lib.ListN.{length, take, drop}
+use lib.Seq.{drop-at}
+use mir.Syntax.{w64}
+use mir.Val.{SFits, toZ, ofZ}
+use Rattle.book.specs.declared.Header.{Header}
+use Rattle.month.specs.declared.Row.{Row}
+use Rattle.render.specs.Decimal.{word, decimal, signedDecimal, field, signedField}
+use Rattle.posted.specs.declared.taken.Number.{Number}
+use Rattle.posted.specs.declared.taken.SignedNumber.{SignedNumber}
+use Rattle.render.specs.Inner.{Puts}
+use Rattle.render.proofs.Printed.{front-put}
+use Rattle.posted.specs.declared.line.Heads.{Heads}
+use Rattle.posted.specs.declared.line.Earned.{Earned}
+use Rattle.posted.specs.declared.line.Carried.{Carried}
+use Rattle.posted.specs.Posted.{headText, earnedText, carriedText, rowText, totalText}
+use Rattle.posted.specs.Reading.{HeadFits, RowFits, BeginsHead, BeginsRow, BeginsTotal, head-line, row-line, total-line}
+use Rattle.posted.specs.Inner.{startsDigit, Behind, FieldIs, SignedFieldIs, Begins, EarnedSame, CarriedSame, EarnedIs, CarriedIs, HeadIs, RowIs, TotalIs}
+use Rattle.posted.specs.Inner.{HeadAt, RowAt, TotalAt}
+use Rattle.posted.proofs.Signing.{through}
+
+four : (a b c d e : List ℕ) → (((a ++ b) ++ c) ++ d) ++ e ≡ a ++ (b ++ (c ++ (d ++ e)))
+four a b c d e = simp append-assoc
+
+five : (a b c d e f : List ℕ) → ((((a ++ b) ++ c) ++ d) ++ e) ++ f ≡ a ++ (b ++ (c ++ (d ++ (e ++ f))))
+five a b c d e f = simp append-assoc
+
+module _ (t : List ℕ) (at : ℕ) where
+  pub earned-reads : (a b c d : Number) → FieldIs 7 t at a → FieldIs 8 t (a .next) b → FieldIs 14 t (b .next) c → FieldIs 12 t (c .next) d
+      → EarnedIs t at (record { number = a .value; grains = b .value; compensation = c .value; assessment = d .value; next = d .next })
+  unfolding earnedText startsDigit
+  earned-reads a b c d f g h i =
+      record {
+        within = i .within;
+        reads =
+            λ r rest fits e cut.
+            let grains = field " grains " (r .grains .0) in
+            let money = field " compensation " (r .compensation .0) in
+            let points = field " assessment " (r .assessment .0) in
+            let one = f .reads (word "member ") (r .number) (grains ++ (money ++ (points ++ rest))) refl (omega (arith, fits .number)) refl
+            (cut ∙ four (field "member " (r .number)) grains money points rest) in
+            let two = g .reads (word " grains ") (r .grains .0) (money ++ (points ++ rest)) refl (fits .grains) refl (one .1) in
+            let three = h .reads (word " compensation ") (r .compensation .0) (points ++ rest) refl (fits .compensation) refl (two .1) in
+            let last = i .reads (word " assessment ") (r .assessment .0) rest refl (omega (arith, fits .assessment)) e (three .1) in
+            (record { number = one .0; grains = two .0; compensation = three .0; assessment = last .0 }, last .1);
+      }
+
+  pub carried-reads : (a b : Number) (c d : SignedNumber) → FieldIs 8 t at a → FieldIs 8 t (a .next) b → SignedFieldIs 7 t (b .next) c → SignedFieldIs 8 t (c .next) d
+      → CarriedIs t at (record { energy = a .value; weight = b .value; share = toZ w64 (ofZ w64 (c .value)); amount = toZ w64 (ofZ w64 (d .value)) })
+  unfolding carriedText startsDigit
+  carried-reads a b c d f g h i =
+      record {
+        reads =
+            λ r rest fits cut.
+            let weight = field " weight " (r .weight) in
+            let share = signedField " share " (r .share .0) in
+            let amount = signedField " amount " (r .amount .0) in
+            let one = f .reads (word " energy ") (r .energy .0) (weight ++ (share ++ (amount ++ (word "\n" ++ rest)))) refl (omega (arith, fits .energy)) refl
+            (cut ∙ five (field " energy " (r .energy .0)) weight share amount (word "\n") rest) in
+            let two = g .reads (word " weight ") (r .weight) (share ++ (amount ++ (word "\n" ++ rest))) refl (fits .weight) refl (one .1) in
+            let three = h .reads (word " share ") (r .share .0) (amount ++ (word "\n" ++ rest)) refl (fits .share) refl (two .1) in
+            let last = i .reads (word " amount ") (r .amount .0) (word "\n" ++ rest) refl (fits .amount) refl (three .1) in
+            record { energy = one .0; weight = two .0; share = through _ _ (fits .share) (three .0); amount = through _ _ (fits .amount) (last .0) };
+      }
+
+  pub heads-reads : (a b c d : Number) (area year month : ℕ) → FieldIs 5 t at a → FieldIs 6 t (a .next) b → FieldIs 7 t (b .next) c → FieldIs 7 t (c .next) d
+      → (a .value < 2 ^ 8 → area ≡ a .value) → (b .value < 2 ^ 16 → year ≡ b .value) → (c .value < 2 ^ 8 → month ≡ c .value)
+      → (g : Header) (n : ℕ) (rest : List ℕ) → HeadFits g n → drop at t ≡ headText g n ++ rest
+      → (area ≡ g .area) × (year ≡ g .year) × (month ≡ g .month) × (d .value ≡ n)
+  unfolding headText startsDigit
+  heads-reads a b c d area year month f g h i u v w x n rest fits cut =
+      let years = field " year " (x .year) in
+      let months = field " month " (x .month) in
+      let calls = field " calls " n in
+      let one = f .reads (word "area ") (x .area) (years ++ (months ++ (calls ++ (word "\n" ++ rest)))) refl (omega (arith, fits .area)) refl
+      (cut ∙ five (field "area " (x .area)) years months calls (word "\n") rest) in
+      let two = g .reads (word " year ") (x .year) (months ++ (calls ++ (word "\n" ++ rest))) refl (omega (arith, fits .year)) refl (one .1) in
+      let three = h .reads (word " month ") (x .month) (calls ++ (word "\n" ++ rest)) refl (omega (arith, fits .month)) refl (two .1) in
+      let last = i .reads (word " calls ") n (word "\n" ++ rest) refl (fits .calls) refl (three .1) in
+      (u (omega (arith, one .0, fits .area)) ∙ one .0, v (omega (arith, two .0, fits .year)) ∙ two .0, w (omega (arith, three .0, fits .month)) ∙ three .0, last .0)
+
+  pub total-reads : (a : SignedNumber) → SignedFieldIs 6 t at a → TotalIs t at (toZ w64 (ofZ w64 (a .value)))
+  unfolding totalText startsDigit
+  total-reads a f =
+      record {
+        reads =
+            λ z rest fits cut.
+            through _ _ fits (f .reads (word "total ") z (word "\n" ++ rest) refl fits refl (cut ∙ append-assoc (signedField "total " z) (word "\n") rest) .0);
+      }
+
+-- a header of the same numbers
+pub same-header : {a b c : ℕ} (g : Header) → a ≡ g .area → b ≡ g .year → c ≡ g .month → _≡_ {A = Header} (record { area = a; year = b; month = c }) g
+same-header g p q r = λ i. record { area = p i; year = q i; month = r i }
+
+module _ (t : List ℕ) (at : ℕ) where
+  -- the two halves of a member's line
+  pub row-reads : (e : Earned) (k : Carried) (number assessment energy : ℕ) → EarnedIs t at e → CarriedIs t (e .next) k
+      → (e .number < 2 ^ 16 → number ≡ e .number) → (e .assessment < 2 ^ 32 → assessment ≡ e .assessment) → (k .energy < 2 ^ 32 → energy ≡ k .energy)
+      → (r : Row) (rest : List ℕ) → RowFits r → drop at t ≡ rowText r ++ rest
+      → _≡_ {A = Row}
+      (record {
+        grains = record { 0 = e .grains };
+        compensation = record { 0 = e .compensation };
+        weight = k .weight;
+        share = record { 0 = toZ w64 (ofZ w64 (k .share)) };
+        amount = record { 0 = toZ w64 (ofZ w64 (k .amount)) };
+        assessment = record { 0 = assessment };
+        energy = record { 0 = energy };
+        number = number;
+      })
+      r
+  unfolding rowText carriedText startsDigit
+  row-reads e k number assessment energy f g u v w r rest fits cut =
+      let one = f .reads r (carriedText r ++ rest) fits refl (cut ∙ append-assoc (earnedText r) (carriedText r) rest) in
+      let p = one .0 in
+      let q = g .reads r rest fits (one .1) in
+      let n : number ≡ r .number = u (omega (arith, p .number, fits .number)) ∙ p .number in
+      let s : assessment ≡ r .assessment .0 = v (omega (arith, p .assessment, fits .assessment)) ∙ p .assessment in
+      let y : energy ≡ r .energy .0 = w (omega (arith, q .energy, fits .energy)) ∙ q .energy in
+      let x : toZ w64 (ofZ w64 (k .share)) ≡ r .share .0 = through _ _ (fits .share) (q .share) in
+      let z : toZ w64 (ofZ w64 (k .amount)) ≡ r .amount .0 = through _ _ (fits .amount) (q .amount) in
+      λ i.
+      record {
+        grains = record { 0 = p .grains i };
+        compensation = record { 0 = p .compensation i };
+        weight = q .weight i;
+        share = record { 0 = x i };
+        amount = record { 0 = z i };
+        assessment = record { 0 = s i };
+        energy = record { 0 = y i };
+        number = n i;
+      }
+
+  -- a word that stands there, and the place behind it
+  cut-there : (w : List ℕ) (k next : ℕ) (is : Bool) → k ≡ length w → Begins t at w is → Behind t at k next → is ≡ true → drop at t ≡ w ++ drop next t
+  cut-there w k next is e f g y =
+      let cut = f .yes y .1 in
+      let rest : drop next t ≡ drop (at + length w) t = g .rest ∙ ap (drop k) cut ∙ drop-at w (drop (at + length w) t) k (sym e) in
+      cut ∙ ap (λ (xs : List ℕ). w ++ xs) (sym rest)
+
+  pub head-taken : (h : Heads) (w : List ℕ) (k next : ℕ) (is : Bool) → HeadIs t at h → w ≡ headText (h .header) (h .calls) → k ≡ length w → Begins t at w is → Behind t at k next
+      → HeadAt t at (record { calls = h .calls; next = next; header = h .header; is = is })
+  head-taken h w k next is l e long f g =
+      record {
+        within = g .within;
+        yes = λ y. (l .fits, cut-there w k next is long f g y ∙ ap (λ (xs : List ℕ). xs ++ drop next t) e);
+        no = refused;
+      }
+    where
+      refused : is ≡ false → BeginsHead (drop at t) → ⊥
+      refused n (head-line x calls rest fits cut) =
+          let same = l .reads x calls rest fits cut in
+          f .no n rest (cut ∙ sym (ap (λ (xs : List ℕ). xs ++ rest) (e ∙ (λ i. headText (same .0 i) (same .1 i)))))
+
+  pub row-taken : (row : Row) (w : List ℕ) (k next : ℕ) (is : Bool) → RowIs t at row → w ≡ rowText row → k ≡ length w → Begins t at w is → Behind t at k next
+      → RowAt t at (record { row = row; next = next; is = is })
+  row-taken row w k next is l e long f g =
+      record {
+        within = g .within;
+        yes = λ y. (l .fits, cut-there w k next is long f g y ∙ ap (λ (xs : List ℕ). xs ++ drop next t) e);
+        no = refused;
+      }
+    where
+      refused : is ≡ false → BeginsRow (drop at t) → ⊥
+      refused n (row-line r rest fits cut) = f .no n rest (cut ∙ sym (ap (λ (xs : List ℕ). xs ++ rest) (e ∙ ap (λ (x : Row). rowText x) (l .reads r rest fits cut))))
+
+  pub total-taken : (gap : ℤ) (w : List ℕ) (k next : ℕ) (is : Bool) → SFits w64 gap → TotalIs t at gap → w ≡ totalText gap → k ≡ length w → Begins t at w is → Behind t at k next
+      → TotalAt t at (record { gap = record { 0 = gap }; next = next; is = is })
+  total-taken gap w k next is few l e long f g =
+      record {
+        within = g .within;
+        yes = λ y. (few, cut-there w k next is long f g y ∙ ap (λ (xs : List ℕ). xs ++ drop next t) e);
+        no = refused;
+      }
+    where
+      refused : is ≡ false → BeginsTotal (drop at t) → ⊥
+      refused n (total-line z rest fits cut) = f .no n rest (cut ∙ sym (ap (λ (xs : List ℕ). xs ++ rest) (e ∙ ap (λ (x : ℤ). totalText x) (l .reads z rest fits cut))))
+
+  pub total-again : (z : ℤ) → TotalIs t at z → TotalIs t at (toZ w64 (ofZ w64 z))
+  total-again z l = record { reads = λ y rest fits cut. through z y fits (l .reads y rest fits cut) }
+
+-- what was put at the front of a buffer
+pub put-long : {most : ℕ} {text before after : List ℕ} {r : ℕ} → most ≤ length before → Puts most before 0 text after r → r ≡ length (take r after)
+put-long {text = text} h f = omega (arith, f .behind) ∙ ap length (sym (front-put h f))

@@ -1,0 +1,112 @@
+-- What is written reads back, and nothing else reads whole. Assumes nothing.
+use mathlib.Core.Path.{_≡_, refl, sym, _∙_, ap}
+use mathlib.Core.List.{List, [], _∷_, _++_}
+use Prim.Native.Nat.{ℕ, _+_, _-_, _≤_, _<_}
+use native.Mathlib.Omega.{arith}
+use lib.IntN.{ℤ}
+use lib.ListN.{length, take, replicate, length-append, length-replicate}
+use lib.Seq.{take-at, length-take-le}
+use mir.Syntax.{w64}
+use mir.Val.{SFits}
+use Rattle.io.specs.Counts.{Counts}
+use Rattle.book.specs.declared.Header.{Header}
+use Rattle.month.specs.declared.Fault.the-variants.{NoFault}
+use Rattle.month.specs.declared.Row.{Row}
+use Rattle.month.specs.declared.Statement.{Statement}
+use Rattle.month.specs.Settling.{MonthGiven, blankRow, filledRows, settling}
+use Rattle.month.proofs.Accepted.{rowsSettled, length-rows, length-in, passed}
+use Rattle.render.specs.Room.{Renders}
+use Rattle.render.proofs.Printed.{front-is}
+use Rattle.posted.specs.declared.Posted.{Posted}
+use Rattle.posted.specs.declared.Reading.{Reading}
+use Rattle.posted.specs.declared.Reading.the-variants.{Whole, BadLine}
+use Rattle.posted.specs.Posted.{headText, rowsText, totalText, isSettled, postedText, mostPosted}
+use Rattle.posted.specs.Reading.{HeadFits, RowsFit, Settled, Taken, statementWith, readWhole, badLine, ReadPosted, no-head, no-line, no-end, whole}
+use Rattle.posted.proofs.Posting.{settled-text}
+use Rattle.posted.proofs.Determined.{posted-determined}
+
+front-rows : (rs : List Row) → take (length rs) (filledRows rs) ≡ rs
+unfolding filledRows
+front-rows rs = take-at rs (replicate (64 - length rs) blankRow) (length rs) refl
+
+filled-long : (rs : List Row) → length rs ≤ 64 → length (filledRows rs) ≡ 64
+unfolding filledRows
+filled-long rs h = omega (arith, length-append rs (replicate (64 - length rs) blankRow), length-replicate (64 - length rs) blankRow)
+
+-- a statement of so many rows is a settled one
+pub settled-of : (h : Header) (calls : ℕ) (rs : List Row) (gap : ℤ) → HeadFits h calls → length rs ≤ 64 → RowsFit rs → SFits w64 gap → Settled (statementWith h calls rs gap)
+unfolding statementWith
+settled-of h calls rs gap f few g k =
+    record {
+      fault = refl;
+      few = few;
+      long = filled-long rs few;
+      filled = ap (λ (us : List Row). filledRows us) (sym (front-rows rs));
+      head = f;
+      fit = rw (front-rows rs) g;
+      gap = k;
+    }
+
+settled-fault : (s : Statement) → s .fault ≡ NoFault → headText (s .header) (s .calls) ++ rowsText (take (s .count) (s .rows)) ++ totalText (s .gap .0) ≡ postedText s
+unfolding isSettled
+settled-fault s e = settled-text s (ap isSettled e)
+
+-- a settled statement's text reads as that statement
+reads-settled : (s : Statement) → Settled s → ReadPosted (postedText s) (record { reading = Whole; statement = s })
+unfolding readWhole statementWith
+reads-settled s h =
+    let rs = take (s .count) (s .rows) in
+    let many : length rs ≡ s .count = length-take-le (s .count) (s .rows) (omega (arith, h .few, h .long)) in
+    let n = sym many in
+    let f = h .fault in
+    let k = h .filled in
+    whole (s .header) (s .calls) rs (s .gap .0)
+    (λ i. record { reading = Whole; statement = record { fault = f i; header = s .header; calls = s .calls; gap = s .gap; count = n i; rows = k i } })
+    (record { head = h .head; few = omega (arith, many, h .few); fit = h .fit; is = sym (settled-fault s f) })
+    (h .gap)
+
+-- WHAT IS WRITTEN READS BACK as the same statement.
+pub posted-back : (s : Statement) → Settled s → {r : Posted} → ReadPosted (postedText s) r → r ≡ record { reading = Whole; statement = s }
+posted-back s h f = posted-determined f (reads-settled s h)
+
+-- The same of what `posted_text` leaves at the front of a buffer with room.
+pub written-back : (s : Statement) → Settled s → {before after : List ℕ} {n : ℕ} → mostPosted ≤ length before → Renders mostPosted (postedText s) before after n → Counts n after
+    → {r : Posted} → ReadPosted (take n after) r → r ≡ record { reading = Whole; statement = s }
+written-back s h room f k g = posted-back s h (rw (front-is room f k) at g)
+
+text-of : (h : Header) (c : ℕ) (rs : List Row) (z : ℤ) → headText h c ++ rowsText rs ++ totalText z ≡ postedText (statementWith h c rs z)
+unfolding statementWith
+text-of h c rs z = ap (λ (us : List Row). headText h c ++ rowsText us ++ totalText z) (sym (front-rows rs)) ∙ settled-fault (statementWith h c rs z) refl
+
+not-bad : {A : Type 0} {r : Posted} (n : ℕ) → r ≡ badLine n → r .reading ≡ Whole → A
+unfolding badLine
+not-bad {r = r} n e w =
+    absurd (let f : BadLine n ≡ Whole = sym (ap (λ (x : Posted). x .reading) e) ∙ w in let z : _≡_ {A = ℕ} 0 1 = cc in omega arith)
+
+-- NOTHING ELSE READS WHOLE: what does is the text of the statement that is told, and that is a settled one.
+pub posted-only : {t : List ℕ} {r : Posted} → ReadPosted t r → r .reading ≡ Whole → Settled (r .statement) × (t ≡ postedText (r .statement))
+unfolding readWhole
+posted-only (no-head e n) w = not-bad 0 e w
+posted-only (no-line h c rs x e p k l) w = not-bad (1 + length rs) e w
+posted-only (no-end h c rs z x e p k l) w = not-bad (2 + length rs) e w
+posted-only (whole h c rs z e p k) w = rw e (settled-of h c rs z (p .head) (p .few) (p .fit) k, p .is ∙ text-of h c rs z)
+
+-- A month that was settled, of 64 members at most, has such a statement, where its numbers fit their bits: so it is written, and reads back.
+pub month-settled : (g : MonthGiven) → settling g .fault ≡ NoFault → length (g .entries) ≤ 64 → HeadFits (settling g .header) (settling g .calls)
+    → RowsFit (take (settling g .count) (settling g .rows)) → SFits w64 (settling g .gap .0) → Settled (settling g)
+month-settled g e few h r k =
+    let p = passed g e in
+    let rs = rowsSettled g in
+    let w : settling g .rows ≡ filledRows rs = ap (λ (s : Statement). s .rows) (p .is) in
+    let m : settling g .count ≡ length rs = ap (λ (s : Statement). s .count) (p .is) ∙ sym (length-rows _ _ _ _) in
+    let n : settling g .count ≡ length (g .entries) = ap (λ (s : Statement). s .count) (p .is) ∙ length-in g in
+    let front : take (settling g .count) (settling g .rows) ≡ rs = (λ i. take (m i) (w i)) ∙ front-rows rs in
+    record {
+      fault = e;
+      few = omega arith;
+      long = ap length w ∙ filled-long rs (omega arith);
+      filled = w ∙ ap (λ (us : List Row). filledRows us) (sym front);
+      head = h;
+      fit = r;
+      gap = k;
+    }

@@ -1,0 +1,64 @@
+use mathlib.Core.Path.{sym, ap}
+use Rattle.posted.specs.Posted.{isSettled}
+use borrow.Author.Needs.{needs}
+use Rattle.posted.proofs.is_settled.Statement.{statement}
+use Rattle.posted.proofs.is_settled.Tie as tie
+
+enum-told : tie.Need-enum-told
+enum-told c = search needs
+
+enum-known-fault : tie.Need-enum-known-fault
+enum-known-fault c = search needs
+
+enum-known-fault-2 : tie.Need-enum-known-fault-2
+enum-known-fault-2 c = search needs
+
+enum-known-fault-3 : tie.Need-enum-known-fault-3
+enum-known-fault-3 c = search needs
+
+enum-known-fault-4 : tie.Need-enum-known-fault-4
+enum-known-fault-4 c = search needs
+
+enum-known-fault-5 : tie.Need-enum-known-fault-5
+enum-known-fault-5 c = search needs
+
+returns : tie.Need-returns
+unfolding isSettled
+returns c = sym (ap isSettled (c .enum-told .given .1))
+
+returns-2 : tie.Need-returns-2
+unfolding isSettled
+returns-2 c = sym (ap isSettled (c .before .fault .given .1))
+
+returns-3 : tie.Need-returns-3
+unfolding isSettled
+returns-3 c = sym (ap isSettled (c .before .fault2 .given .1))
+
+returns-4 : tie.Need-returns-4
+unfolding isSettled
+returns-4 c = sym (ap isSettled (c .before .fault3 .given .1))
+
+returns-5 : tie.Need-returns-5
+unfolding isSettled
+returns-5 c = sym (ap isSettled (c .before .fault4 .given .1))
+
+returns-6 : tie.Need-returns-6
+unfolding isSettled
+returns-6 c = sym (ap isSettled (c .before .fault5 .given .1))
+
+pub is-settled-spec : {M : Type 1} → statement M
+is-settled-spec =
+    tie.close
+    (tie.spec
+    enum-told
+    enum-known-fault
+    enum-known-fault-2
+    enum-known-fault-3
+    enum-known-fault-4
+    enum-known-fault-5
+    returns
+    returns-2
+    returns-3
+    returns-4
+    returns-5
+    returns-6)

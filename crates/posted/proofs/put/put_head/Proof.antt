@@ -1,0 +1,41 @@
+use Rattle.posted.specs.Posted.{headText}
+use Rattle.render.proofs.Placed.{and-then}
+use borrow.Author.Needs.{needs}
+use Rattle.posted.proofs.put.put_head.Statement.{statement}
+use Rattle.posted.proofs.put.put_head.Tie as tie
+
+put-date-requires : tie.Need-put-date-requires
+put-date-requires c κs = search needs
+
+slice-aggregate-put-field : tie.Need-slice-aggregate-put-field
+slice-aggregate-put-field c = search needs
+
+put-field-requires : tie.Need-put-field-requires
+put-field-requires c κs = search needs
+
+slice-aggregate-put-word : tie.Need-slice-aggregate-put-word
+slice-aggregate-put-word c = search needs
+
+put-word-requires : tie.Need-put-word-requires
+put-word-requires c κs = search needs
+
+same-length : tie.Need-same-length
+same-length c = search needs
+
+returns : tie.Need-returns
+unfolding headText
+returns c =
+    and-then (and-then (c .before .before .before .before .before .before .before .before .before .before .before .before .put-date .ensures)
+    (c .before .before .before .before .before .before .before .put-field .ensures)) (c .before .before .put-word .ensures)
+
+pub put-head-spec : {M : Type 1} → statement M
+put-head-spec =
+    tie.close
+    (tie.spec
+    put-date-requires
+    slice-aggregate-put-field
+    put-field-requires
+    slice-aggregate-put-word
+    put-word-requires
+    same-length
+    returns)

@@ -1,0 +1,3 @@
+pub mod Posted
+pub mod Reading
+pub mod Inner

@@ -1,0 +1,117 @@
+// The lines of a statement, from a place of a buffer on. Each answers the place behind what it put.
+use book::Header;
+use month::Row;
+use register::MOST_ENTRIES;
+use render::put_field;
+use render::put_money;
+use render::put_word;
+use share::array::seen;
+use units::SignedFen;
+ghost use mathlib.Core.List.{_++_};
+ghost use Prim.Native.Nat.{_+_, _*_, _≤_};
+ghost use lib.ListN.{length, take};
+ghost use Rattle.register.specs.Register.{mostEntries};
+ghost use Rattle.render.specs.Inner.{Puts};
+ghost use Rattle.posted.specs.Posted.{headText, earnedText, carriedText, rowText, rowsText, totalText};
+ghost use Rattle.posted.specs.Inner.{dateText, mostDate, loadText, mostLoad};
+ghost use Rattle.posted.specs.Posted.{mostHead, mostEarned, mostCarried, mostRow, mostTotal, mostPosted};
+
+fn put_date(out: &mut [u8], at: usize, h: Header) -> usize
+    requires { ⌜ at + mostDate ≤ length (now out) ⌝ }
+    ensures { λ r. ⌜ Puts mostDate (now (out .entry)) at (dateText h) (now (out .exit)) r ⌝ }
+{
+    let a = put_field(out, at, b"area ", h.area as u64);
+    let b = put_field(out, a, b" year ", h.year as u64);
+    put_field(out, b, b" month ", h.month as u64)
+}
+
+pub fn put_head(out: &mut [u8], at: usize, h: Header, calls: usize) -> usize
+    requires { ⌜ at + mostHead ≤ length (now out) ⌝ }
+    ensures { λ r. ⌜ Puts mostHead (now (out .entry)) at (headText h calls) (now (out .exit)) r ⌝ }
+{
+    let a = put_date(out, at, h);
+    let b = put_field(out, a, b" calls ", calls as u64);
+    put_word(out, b, b"\n")
+}
+
+fn put_earned(out: &mut [u8], at: usize, r: Row) -> usize
+    requires { ⌜ at + mostEarned ≤ length (now out) ⌝ }
+    ensures { λ next. ⌜ Puts mostEarned (now (out .entry)) at (earnedText r) (now (out .exit)) next ⌝ }
+{
+    let grains = r.grains;
+    let compensation = r.compensation;
+    let assessment = r.assessment;
+    let a = put_field(out, at, b"member ", r.number as u64);
+    let b = put_field(out, a, b" grains ", grains.0);
+    let c = put_field(out, b, b" compensation ", compensation.0);
+    put_field(out, c, b" assessment ", assessment.0 as u64)
+}
+
+fn put_load(out: &mut [u8], at: usize, r: Row) -> usize
+    requires { ⌜ at + mostLoad ≤ length (now out) ⌝ }
+    ensures { λ next. ⌜ Puts mostLoad (now (out .entry)) at (loadText r) (now (out .exit)) next ⌝ }
+{
+    let energy = r.energy;
+    let a = put_field(out, at, b" energy ", energy.0 as u64);
+    put_field(out, a, b" weight ", r.weight)
+}
+
+fn put_carried(out: &mut [u8], at: usize, r: Row) -> usize
+    requires { ⌜ at + mostCarried ≤ length (now out) ⌝ }
+    ensures { λ next. ⌜ Puts mostCarried (now (out .entry)) at (carriedText r) (now (out .exit)) next ⌝ }
+{
+    let share = r.share;
+    let amount = r.amount;
+    let a = put_load(out, at, r);
+    let b = put_money(out, a, b" share ", share);
+    let c = put_money(out, b, b" amount ", amount);
+    put_word(out, c, b"\n")
+}
+
+pub fn put_row(out: &mut [u8], at: usize, r: Row) -> usize
+    requires { ⌜ at + mostRow ≤ length (now out) ⌝ }
+    ensures { λ next. ⌜ Puts mostRow (now (out .entry)) at (rowText r) (now (out .exit)) next ⌝ }
+{
+    let next = put_earned(out, at, r);
+    put_carried(out, next, r)
+}
+
+// The first `count` members.
+fn put_rows(out: &mut [u8], at: usize, rows: [Row; MOST_ENTRIES], count: usize) -> usize
+    requires { ⌜ count ≤ mostEntries ⌝ }
+    requires { ⌜ at + 64 * mostRow ≤ length (now out) ⌝ }
+    ensures { λ next. ⌜ Puts (64 * mostRow) (now (out .entry)) at (rowsText (take count rows)) (now (out .exit)) next ⌝ }
+{
+    let mut next = at;
+    let mut i: usize = 0;
+    while i < count {
+        let r = rows[i];
+        next = put_row(out, next, r);
+        i += 1;
+    }
+    next
+}
+
+pub fn put_total(out: &mut [u8], at: usize, gap: SignedFen) -> usize
+    requires { ⌜ at + mostTotal ≤ length (now out) ⌝ }
+    ensures { λ next. ⌜ Puts mostTotal (now (out .entry)) at (totalText (gap .0)) (now (out .exit)) next ⌝ }
+{
+    let next = put_money(out, at, b"total ", gap);
+    put_word(out, next, b"\n")
+}
+
+pub fn put_posted(
+    out: &mut [u8],
+    h: Header,
+    calls: usize,
+    rows: [Row; MOST_ENTRIES],
+    count: usize,
+    gap: SignedFen,
+) -> usize
+    requires { ⌜ mostPosted ≤ length (now out) ⌝ }
+    ensures { λ next. ⌜ Puts mostPosted (now (out .entry)) 0 (headText h calls ++ rowsText (take count rows) ++ totalText (gap .0)) (now (out .exit)) next ⌝ }
+{
+    let a = put_head(out, 0, h, calls);
+    let b = put_rows(out, a, rows, seen(count));
+    put_total(out, b, gap)
+}

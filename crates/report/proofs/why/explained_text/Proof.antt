@@ -1,0 +1,20 @@
+use Rattle.report.specs.Explained.{mostExplained}
+use Rattle.render.proofs.Placed.{no-room, rendered}
+use borrow.Author.Needs.{needs}
+use Rattle.report.proofs.why.explained_text.Statement.{statement}
+use Rattle.report.proofs.why.explained_text.Tie as tie
+
+returns : tie.Need-returns
+returns c = no-room mostExplained _ (c .before .before .args .out .now) (c .if1 .taken)
+
+put-explained-requires : tie.Need-put-explained-requires
+put-explained-requires c κs = search needs
+
+same-length : tie.Need-same-length
+same-length c = search needs
+
+returns-2 : tie.Need-returns-2
+returns-2 c = rendered mostExplained (c .before .before .before .before .if1 .left) (c .before .before .put-explained .ensures)
+
+pub explained-text-spec : {M : Type 1} → statement M
+explained-text-spec = tie.close (tie.spec returns put-explained-requires same-length returns-2)

@@ -1,0 +1,20 @@
+use Rattle.report.specs.Explained.{mostPart}
+use Rattle.render.proofs.Placed.{no-room, rendered}
+use borrow.Author.Needs.{needs}
+use Rattle.report.proofs.why.part_text.Statement.{statement}
+use Rattle.report.proofs.why.part_text.Tie as tie
+
+returns : tie.Need-returns
+returns c = no-room mostPart _ (c .before .before .args .out .now) (c .if1 .taken)
+
+put-part-requires : tie.Need-put-part-requires
+put-part-requires c κs = search needs
+
+same-length : tie.Need-same-length
+same-length c = search needs
+
+returns-2 : tie.Need-returns-2
+returns-2 c = rendered mostPart (c .before .before .before .before .if1 .left) (c .before .before .put-part .ensures)
+
+pub part-text-spec : {M : Type 1} → statement M
+part-text-spec = tie.close (tie.spec returns put-part-requires same-length returns-2)

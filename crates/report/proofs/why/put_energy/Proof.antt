@@ -1,0 +1,49 @@
+use mir.Syntax.{w64}
+use mir.ValLaws.{toZ-ofZ}
+use Rattle.report.specs.Explained.{energyText}
+use Rattle.render.proofs.Placed.{and-then}
+use borrow.Author.Needs.{needs}
+use Rattle.report.proofs.why.put_energy.Statement.{statement}
+use Rattle.report.proofs.why.put_energy.Tie as tie
+
+slice-aggregate-put-signed-field : tie.Need-slice-aggregate-put-signed-field
+slice-aggregate-put-signed-field c = search needs
+
+put-signed-field-requires : tie.Need-put-signed-field-requires
+put-signed-field-requires c κs = search needs
+
+slice-aggregate-put-field : tie.Need-slice-aggregate-put-field
+slice-aggregate-put-field c = search needs
+
+put-field-requires : tie.Need-put-field-requires
+put-field-requires c κs = search needs
+
+slice-aggregate-put-word : tie.Need-slice-aggregate-put-word
+slice-aggregate-put-word c = search needs
+
+put-word-requires : tie.Need-put-word-requires
+put-word-requires c κs = search needs
+
+same-length : tie.Need-same-length
+same-length c = search needs
+
+returns : tie.Need-returns
+unfolding energyText
+returns c =
+    let x = c .before .before .before .before .before .before .before .before .before .before .before .before .before .before .before .before .before .args .wh .0 in
+    let h = c .before .before .before .before .before .before .before .before .before .before .before .before .before .struct-told .given .0 .1 in
+    let p = rw (toZ-ofZ w64 x (record { sfits = h })) at (c .before .before .before .before .before .before .before .before .before .before .before .before .put-signed-field .ensures) in
+    and-then (and-then p (c .before .before .before .before .before .before .before .put-field .ensures)) (c .before .before .put-word .ensures)
+
+pub put-energy-spec : {M : Type 1} → statement M
+put-energy-spec =
+    tie.close
+    (tie.spec
+    slice-aggregate-put-signed-field
+    put-signed-field-requires
+    slice-aggregate-put-field
+    put-field-requires
+    slice-aggregate-put-word
+    put-word-requires
+    same-length
+    returns)

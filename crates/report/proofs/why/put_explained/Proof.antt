@@ -1,0 +1,21 @@
+use Rattle.report.specs.Explained.{explainedText}
+use Rattle.render.proofs.Placed.{and-then}
+use borrow.Author.Needs.{needs}
+use Rattle.report.proofs.why.put_explained.Statement.{statement}
+use Rattle.report.proofs.why.put_explained.Tie as tie
+
+put-energy-requires : tie.Need-put-energy-requires
+put-energy-requires c κs = search needs
+
+put-all-requires : tie.Need-put-all-requires
+put-all-requires c κs = search needs
+
+same-length : tie.Need-same-length
+same-length c = search needs
+
+returns : tie.Need-returns
+unfolding explainedText
+returns c = and-then (c .before .before .before .before .before .before .put-energy .ensures) (c .before .before .put-all .ensures)
+
+pub put-explained-spec : {M : Type 1} → statement M
+put-explained-spec = tie.close (tie.spec put-energy-requires put-all-requires same-length returns)

@@ -1,0 +1,95 @@
+-- What people read of a month, byte by byte: money in yuan with two places. Assumes nothing.
+use mathlib.Core.Bool.{cond}
+use mathlib.Core.List.{List, [], _++_}
+use Prim.Native.Nat.{ℕ, zero, suc, _+_, _-_, _*_, min}
+use lib.Dec.{ltb}
+use lib.IntN.{ℤ}
+use lib.ListN.{length, getD}
+use Rattle.units.specs.Money.{grainsToFen, fenPerThousandth}
+use Rattle.render.specs.Decimal.{word, field}
+use Rattle.render.specs.Room.{mostDecimal}
+use Rattle.render.specs.Yuan.{yuan, yuanField, signedYuanField, pointsField, mostYuan, mostSignedYuan, mostPoints}
+use Rattle.month.specs.declared.Row.{Row}
+use Rattle.month.specs.declared.Statement.{Statement}
+use Rattle.month.specs.Settling.{blankRow}
+use Rattle.report.specs.declared.totals.Totals.{Totals}
+use Rattle.report.specs.Totals.{totalsOf}
+
+-- what a member earned: its points, which are the fen of its grains, and its compensation
+unfoldable pub earnedText : Row → List ℕ
+earnedText r = field "member " (r .number) ++ pointsField " points " (grainsToFen (r .grains .0)) ++ yuanField " compensation " (r .compensation .0)
+
+-- what its share goes by: assessment, energy in MWh, weight
+unfoldable pub carriedText : Row → List ℕ
+carriedText r = yuanField " assessment " (r .assessment .0 * fenPerThousandth) ++ field " energy " (r .energy .0) ++ field " weight " (r .weight)
+
+-- its share, and its amount
+unfoldable pub amountText : Row → List ℕ
+amountText r = signedYuanField " share " (r .share .0) ++ signedYuanField " amount " (r .amount .0) ++ word "\n"
+
+-- a member's line
+unfoldable pub rowText : Row → List ℕ
+rowText r = earnedText r ++ carriedText r ++ amountText r
+
+-- the lines of so many members
+unfoldable pub rowsText : List Row → ℕ → List ℕ
+rowsText rows zero = []
+rowsText rows (suc n) = rowsText rows n ++ rowText (getD rows n blankRow)
+
+-- what is due less what is owed
+unfoldable pub balanceText : ℕ → ℕ → List ℕ
+balanceText due owed = cond (ltb due owed) (word "-" ++ yuan (owed - due)) (yuan (due - owed))
+
+-- C, A and R
+unfoldable pub sumsText : ℤ → Totals → List ℕ
+sumsText gap t = yuanField "all compensation " (t .compensation) ++ yuanField " assessment " (t .assessment) ++ signedYuanField " R " gap
+
+-- the same, and the sum of all amounts
+unfoldable pub totalsText : ℤ → Totals → List ℕ
+totalsText gap t = sumsText gap t ++ word " amounts " ++ balanceText (t .due) (t .owed) ++ word "\n"
+
+-- a line for each of so many members, and the sums
+unfoldable pub monthOf : Statement → ℕ → List ℕ
+monthOf s count = rowsText (s .rows) count ++ totalsText (s .gap .0) (totalsOf (s .rows) count)
+
+-- the month of all members, 64 at most
+unfoldable pub monthText : Statement → List ℕ
+monthText s = monthOf s (min (s .count) 64)
+
+-- a call's member that the register, by its file's name, has no line for
+unfoldable pub noLineText : List ℕ → ℕ → List ℕ
+noLineText register member = word "failed " ++ register ++ field ": no line for member " member ++ word "\n"
+
+-- a member whose compensation is above a line's limit
+unfoldable pub aboveText : ℕ → ℕ → List ℕ
+aboveText member fen = field "member " member ++ yuanField ": compensation " fen ++ word ", more than a line may have\n"
+
+-- The most bytes of each
+
+abbrev pub mostEarned : ℕ
+mostEarned = 29 + mostDecimal + mostPoints + mostYuan
+
+abbrev pub mostCarried : ℕ
+mostCarried = 28 + mostYuan + 2 * mostDecimal
+
+abbrev pub mostAmount : ℕ
+mostAmount = 16 + 2 * mostSignedYuan
+
+abbrev pub mostRow : ℕ
+mostRow = mostEarned + mostCarried + mostAmount
+
+abbrev pub mostSums : ℕ
+mostSums = 32 + 2 * mostYuan + mostSignedYuan
+
+abbrev pub mostTotals : ℕ
+mostTotals = mostSums + 10 + mostSignedYuan
+
+abbrev pub mostMonth : ℕ
+mostMonth = 64 * mostRow + mostTotals
+
+-- besides these bytes the register's name
+abbrev pub mostNoLine : List ℕ → ℕ
+mostNoLine register = 30 + mostDecimal + length register
+
+abbrev pub mostAbove : ℕ
+mostAbove = 50 + mostDecimal + mostYuan

@@ -1,0 +1,92 @@
+// What people read of a member's score, part by part.
+use render::put_field;
+use render::put_signed_field;
+use render::put_word;
+use render::yuan::put_points_field;
+use units::Grains;
+use units::Wh;
+ghost use Prim.Native.Nat.{_+_, _≤_};
+ghost use lib.ListN.{length};
+ghost use Rattle.io.specs.Counts.{Counts};
+ghost use Rattle.render.specs.Inner.{Puts};
+ghost use Rattle.render.specs.Room.{Renders};
+ghost use Rattle.report.specs.Explained.{basisText, partText, energyText, allText, explainedText, mostBasis, mostPart, mostEnergy, mostAll, mostExplained};
+
+// The most bytes of each.
+pub const MOST_PART: usize = 118;
+
+pub const MOST_EXPLAINED: usize = 159;
+
+fn put_basis(out: &mut [u8], quarters: u32, rate: u64, wh: Wh) -> usize
+    requires { ⌜ mostBasis ≤ length (now out) ⌝ }
+    ensures { λ r. ⌜ Puts mostBasis (now (out .entry)) 0 (basisText quarters rate (wh .0)) (now (out .exit)) r ⌝ }
+{
+    let a = put_field(out, 0, b"paid quarter-hours ", quarters as u64);
+    let b = put_field(out, a, b" rate ", rate);
+    put_signed_field(out, b, b" wh ", wh.0)
+}
+
+fn put_part(out: &mut [u8], quarters: u32, rate: u64, wh: Wh, grains: Grains) -> usize
+    requires { ⌜ mostPart ≤ length (now out) ⌝ }
+    ensures { λ r. ⌜ Puts mostPart (now (out .entry)) 0 (partText quarters rate (wh .0) (grains .0)) (now (out .exit)) r ⌝ }
+{
+    let a = put_basis(out, quarters, rate, wh);
+    let b = put_field(out, a, b" grains ", grains.0);
+    put_word(out, b, b"\n")
+}
+
+// What a call was paid by, and its grains.
+pub fn part_text(quarters: u32, rate: u64, wh: Wh, grains: Grains, out: &mut [u8]) -> usize
+    ensures { λ r. ⌜ Renders mostPart (partText quarters rate (wh .0) (grains .0)) (now (out .entry)) (now (out .exit)) r ⌝ }
+    ensures { λ r. ⌜ Counts r (now (out .exit)) ⌝ }
+{
+    if out.len() < MOST_PART {
+        return 0;
+    }
+    put_part(out, quarters, rate, wh, grains)
+}
+
+fn put_energy(out: &mut [u8], wh: Wh, energy: Grains) -> usize
+    requires { ⌜ mostEnergy ≤ length (now out) ⌝ }
+    ensures { λ r. ⌜ Puts mostEnergy (now (out .entry)) 0 (energyText (wh .0) (energy .0)) (now (out .exit)) r ⌝ }
+{
+    let a = put_signed_field(out, 0, b"energy wh ", wh.0);
+    let b = put_field(out, a, b" grains ", energy.0);
+    put_word(out, b, b"\n")
+}
+
+fn put_all(out: &mut [u8], at: usize, added: Grains, grains: Grains) -> usize
+    requires { ⌜ at + mostAll ≤ length (now out) ⌝ }
+    ensures { λ r. ⌜ Puts mostAll (now (out .entry)) at (allText (added .0) (grains .0)) (now (out .exit)) r ⌝ }
+{
+    let fen = grains.to_fen();
+    let a = put_field(out, at, b"added grains ", added.0);
+    let b = put_field(out, a, b"\nall grains ", grains.0);
+    let c = put_points_field(out, b, b" points ", fen.0);
+    put_word(out, c, b"\n")
+}
+
+fn put_explained(out: &mut [u8], wh: Wh, energy: Grains, added: Grains, grains: Grains) -> usize
+    requires { ⌜ mostExplained ≤ length (now out) ⌝ }
+    ensures { λ r. ⌜ Puts mostExplained (now (out .entry)) 0 (explainedText (wh .0) (energy .0) (added .0) (grains .0)) (now (out .exit)) r ⌝ }
+{
+    let next = put_energy(out, wh, energy);
+    put_all(out, next, added, grains)
+}
+
+// The month's energy, what is added, and all the grains.
+pub fn explained_text(
+    wh: Wh,
+    energy: Grains,
+    added: Grains,
+    grains: Grains,
+    out: &mut [u8],
+) -> usize
+    ensures { λ r. ⌜ Renders mostExplained (explainedText (wh .0) (energy .0) (added .0) (grains .0)) (now (out .entry)) (now (out .exit)) r ⌝ }
+    ensures { λ r. ⌜ Counts r (now (out .exit)) ⌝ }
+{
+    if out.len() < MOST_EXPLAINED {
+        return 0;
+    }
+    put_explained(out, wh, energy, added, grains)
+}

@@ -1,0 +1,71 @@
+use mathlib.Core.List.{[], map}
+use native.Mathlib.Omega.{arith}
+use Rattle.row.proofs.Judging.{with-refused, with-bad, with-full, with-sound}
+use Rattle.tables.specs.declared.cells.Cells.{Cells}
+use Rattle.register.specs.declared.Entry.{Entry}
+use Rattle.tables.specs.Register.{asEntry, registerEntries}
+use Rattle.tables.specs.Meaning.{entryNumbers, rollSoFar}
+use Rattle.tables.proofs.Entries.{lawful}
+use borrow.Author.Needs.{needs}
+use Rattle.tables.proofs.roll.Roll.with.Statement.{statement}
+use Rattle.tables.proofs.roll.Roll.with.Tie as tie
+
+-- the entry as its line says it
+abbrev said : Cells → Entry
+said cells = asEntry (entryNumbers cells [])
+
+returns : tie.Need-returns
+returns c = let a = c .before .args in λ rows. with-refused registerEntries lawful (rollSoFar (a .self)) (said (a .cells)) (c .if1 .taken) (map asEntry rows)
+
+entry-in-requires : tie.Need-entry-in-requires
+entry-in-requires c κs = search needs
+
+refuse-requires : tie.Need-refuse-requires
+refuse-requires c κs = search needs
+
+returns-2 : tie.Need-returns-2
+returns-2 c =
+    let a = c .before .before .before .before .before .before .args in
+    let e = c .before .before .before .before .entry-in in
+    λ rows. with-bad registerEntries lawful (rollSoFar (a .self)) (said (a .cells)) (c .before .before .before .before .before .if1 .left) (e .result) (e .ensures)
+    (rollSoFar (c .refuse .result)) (c .refuse .ensures) (c .before .if2 .taken) (map asEntry rows)
+
+refuse-requires-2 : tie.Need-refuse-requires-2
+refuse-requires-2 c κs = search needs
+
+returns-3 : tie.Need-returns-3
+returns-3 c =
+    let a = c .before .before .before .before .before .before .before .args in
+    λ rows. with-full registerEntries lawful (rollSoFar (a .self)) (said (a .cells)) (c .before .before .before .before .before .before .if1 .left)
+    (rollSoFar (c .refuse2 .result)) (c .refuse2 .ensures) (c .before .if3 .taken) (map asEntry rows)
+
+mul-entries : tie.Need-mul-entries
+mul-entries c = search needs
+
+array-set-from-entries : tie.Need-array-set-from-entries
+array-set-from-entries c = search needs
+
+add-t7 : tie.Need-add-t7
+add-t7 c = search needs
+
+returns-4 : tie.Need-returns-4
+returns-4 c =
+    let a = c .before .before .before .before .before .before .before .args in
+    let e = c .before .before .before .before .before .entry-in in
+    λ rows. with-sound registerEntries lawful (rollSoFar (a .self)) (said (a .cells)) (c .before .before .before .before .before .before .if1 .left) (e .result) (e .ensures)
+    (c .before .before .if2 .left) (omega (arith, c .before .if3 .left)) (map asEntry rows)
+
+pub with-spec : {M : Type 1} → statement M
+with-spec =
+    tie.close
+    (tie.spec
+    returns
+    entry-in-requires
+    refuse-requires
+    returns-2
+    refuse-requires-2
+    returns-3
+    mul-entries
+    array-set-from-entries
+    add-t7
+    returns-4)
