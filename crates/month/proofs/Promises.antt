@@ -25,11 +25,12 @@ use Rattle.score.proofs.Turns.{score-is}
 use Rattle.score.proofs.Exact.{fen-once}
 use Rattle.apportion.specs.Apportion.{apportion}
 use Rattle.share.specs.declared.Line.{Line}
-use Rattle.share.specs.Sharing.{Part, partOf, parts, below, gap, weights, SharingOutcome, sharing}
+use Rattle.share.specs.Sharing.{Part, partOf, parts, below, gap, weightOf, weights, SharingOutcome, sharing}
 use Rattle.share.specs.Forms.{blankLine}
 use Rattle.share.proofs.Lines.{part-at}
 use Rattle.share.proofs.Outcomes.{taken-list, each-given, long-shares}
 use Rattle.share.proofs.Promises.{sumℤ, gap-is, adds-to-gap, adds-to-zero}
+use Rattle.register.specs.declared.Entry.{Entry}
 use Rattle.register.specs.Register.{blankEntry, entryLine}
 use Rattle.month.specs.declared.Fault.the-variants.{NoFault}
 use Rattle.month.specs.declared.Row.{Row}
@@ -49,6 +50,10 @@ settle-determined g r s e f = e ∙ sym f
 -- line i of the statement
 abbrev pub rowOfLine : MonthGiven → ℕ → Row
 rowOfLine g i = getD (settling g .rows) i blankRow
+
+-- line i of the register
+abbrev pub entryOfLine : MonthGiven → ℕ → Entry
+entryOfLine g i = getD (g .entries) i blankEntry
 
 -- what is added to line i
 abbrev pub addedTo : MonthGiven → ℕ → Grains
@@ -84,6 +89,27 @@ module _ (g : MonthGiven) (none : settling g .fault ≡ NoFault) where
         ap (λ (x : Grains). x .0) (gs ∙ grains-at g i h) ∙ w .1 ∙ sym (ap (λ (x : Grains). grainsPlus (x .0) (addedTo g i .0)) (s .1)),
         fen ∙ sym (ap (λ (x : Grains). grainsToFen (x .0)) gs),
       )
+
+  -- EACH ROW IS ITS OWN ENTRY'S: its number, its energy, its assessment, and the weight of that energy and status with the compensation told.
+  pub line-is : (i : ℕ) → i < length (g .entries)
+      → (rowOfLine g i .number ≡ entryOfLine g i .member .number)
+      × (rowOfLine g i .energy ≡ entryOfLine g i .energy)
+      × (rowOfLine g i .assessment ≡ entryOfLine g i .assessment)
+      × (rowOfLine g i .weight ≡ weightOf (below (linesIn g)) (entryLine (entryOfLine g i) (rowOfLine g i .compensation)))
+  unfolding rowOf entryLine
+  line-is i h =
+      let row =
+      settled-row g i (passed g none) h
+      ∙ ap (λ (l : Line). rowOf (below (linesIn g)) l (getD (grainsIn g) i noGrains) (getD (sharing (linesIn g) .parts) i noPart)) (line-in g i h) in (
+        ap (λ (r : Row). r .number) row,
+        ap (λ (r : Row). r .energy) row,
+        ap (λ (r : Row). r .assessment) row,
+        ap (λ (r : Row). r .weight) row,
+      )
+
+  -- There is a row for each entry, and no other.
+  pub line-count : settling g .count ≡ length (g .entries)
+  line-count = ap (λ (s : Statement). s .count) (passed g none .is) ∙ length-in g
 
   -- Where nothing is added, they are the score's own grains and fen.
   pub compensation-alone : (i : ℕ) → i < length (g .entries) → addedTo g i .0 ≡ 0
