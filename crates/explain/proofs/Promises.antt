@@ -102,6 +102,18 @@ module _ (m : Member) (b series : List ℕ) (added : Grains) where
   unfolding grainsPlus
   parts-add-up l = omega (arith, parts-held)
 
+  -- Where nothing is added they always do: no month reaches the top.
+  pub parts-add-up-alone : added .0 ≡ 0 → partsGrains (r .parts) + r .energy .0 ≡ r .grains .0
+  unfolding explaining explainEarned grainsPlus partsGrains monthGrains monthWh
+  parts-add-up-alone none = go (grainsEarned m b series) refl
+    where
+      go : (e : Earned) → grainsEarned m b series ≡ e → (let s = explainEarned m b series added e in partsGrains (s .parts) + s .energy .0 ≡ s .grains .0)
+      go (Accepted g) d =
+          let a = accepted-ready m b series g d in
+          let t = filled-grains (partsOf m b series) ∙ ap partsGrains (parts-are m b series) ∙ before-grains m b series (countAt b) in
+          omega (arith, t, a .1, month-most m b series (a .0))
+      go (Refused v p) d = omega (arith, filled-grains [])
+
   -- The month's Wh are those of the parts, added up, and their sum is paid, clamped at zero once.
   pub energy-adds-up : (r .wh .0 ≡ partsWh (r .parts)) × (r .energy .0 ≡ energyPay (partsWh (r .parts)))
   unfolding explaining explainEarned monthWh partsWh energyPay clamp
@@ -170,3 +182,13 @@ as-scored m b series = go (grainsEarned m b series) refl
         let a = accepted-ready m b series g d in
         ap (λ (n : ℕ). record { 0 = n }) (omega (arith, a .1, month-most m b series (a .0)))
     go (Refused v p) d = refl
+
+-- The grains of an accepted score are the score's and what is added, held at the top of 64 bits.
+pub grains-as-scored : (m : Member) (b series : List ℕ) (added : Grains) → scoring m b series .number ≡ 0
+    → explaining m b series added .grains .0 ≡ grainsPlus (scoring m b series .grains .0) (added .0)
+unfolding explaining explainEarned scoring inFen num
+grains-as-scored m b series added = go (grainsEarned m b series) refl
+  where
+    go : (e : Earned) → grainsEarned m b series ≡ e → inFen e .number ≡ 0 → explainEarned m b series added e .grains .0 ≡ grainsPlus (inFen e .grains .0) (added .0)
+    go (Accepted g) d z = refl
+    go (Refused v p) d z = absurd (earned-num m b series (ap num d ∙ z))
