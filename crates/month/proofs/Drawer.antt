@@ -2,7 +2,7 @@
 use mathlib.Core.Path.{_≡_, sym, _∙_, ap}
 use mathlib.Core.Bool.{true, false}
 use mathlib.Core.List.{List, _∷_, map, List·Memᴰ as In}
-use Prim.Native.Nat.{ℕ, _≤_, _<_}
+use Prim.Native.Nat.{ℕ, _-_, _≤_, _<_}
 use Rattle.call.specs.declared.Call.{Call}
 use Rattle.call.specs.Key.{callKey}
 use Rattle.call.specs.Revising.{withdrawn}
@@ -18,7 +18,7 @@ use Rattle.join.proofs.Nothing.{left-out, entry-out, withdrawn-stands}
 use Rattle.month.specs.declared.Statement.{Statement}
 use Rattle.month.specs.Settling.{MonthGiven, settling}
 use Rattle.month.specs.Lowered.{loweredStatement}
-use Rattle.month.proofs.Promises.{withBook}
+use Rattle.month.proofs.Promises.{withBook, order-same}
 use Rattle.month.proofs.Withdrawn.{withdrawn-month}
 
 -- the statement of a month over what a tree of joins gives: its register, series and additions are those of g
@@ -64,6 +64,28 @@ module _ (w : Call) (p q : Plan) (n : Nobody w p q) (g : MonthGiven) where
   pub same-header : statementOver q g .header ≡ statementOver p g .header
   unfolding loweredStatement
   same-header = ap (λ (s : Statement). s .header) (n .statement g)
+
+  pub one-fewer : statementOver q g .calls ≡ statementOver p g .calls - 1
+  unfolding loweredStatement
+  one-fewer = ap (λ (s : Statement). s .calls) (n .statement g)
+
+-- What the drawer's books have in common, told of one tree p over them: the statement is the one of every tree, and nothing withdrawn counts
+pub record DrawerKept (bs : List (List ℕ)) (p : Plan) : Type 0 where
+  -- in whatever order and grouping the books are joined, and however often each of them: the same statement
+  pub whatever-the-tree : (q : Plan) → Covers q bs → Room q → (g : MonthGiven) → statementOver q g ≡ statementOver p g
+  -- a call that any of the books has withdrawn counts for nobody: over whatever tree of the books without any entry of that call, the statement is the same,
+  -- the count of calls one fewer, places behind its record one lower
+  pub withdrawn-anywhere : (b : List ℕ) → In b bs → (w : Call) → In w (callsOf b) → isWithdrawn w ≡ true
+      → (q : Plan) → Covers q (map (bookWithout (callKey w)) bs) → Room q → Nobody w p q
+
+-- THE DRAWER: sound books of one month and area, with at most 512 keys, joined two at a time with room. However they came together, the statement is one;
+-- and a call that any of them has withdrawn is in no member's money.
+pub the-drawer : (h : Header) (bs : List (List ℕ)) → OneMonth h bs → keyCount bs ≤ mostRecords version → (p : Plan) → Covers p bs → Room p → DrawerKept bs p
+the-drawer h bs month few p c r =
+    record {
+      whatever-the-tree = λ q d s g. order-same g h bs month few q p d c s r;
+      withdrawn-anywhere = λ b i w l t q d s. counts-for-nobody h bs month few b i w l t p q c d r s;
+    }
 
 -- An early entry of a book, live or contested and at whatever revision, of a call that another book has withdrawn: the statement is that of the books of which
 -- the one has lost the entry. Plugging its terminal in brings nothing back.

@@ -60,7 +60,7 @@ use Rattle.month.specs.Settling.{MonthGiven, isListed, isUnlisted, first
 use Rattle.month.specs.Settling.{rowOf, rowsOf, filledRows, sharedMonth, monthLines, earnedMonth, settling}
 use Rattle.month.proofs.Settled.{listed}
 use Rattle.month.proofs.Promises.{withBook}
-use Rattle.month.proofs.Drawer.{statementOver, Nobody, counts-for-nobody, early-entry, nothing-added}
+use Rattle.month.proofs.Drawer.{statementOver, Nobody, DrawerKept, the-drawer, early-entry, nothing-added}
 
 -- The hypotheses are met
 
@@ -78,11 +78,14 @@ cleared-room : Room cleared
 unfolding right books three
 cleared-room = room-without march (callKey withdrawal) right one-month few right-room
 
+-- the three books of plant, head office and spare terminal
+pub drawer-kept : DrawerKept three left
+drawer-kept = the-drawer march three one-month few left left-covers left-room
+
 -- head office's withdrawal counts for nobody, whatever plant and spare terminal have
 pub stop-nobody : Nobody withdrawal left cleared
 unfolding three withdrawal
-stop-nobody =
-    counts-for-nobody march three one-month few head-office (there (here refl)) withdrawal withdrawn-there refl left cleared left-covers cleared-covers left-room cleared-room
+stop-nobody = drawer-kept .withdrawn-anywhere head-office (there (here refl)) withdrawal withdrawn-there refl cleared cleared-covers cleared-room
 
 -- with the spare terminal's book or without it: one statement
 pub spare-nothing : (g : MonthGiven) → statementOver left g ≡ statementOver without-spare g
@@ -284,3 +287,19 @@ still-within j l =
 
 pub still-month : statementOver left (given (still 2976)) .rows ≡ filledRows (row 3 0 0 (pos 0) (pos 0) ∷ row 5 0 0 (pos 0) (pos 0) ∷ [])
 still-month = ap (λ (t : Statement). t .rows) (nothing-comes-back (still 2976) (length-replicate {A = ℕ} 2976 0) still-within left left-covers left-room)
+
+-- Over it the spare terminal's book alone would be settled with its early entry.
+abbrev pub spareMonth : MonthGiven
+spareMonth = withBook (given (still 2976)) spare
+
+pub still-early : settling spareMonth
+    ≡ record {
+      fault = NoFault;
+      header = record { area = 12; year = 2026; month = 3 };
+      calls = 1;
+      gap = record { 0 = negsuc 59999999 };
+      count = 2;
+      rows = filledRows (row 3 3600000000000 60000000 (negsuc 29999999) (pos 30000000) ∷ row 5 0 0 (negsuc 29999999) (negsuc 29999999) ∷ []);
+    }
+unfolding march
+still-early = early-alone (still 2976) (length-replicate {A = ℕ} 2976 0) still-within
