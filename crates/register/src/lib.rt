@@ -10,7 +10,7 @@ use units::SignedFen;
 use units::Thousandths;
 ghost use mathlib.Core.Path.{_≡_};
 ghost use Prim.Native.Nat.{_≤_};
-ghost use lib.ListN.{take};
+ghost use lib.ListN.{getD, take};
 ghost use Rattle.register.specs.Register.{mostEntries, blankEntry, entryLine, entryIsSound, firstBadEntry, linesFor};
 
 // A member, and what its sharing line needs besides its compensation.
@@ -94,6 +94,13 @@ pub fn first_bad_entry(entries: [Entry; MOST_ENTRIES], count: usize) -> usize
     count
 }
 
+// The compensation of line i, and none behind the last.
+fn fen_of(fens: [Fen; MOST_ENTRIES], i: usize) -> Fen
+    ensures { λ r. ⌜ r ≡ getD fens i (record { 0 = 0 }) ⌝ }
+{
+    if i < MOST_ENTRIES { fens[i] } else { Fen(0) }
+}
+
 // The sharing lines of entries whose members are compensated so, in turn.
 pub fn lines_for(entries: [Entry; MOST_ENTRIES], fens: [Fen; MOST_ENTRIES]) -> [Line; MOST_ENTRIES]
     ensures { λ r. ⌜ r ≡ linesFor entries fens ⌝ }
@@ -101,8 +108,10 @@ pub fn lines_for(entries: [Entry; MOST_ENTRIES], fens: [Fen; MOST_ENTRIES]) -> [
     let mut lines = blank_lines();
     let mut i: usize = 0;
     while i < MOST_ENTRIES {
-        lines[i] = entries[i].line(fens[i]);
-        i += 1;
+        let next = i + 1;
+        let fen = fen_of(fens, i);
+        lines[i] = entries[i].line(fen);
+        i = next;
     }
     lines
 }

@@ -1,18 +1,18 @@
-use mathlib.Core.Path.{_≡_, refl, ap}
+use mathlib.Core.Path.{_≡_, refl, _∙_, ap}
 use Prim.Native.Nat.{_-_, _≤_}
 use native.Mathlib.Omega.{arith}
-use lib.ListN.{length, take, length-set}
-use Rattle.register.specs.Register.{linesFor, blankEntry}
+use lib.ListN.{length, getD, take, length-set}
+use Rattle.register.specs.Register.{blankEntry, entryLine, linesFor}
 use Rattle.register.proofs.Entries.{line-next, lines-all}
 use borrow.Author.Needs.{needs}
 use Rattle.register.proofs.lines_for.Statement.{statement}
 use Rattle.register.proofs.lines_for.Tie as tie
 
 abbrev Inv-loop : tie.InvT-loop
-Inv-loop entries fens lines₀ i₀ lines i = (i ≤ 64) × (length lines ≡ 64) × (take i lines ≡ take i (linesFor entries fens))
+Inv-loop fens entries lines₀ i₀ lines i = (i ≤ 64) × (length lines ≡ 64) × (take i lines ≡ take i (linesFor entries fens))
 
 abbrev μ-loop : tie.MeasureT-loop
-μ-loop entries fens lines₀ i₀ lines i = 64 - i
+μ-loop fens entries lines₀ i₀ lines i = 64 - i
 
 blank-lines-requires : tie.Need-blank-lines-requires Inv-loop μ-loop
 blank-lines-requires c κs = tt
@@ -20,17 +20,17 @@ blank-lines-requires c κs = tt
 loop-holds : tie.Need-loop-holds Inv-loop μ-loop
 loop-holds c = (omega arith, ap length (c .blank-lines .ensures), refl)
 
+add-next : tie.Need-add-next Inv-loop μ-loop
+add-next c = omega arith
+
+fen-of-requires : tie.Need-fen-of-requires Inv-loop μ-loop
+fen-of-requires c κs = tt
+
 mul-line : tie.Need-mul-line Inv-loop μ-loop
 mul-line c = omega arith
 
 array-copy-out-line : tie.Need-array-copy-out-line Inv-loop μ-loop
 array-copy-out-line c = omega arith
-
-mul-line-2 : tie.Need-mul-line-2 Inv-loop μ-loop
-mul-line-2 c = omega arith
-
-array-copy-out-line-2 : tie.Need-array-copy-out-line-2 Inv-loop μ-loop
-array-copy-out-line-2 c = omega arith
 
 line-requires : tie.Need-line-requires Inv-loop μ-loop
 line-requires c κs = tt
@@ -41,9 +41,6 @@ mul-lines c = omega arith
 array-set-from-lines : tie.Need-array-set-from-lines Inv-loop μ-loop
 array-set-from-lines c = omega arith
 
-add-i : tie.Need-add-i Inv-loop μ-loop
-add-i c = omega arith
-
 loop-less : tie.Need-loop-less Inv-loop μ-loop
 loop-less c = omega arith
 
@@ -51,15 +48,17 @@ loop-again : tie.Need-loop-again Inv-loop μ-loop
 loop-again c =
     let a = c .before .before .before .before .before .before .args in
     let l = c .before .before .before .before .loop in
+    let fen = c .before .before .fen-of in
     let wide : length (a .t1) ≡ 64 = search needs in
-    (omega arith, simp length-set (l .inv .1), line-next (a .t1) (a .t2) (l .lines) (l .i) blankEntry (c .line .result) (omega arith) (omega (arith, l .inv .1)) (c .line .ensures) (l .inv .2))
+    let own = c .line .ensures ∙ ap (entryLine (getD (a .t1) (l .i) blankEntry)) (fen .ensures) in
+    (omega arith, simp length-set (l .inv .1), line-next (a .t1) (a .fens) (l .lines) (l .i) blankEntry (c .line .result) (omega arith) (omega (arith, l .inv .1)) own (l .inv .2))
 
 returns : tie.Need-returns Inv-loop μ-loop
 returns c =
     let l = c .before .loop in
     let a = c .before .before .before .args in
     let wide : length (a .t1) ≡ 64 = search needs in
-    lines-all (a .t1) (a .t2) (l .lines) (l .i) (omega (arith, l .inv .1)) (omega arith) (l .inv .2)
+    lines-all (a .t1) (a .fens) (l .lines) (l .i) (omega (arith, l .inv .1)) (omega arith) (l .inv .2)
 
 pub lines-for-spec : {M : Type 1} → statement M
 lines-for-spec =
@@ -69,14 +68,13 @@ lines-for-spec =
     μ-loop
     blank-lines-requires
     loop-holds
+    add-next
+    fen-of-requires
     mul-line
     array-copy-out-line
-    mul-line-2
-    array-copy-out-line-2
     line-requires
     mul-lines
     array-set-from-lines
-    add-i
     loop-less
     loop-again
     returns)
