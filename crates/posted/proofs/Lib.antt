@@ -6,4 +6,6 @@ pub mod Lines
 pub mod Rows
 pub mod Answers
 pub mod Determined
+pub mod Fits
 pub mod Promises
+pub mod Story

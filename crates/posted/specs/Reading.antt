@@ -76,7 +76,7 @@ statementWith h calls rows gap = record { fault = NoFault; header = h; calls = c
 unfoldable pub readWhole : Header → ℕ → List Row → ℤ → Posted
 readWhole h calls rows gap = record { reading = Whole; statement = statementWith h calls rows gap }
 
--- refused at a line, counted from 0, and a statement of zeros
+-- refused at a line, counted from 0: how it reads decides, and what stands beside it is zeros and no month's statement
 unfoldable pub badLine : ℕ → Posted
 badLine line = record { reading = BadLine line; statement = statementWith (record { area = 0; year = 0; month = 0 }) 0 [] (pos 0) }
 

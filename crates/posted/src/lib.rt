@@ -25,6 +25,7 @@ pub enum Reading {
     BadLine(usize),
 }
 
+// How a text reads, and the statement where it is read whole. How it reads decides: beside a refusal stand zeros, whose fault says nothing.
 pub struct Posted {
     pub statement: Statement,
     pub reading: Reading,
@@ -64,7 +65,7 @@ pub fn posted_text(s: Statement, out: &mut [u8]) -> usize
     put_posted(out, header, s.calls, rows, s.count, gap)
 }
 
-// Refused at a line, and a statement of zeros.
+// Refused at a line, and zeros.
 fn bad_line(line: usize) -> Posted
     ensures { λ r. ⌜ r ≡ badLine line ⌝ }
 {

@@ -117,7 +117,8 @@ module _ (ls : List Line) (none : sharing ls .number ≡ 0) where
       let b = bad-of-64 ls in
       all-within 0 ls (omega (arith, t .sound, b .0))
 
-  gap-most : natAbs (gap ls) ≤ mostCompensation
+  -- R is at most 10^11 fen, whatever its sign.
+  pub gap-most : natAbs (gap ls) ≤ mostCompensation
   unfolding gap
   gap-most =
       let t = taken-list ls none in

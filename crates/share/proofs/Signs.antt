@@ -59,6 +59,11 @@ diff-fits a b h k = go (decLe b a)
     go (yes l) = rw (diff-up a b l) (record { sfits = omega arith })
     go (no f) = rw (diff-down a b (omega arith)) (record { sfits = omega arith })
 
+-- and so does what is that small, whatever its sign
+pub small-fits : (z : ℤ) (m : ℕ) → natAbs z ≤ m → m < 2 ^ 63 → SFits w64 z
+small-fits (pos n) m h k = record { sfits = omega arith }
+small-fits (negsuc n) m h k = record { sfits = omega arith }
+
 -- the share and the amount as differences of amounts
 pub share-down : (s : ℕ) → pos 0 -ℤ pos s ≡ negℤ (pos s)
 share-down s = +ℤ-idl (negℤ (pos s))

@@ -4,7 +4,7 @@ use mathlib.Core.List.{List, [], _∷_, _++_, map, append-assoc}
 use Prim.Native.Nat.{ℕ, zero, suc, _+_, _*_, _^_, _≤_, _<_}
 use native.Mathlib.Nat.{zero-add, not-suc-le-zero}
 use native.Mathlib.Omega.{arith}
-use lib.IntN.{ℤ, pos, negsuc, natAbs, _+ℤ_, _-ℤ_, _*ℤ_}
+use lib.IntN.{ℤ, pos, natAbs, _+ℤ_, _-ℤ_, _*ℤ_}
 use lib.ListN.{length, getD, drop}
 use lib.Seq.{sets, sets-eq}
 use mir.Syntax.{w64}
@@ -16,6 +16,7 @@ use Rattle.share.specs.declared.Answer.{Answer}
 use Rattle.share.specs.declared.Line.{Line}
 use Rattle.share.specs.Sharing.{Part, SharingOutcome, assessmentFen, below, gap, weightOf, allWeights, sharingAccepted, sharing}
 use Rattle.share.specs.Verdict as lines
+use Rattle.share.proofs.Signs.{small-fits}
 use Rattle.share.proofs.Refusals.{exact}
 use Rattle.share.proofs.Outcomes.{taken-list, each-given}
 use Rattle.share.proofs.Promises.{sumℤ, gap-is, adds-to-gap, adds-to-zero, amount-is, part-within, one-fen, one-fen-none}
@@ -36,10 +37,6 @@ signed-back z t f =
 record Fit (p : Part) : Type 0 where
   share : SFits w64 (p .share)
   amount : SFits w64 (p .amount)
-
-small : (z : ℤ) (m : ℕ) → natAbs z ≤ m → m < 2 ^ 63 → SFits w64 z
-small (pos n) m h k = record { sfits = omega arith }
-small (negsuc n) m h k = record { sfits = omega arith }
 
 amount-behind : (p : Part) (t : List ℕ) → leAt (partBytes p ++ t) 8 8 ≡ leAt (leBytes 8 (ofZ w64 (p .amount)) ++ t) 0 8
 unfolding partBytes
@@ -128,7 +125,7 @@ module _ (input before after : List ℕ) (r : Answer) (b : BytesShared input bef
   fit : (d : Part) (k : ℕ) → k < length (sharing ls .parts) → Fit (getD (sharing ls .parts) k d)
   fit d k h =
       let w = part-within ls (ok .none) k d (omega (arith, h, long, count)) in
-      record { share = small _ 100000000000 (w .0) (omega arith); amount = small _ 200000000000 (w .1) (omega arith) }
+      record { share = small-fits _ 100000000000 (w .0) (omega arith); amount = small-fits _ 200000000000 (w .1) (omega arith) }
 
   stored : after ≡ partsBytes (sharing ls .parts) ++ drop (0 + length (partsBytes (sharing ls .parts))) before
   stored =

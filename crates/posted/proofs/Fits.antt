@@ -1,0 +1,121 @@
+-- The numbers of a settled month fit the bits that a statement has for them. Assumes nothing.
+use mathlib.Core.Path.{_≡_, refl, sym, _∙_, ap}
+use mathlib.Core.Bool.{Bool}
+use mathlib.Core.List.{List, [], _∷_}
+use Prim.Native.Nat.{ℕ, zero, suc, _*_, _^_, _≤_, _<_}
+use native.Mathlib.Nat.{mul-le-mul}
+use native.Mathlib.Omega.{arith}
+use lib.IntN.{ℤ, pos, natAbs}
+use lib.ListN.{length, getD}
+use mir.Syntax.{w64}
+use mir.Val.{SFits}
+use Rattle.units.specs.declared.Grains.{Grains}
+use Rattle.units.specs.Money.{mostGrains, grainsPlus}
+use Rattle.book.specs.declared.Header.{Header}
+use Rattle.book.specs.Book.{headerAt, countAt}
+use Rattle.book.specs.Check.{accepted, check}
+use Rattle.book.proofs.Exact.{accepted-tests}
+use Rattle.book.proofs.Heads.{headed-is}
+use Rattle.share.specs.declared.Line.{Line}
+use Rattle.share.specs.Sharing.{Part, weightOf, below, gap, sharing}
+use Rattle.share.specs.Forms.{blankLine}
+use Rattle.share.specs.Verdict.{SoundLine, numberBefore, AllSound}
+use Rattle.share.proofs.Signs.{small-fits}
+use Rattle.share.proofs.Bounds.{weight-le}
+use Rattle.share.proofs.Cases.{bad-of-64}
+use Rattle.share.proofs.Outcomes.{taken-list}
+use Rattle.share.proofs.Refusals.{all-sound}
+use Rattle.share.proofs.Promises.{gap-is, gap-most, part-within}
+use Rattle.month.specs.declared.Fault.the-variants.{NoFault}
+use Rattle.month.specs.declared.Row.{Row}
+use Rattle.month.specs.declared.Statement.{Statement}
+use Rattle.month.specs.Settling.{MonthGiven, rowOf, blankRow, settling}
+use Rattle.month.specs.Outcomes.{scoreOfLine, linesIn, grainsIn}
+use Rattle.month.proofs.Walking.{noGrains}
+use Rattle.month.proofs.Accepted.{rowsSettled, noPart, row-at, length-rows, length-in, settled-row, passed}
+use Rattle.month.proofs.Promises.{rowOfLine, addedTo, compensation-is}
+use Rattle.posted.specs.Reading.{HeadFits, RowFits, RowsFit, none, more}
+
+-- rows fit where the row at each place does
+pub rows-fit : (rs : List Row) → ((i : ℕ) → i < length rs → RowFits (getD rs i blankRow)) → RowsFit rs
+rows-fit [] f = none
+rows-fit (r ∷ rs) f = more (f 0 (omega arith)) (rows-fit rs (λ i l. f (suc i) (omega arith)))
+
+-- what is held at the top of 64 bits fits them
+held-fits : (a b : ℕ) → grainsPlus a b < 2 ^ 64
+unfolding grainsPlus
+held-fits a b = omega arith
+
+-- the header of a book that is accepted, and its count
+head-fits : (b : List ℕ) → check b ≡ accepted → HeadFits (headerAt b) (countAt b)
+head-fits b e =
+    let h = headed-is b (accepted-tests b e .header) in
+    record {
+      area = omega (arith, h .heading .area .1);
+      year = omega (arith, h .heading .year .1);
+      month = omega (arith, h .heading .month .1);
+      calls = omega (arith, h .few);
+    }
+
+-- a row of a sound line
+row-fits : (isBelow : Bool) (before : ℕ) (l : Line) (gs : Grains) (p : Part) → SoundLine before l → gs .0 < 2 ^ 64
+    → natAbs (p .share) ≤ 100000000000 → natAbs (p .amount) ≤ 200000000000 → RowFits (rowOf isBelow l gs p)
+unfolding rowOf
+row-fits isBelow before l gs p s g h k =
+    record {
+      number = omega (arith, s .number);
+      grains = g;
+      compensation = omega (arith, s .compensation);
+      assessment = omega (arith, s .assessment);
+      energy = omega (arith, s .energy);
+      weight = omega (arith, weight-le isBelow l (record { energy = s .energy; compensation = s .compensation; assessment = s .assessment }));
+      share = small-fits (p .share) 100000000000 h (omega arith);
+      amount = small-fits (p .amount) 200000000000 k (omega arith);
+    }
+
+module _ (g : MonthGiven) (settled : settling g .fault ≡ NoFault) where
+  abbrev ls : List Line
+  ls = linesIn g
+
+  -- sharing took every line as sound, and 64 at most
+  sound : AllSound ls
+  sound =
+      let t = taken-list ls (passed g settled .shared) in
+      let b = bad-of-64 ls in
+      all-sound ls (omega (arith, t .sound, b .0))
+
+  pub few-entries : length (g .entries) ≤ 64
+  few-entries =
+      let t = taken-list ls (passed g settled .shared) in
+      omega (arith, t .few, length-in g)
+
+  pub month-head : HeadFits (settling g .header) (settling g .calls)
+  month-head =
+      let p = passed g settled in
+      rw (p .is) (head-fits (g .book) (p .book))
+
+  grains-fit : (i : ℕ) → i < length (g .entries) → getD (grainsIn g) i noGrains .0 < 2 ^ 64
+  unfolding rowOf
+  grains-fit i h =
+      let c = compensation-is g settled i h in
+      let same : rowOfLine g i .grains .0 ≡ getD (grainsIn g) i noGrains .0 = ap (λ (r : Row). r .grains .0) (settled-row g i (passed g settled) h) in
+      omega (arith, c .1, same, held-fits (scoreOfLine g i .grains .0) (addedTo g i .0))
+
+  month-row : (i : ℕ) → i < length (rowsSettled g) → RowFits (getD (rowsSettled g) i blankRow)
+  month-row i l =
+      let p = passed g settled in
+      let long = length-in g in
+      let rows = length-rows (below ls) ls (grainsIn g) (sharing ls .parts) in
+      let w = part-within ls (p .shared) i noPart (omega arith) in
+      rw (row-at (below ls) ls (grainsIn g) (sharing ls .parts) i blankRow (omega arith))
+      (row-fits (below ls) (numberBefore 0 ls i) (getD ls i blankLine) (getD (grainsIn g) i noGrains) (getD (sharing ls .parts) i noPart)
+      (sound i (omega arith)) (grains-fit i (omega arith)) (w .0) (w .1))
+
+  pub month-rows : RowsFit (rowsSettled g)
+  month-rows = rows-fit (rowsSettled g) month-row
+
+  pub month-gap : SFits w64 (settling g .gap .0)
+  month-gap =
+      let p = passed g settled in
+      let e : settling g .gap .0 ≡ gap ls = ap (λ (s : Statement). s .gap .0) (p .is) ∙ gap-is ls (p .shared) in
+      rw e (small-fits (gap ls) 100000000000 (gap-most ls (p .shared)) (omega arith))
