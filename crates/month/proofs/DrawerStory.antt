@@ -35,7 +35,8 @@ use Rattle.pay.specs.declared.Member.{Member}
 use Rattle.pay.specs.declared.open.Month.{Month}
 use Rattle.pay.specs.Kinds.{coal}
 use Rattle.pay.specs.Sum.{total, totalZ}
-use Rattle.pay.specs.Member.{memberIsSound}
+use Rattle.pay.specs.Member.{memberIsSound, MemberWithin}
+use Rattle.pay.proofs.Within.{line-of}
 use Rattle.pay.specs.Rate.{startStopRate, rateOf, ratedPay}
 use Rattle.pay.specs.Event.{clamp, energyPay}
 use Rattle.pay.specs.Open.{openTo}
@@ -45,8 +46,7 @@ use Rattle.score.specs.declared.answer.Earned.the-variants.{Accepted}
 use Rattle.score.specs.First.{firstNonzero, anyBelow}
 use Rattle.score.specs.Refusing.{numberOf, refusalAt}
 use Rattle.score.specs.Scoring.{isOwnLive, payOf, whOf, payAt, whAt, monthGrains, firstRefused, recordsEarned, grainsEarned}
-use Rattle.score.specs.Outcomes.{MemberWithin, ValuesWithin, Ready}
-use Rattle.score.proofs.Exact.{line-of}
+use Rattle.score.specs.Outcomes.{ValuesWithin, Ready}
 use Rattle.score.proofs.Empty.{still}
 use Rattle.score.proofs.Listed.{earned-over-calls}
 use Rattle.apportion.specs.Apportion.{apportion}

@@ -30,7 +30,7 @@ use Rattle.score.specs.Series.{seriesFault}
 use Rattle.score.proofs.First.{first-bad}
 use Rattle.book.proofs.Judged.{zero-accepted}
 use Rattle.score.proofs.Turns.{score-is}
-use Rattle.score.proofs.Exact.{line-of, of-line}
+use Rattle.pay.proofs.Within.{line-of, of-line}
 use Rattle.share.specs.Sharing.{sharing}
 use Rattle.share.proofs.Bounds.{sound-from, sound-to}
 use Rattle.register.specs.declared.Entry.{Entry}

@@ -10,7 +10,7 @@ use Rattle.book.specs.Check.{accepted, check}
 use Rattle.score.specs.declared.answer.Earned.{Earned}
 use Rattle.score.specs.declared.answer.Score.{Score}
 use Rattle.score.specs.Scoring.{scoring}
-use Rattle.score.specs.Outcomes.{MemberWithin}
+use Rattle.pay.specs.Member.{MemberWithin}
 use Rattle.apportion.specs.Apportion.{total}
 use Rattle.share.specs.declared.Line.{Line}
 use Rattle.share.specs.Sharing.{below, SharingOutcome, sharing}

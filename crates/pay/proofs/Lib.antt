@@ -4,3 +4,4 @@ pub mod Signed
 pub mod Bounds
 pub mod Cases
 pub mod Ceiling
+pub mod Within

@@ -1,6 +1,6 @@
 -- A register line. Assumes nothing.
 use mathlib.Core.Bool.{Bool, _&&_, _||_}
-use Prim.Native.Nat.{ℕ}
+use Prim.Native.Nat.{ℕ, _≤_}
 use lib.Dec.{eqb, leb}
 use Rattle.pay.specs.declared.Member.{Member}
 use Rattle.pay.specs.Kinds.{coal, gas, hydro, wind, photovoltaic, solarThermal, pumpedStorage, newStorage}
@@ -19,6 +19,12 @@ memberIsSound m =
     leb 1 (m .number) && leb (m .number) mostMember
     && leb coal (m .kind) && leb (m .kind) newStorage
     && leb 1 (m .rated .0) && leb (m .rated .0) mostRated
+
+-- the same as facts: a register line within the limits
+pub record MemberWithin (m : Member) : Type 0 where
+  pub number : (1 ≤ m .number) × (m .number ≤ mostMember)
+  pub kind : (coal ≤ m .kind) × (m .kind ≤ newStorage)
+  pub rated : (1 ≤ m .rated .0) × (m .rated .0 ≤ mostRated)
 
 -- wind and photovoltaic, of which an event is paid by its rate and not by energy
 unfoldable pub isByRate : ℕ → Bool

@@ -13,7 +13,7 @@ use call::MOST_PARTICIPANT;
 use units::Kw;
 
 pub mod event;
-mod kind;
+pub mod kind;
 pub mod live;
 pub mod open;
 mod rate;

@@ -16,9 +16,10 @@ use Rattle.book.proofs.Records.{length-calls}
 use Rattle.pay.specs.declared.Member.{Member}
 use Rattle.pay.specs.Sum.{total, totalZ}
 use Rattle.pay.specs.Event.{clamp, energyPay}
+use Rattle.pay.specs.Member.{MemberWithin}
 use Rattle.score.specs.Series.{mostOutput}
 use Rattle.score.specs.Scoring.{monthGrains, scoring}
-use Rattle.score.specs.Outcomes.{MemberWithin, Ready, scored}
+use Rattle.score.specs.Outcomes.{Ready, scored}
 use Rattle.score.proofs.Exact.{outcome-exact}
 
 no-grains : (m : Member) (series : List ℕ) (book : ℕ → Call) → monthGrains m series book 0 ≡ 0

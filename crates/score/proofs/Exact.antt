@@ -20,9 +20,9 @@ use Rattle.book.specs.Book.{headerAt, countAt, recordAt}
 use Rattle.book.specs.Check.{refused, accepted, check, headerMinutes}
 use Rattle.pay.specs.declared.Member.{Member}
 use Rattle.pay.specs.declared.open.Month.{Month}
-use Rattle.pay.specs.Kinds.{coal, newStorage}
-use Rattle.pay.specs.Member.{mostMember, mostRated, memberIsSound}
+use Rattle.pay.specs.Member.{memberIsSound, MemberWithin}
 use Rattle.pay.specs.Open.{openTo}
+use Rattle.pay.proofs.Within.{line-of, of-line}
 use Rattle.score.specs.declared.answer.Score.{Score}
 use Rattle.score.specs.declared.answer.Earned.{Earned}
 use Rattle.score.specs.declared.answer.Earned.the-variants.{Accepted, Refused}
@@ -30,7 +30,7 @@ use Rattle.score.specs.First.{firstNonzero, anyBelow}
 use Rattle.score.specs.Series.{mostOutput, lengthPlace, tooMuch, firstTooMuch, seriesFault}
 use Rattle.score.specs.Refusing.{overlaps, isOnce, clashes, clashAt, numberOf, refusalAt}
 use Rattle.score.specs.Scoring.{monthGrains, recordsEarned, monthAt, soundEarned, grainsEarned, scoreRefused, inFen, scoring}
-use Rattle.score.specs.Outcomes.{MemberWithin, LineAndBook, Spans, Ready, OfOneService, Against, shares-minute, second, Passes, other, gone, good, Clear, RecordsTurn, ScoreOutcome}
+use Rattle.score.specs.Outcomes.{LineAndBook, Spans, Ready, OfOneService, Against, shares-minute, second, Passes, other, gone, good, Clear, RecordsTurn, ScoreOutcome}
 use Rattle.score.specs.Outcomes.{bad-line, bad-book, bad-length, bad-value, is-contested, not-open, stands-against, scored}
 use Rattle.score.proofs.First.{first-le, first-bad, first-before, first-all, first-of-all, first-hit, first-again, any-suc, any-none, any-not, any-hit, any-zero}
 use Rattle.book.proofs.Judged.{zero-accepted}
@@ -41,24 +41,6 @@ use Rattle.score.proofs.Turns.{records-sum, faultIn, sound-refused, sou
 -- Two outcomes that the contract of `score` allows are one.
 pub determined : (m : Member) (b series : List ℕ) (r s : Score) → r ≡ scoring m b series → s ≡ scoring m b series → r ≡ s
 determined m b series r s p q = p ∙ sym q
-
--- The register line
-
-abbrev line-tests : Member → List Bool
-line-tests m = leb (m .number) mostMember ∷ leb coal (m .kind) ∷ leb (m .kind) newStorage ∷ leb 1 (m .rated .0) ∷ leb (m .rated .0) mostRated ∷ []
-
-pub line-of : (m : Member) → memberIsSound m ≡ true → MemberWithin m
-unfolding memberIsSound
-line-of m h =
-    let p = each (leb 1 (m .number)) (line-tests m) h in
-    let q = p .1 .1 in
-    record { number = (leb-true _ _ (p .0), leb-true _ _ (p .1 .0)); kind = (leb-true _ _ (q .0), leb-true _ _ (q .1 .0)); rated = (leb-true _ _ (q .1 .1 .0), leb-true _ _ (q .1 .1 .1 .0)) }
-
-pub of-line : (m : Member) → MemberWithin m → memberIsSound m ≡ true
-unfolding memberIsSound
-of-line m l =
-    all (leb 1 (m .number)) (line-tests m)
-    (le-leb _ _ (l .number .0), (le-leb _ _ (l .number .1), (le-leb _ _ (l .kind .0), (le-leb _ _ (l .kind .1), (le-leb _ _ (l .rated .0), (le-leb _ _ (l .rated .1), tt))))))
 
 -- One record against another
 

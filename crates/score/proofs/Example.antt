@@ -16,14 +16,15 @@ use Rattle.book.proofs.Example.{bytes, is-sound}
 use Rattle.pay.specs.declared.Member.{Member}
 use Rattle.pay.specs.Kinds.{coal, wind}
 use Rattle.pay.specs.Sum.{total, totalZ}
-use Rattle.pay.specs.Member.{memberIsSound, isByRate}
+use Rattle.pay.specs.Member.{memberIsSound, MemberWithin, isByRate}
+use Rattle.pay.proofs.Within.{line-of}
 use Rattle.pay.specs.Rate.{startStopRate, rateOf, ratedPay}
 use Rattle.pay.specs.Event.{clamp, energyPay}
 use Rattle.pay.specs.Open.{isZero, eventOpen, openTo}
 use Rattle.pay.specs.Live.{livePay, liveWh}
 use Rattle.score.specs.Scoring.{isOwnLive, payOf, whOf, payAt, whAt, monthGrains, monthAt, scoreRefused, scoring}
-use Rattle.score.specs.Outcomes.{MemberWithin, ValuesWithin, Ready, Passes, other, good, Clear, RecordsTurn, scored, not-open}
-use Rattle.score.proofs.Exact.{line-of, outcome-exact}
+use Rattle.score.specs.Outcomes.{ValuesWithin, Ready, Passes, other, good, Clear, RecordsTurn, scored, not-open}
+use Rattle.score.proofs.Exact.{outcome-exact}
 use Rattle.score.proofs.Empty.{still}
 
 -- member 7, coal of 300,000 kW; member 9, wind of as many

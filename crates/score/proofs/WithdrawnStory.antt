@@ -23,9 +23,10 @@ use Rattle.book.proofs.Exact.{sound-accepted, reads-back}
 use Rattle.book.proofs.Records.{length-calls}
 use Rattle.book.proofs.Without.{callIn, in-calls}
 use Rattle.pay.specs.declared.Member.{Member}
+use Rattle.pay.specs.Member.{MemberWithin}
 use Rattle.score.specs.Series.{mostOutput}
 use Rattle.score.specs.Scoring.{scoreRefused, scoring}
-use Rattle.score.specs.Outcomes.{MemberWithin, Ready, other, RecordsTurn, is-contested}
+use Rattle.score.specs.Outcomes.{Ready, other, RecordsTurn, is-contested}
 use Rattle.score.specs.Lowered.{lowerPlace, isOfRecord, lowered}
 use Rattle.score.proofs.Empty.{still}
 use Rattle.score.proofs.Exact.{outcome-exact}

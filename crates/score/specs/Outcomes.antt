@@ -14,18 +14,11 @@ use Rattle.book.specs.Book.{headerAt, countAt, recordAt}
 use Rattle.book.specs.Check.{accepted, check}
 use Rattle.pay.specs.declared.Member.{Member}
 use Rattle.pay.specs.declared.open.Month.{Month}
-use Rattle.pay.specs.Kinds.{coal, newStorage}
-use Rattle.pay.specs.Member.{mostMember, mostRated}
+use Rattle.pay.specs.Member.{MemberWithin}
 use Rattle.pay.specs.Open.{openTo}
 use Rattle.score.specs.declared.answer.Score.{Score}
 use Rattle.score.specs.Series.{mostOutput, lengthPlace}
 use Rattle.score.specs.Scoring.{monthGrains, monthAt, scoreRefused}
-
--- a register line within the limits
-pub record MemberWithin (m : Member) : Type 0 where
-  pub number : (1 ≤ m .number) × (m .number ≤ mostMember)
-  pub kind : (coal ≤ m .kind) × (m .kind ≤ newStorage)
-  pub rated : (1 ≤ m .rated .0) × (m .rated .0 ≤ mostRated)
 
 -- line and book are good
 pub record LineAndBook (m : Member) (b : List ℕ) : Type 0 where

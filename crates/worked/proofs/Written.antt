@@ -25,7 +25,7 @@ use Rattle.score.specs.declared.answer.Score.{Score}
 use Rattle.score.specs.Series.{mostOutput}
 use Rattle.score.specs.Scoring.{recordsEarned, inFen, scoring}
 use Rattle.score.specs.Outcomes.{Ready}
-use Rattle.score.proofs.Exact.{line-of}
+use Rattle.pay.proofs.Within.{line-of}
 use Rattle.score.proofs.Listed.{over-calls}
 use Rattle.worked.specs.Crowded.{january}
 use Rattle.worked.specs.Worked.{wholeMonth, rowCall, rowCallAt, sameScore, outputsAreSound, callsAreSound, rowIsSound, rowScore, rowBook}

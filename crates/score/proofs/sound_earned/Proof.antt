@@ -11,7 +11,7 @@ use Rattle.score.specs.Series.{seriesFault}
 use Rattle.score.specs.Scoring.{recordsEarned, monthAt}
 use Rattle.score.proofs.Turns.{faultIn, series-sound, sound-refused, sound-records}
 use Rattle.score.proofs.Checked.{all-sound, spans-month}
-use Rattle.score.proofs.Exact.{line-of}
+use Rattle.pay.proofs.Within.{line-of}
 use borrow.Author.Needs.{needs}
 use Rattle.score.proofs.sound_earned.Statement.{statement}
 use Rattle.score.proofs.sound_earned.Tie as tie
