@@ -1,0 +1,5 @@
+pub mod Fractions
+pub mod Ramping
+pub mod Bytes
+pub mod Outcomes
+pub mod Inner
