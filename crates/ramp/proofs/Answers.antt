@@ -6,7 +6,7 @@ use Prim.Native.Nat.{ℕ, zero, suc, _+_, _-_, _*_, _/_, _%_, _≤_, _<_, min}
 use native.Mathlib.Omega.{arith}
 use lib.Dec.{ltb}
 use lib.ListN.{length}
-use borrow.Author.Tests.{eq-eqb, ne-eqb, lt-ltb, le-ltb, ltb-false}
+use borrow.Author.Tests.{eq-eqb, ne-eqb, lt-ltb, ltb-false}
 use Rattle.pay.specs.declared.Member.{Member}
 use Rattle.pay.specs.Member.{memberIsSound}
 use Rattle.ramp.specs.declared.Action.{Action}
@@ -14,7 +14,8 @@ use Rattle.ramp.specs.declared.so_far.HourSoFar.{HourSoFar}
 use Rattle.ramp.specs.Ramping.{mostActions, isRamping, actionIsSound, firstStandard, firstUnsound, firstBadAction, hourGrains, hourRefused, hourPaid, ramping}
 use Rattle.ramp.specs.Bytes.{actionSize, actionAt, actionsFrom, actionsIn, rampingBytes}
 use Rattle.ramp.specs.Inner.{takesAction, SoFar}
-use Rattle.ramp.proofs.Sound.{unsound-behind, unsound-le}
+use Rattle.ramp.proofs.Sound.{unsound-behind, unsound-le, all-within, none-bad, bad-none}
+use Rattle.ramp.proofs.Accepted.{hour-pays}
 use Rattle.ramp.proofs.Going.{so-far-within, takes-is}
 
 -- Where an hour stops
@@ -35,8 +36,7 @@ stops actions a h s t more =
 
 -- where every action is taken none is bad
 pub all-taken : (actions : List Action) (h : HourSoFar) → SoFar actions h → firstBadAction actions ≡ length actions
-unfolding firstBadAction
-all-taken actions h s = ap (λ (n : ℕ). min n mostActions) (s .sound) ∙ omega (arith, s .most)
+all-taken actions h s = bad-none actions (s .most) (all-within (firstStandard actions) actions (s .sound))
 
 -- The answer
 
@@ -49,14 +49,9 @@ module _ (m : Member) (actions : List Action) where
   unfolding ramping
   other-kind-is e k = rw (e, k) refl
 
-  module _ (e : memberIsSound m ≡ true) (k : isRamping (m .kind) ≡ true) where
-    pub bad-action-is : firstBadAction actions < length actions → ramping m actions ≡ hourRefused 10 (firstBadAction actions)
-    unfolding ramping
-    bad-action-is l = rw (e, k, lt-ltb (firstBadAction actions) (length actions) l) refl
-
-    pub paid-is : length actions ≤ firstBadAction actions → ramping m actions ≡ hourPaid (hourGrains (m .rated .0) actions)
-    unfolding ramping
-    paid-is l = rw (e, k, le-ltb (firstBadAction actions) (length actions) l) refl
+  pub bad-action-is : memberIsSound m ≡ true → isRamping (m .kind) ≡ true → firstBadAction actions < length actions → ramping m actions ≡ hourRefused 10 (firstBadAction actions)
+  unfolding ramping
+  bad-action-is e k l = rw (e, k, lt-ltb (firstBadAction actions) (length actions) l) refl
 
 module _ (m : Member) (bytes : List ℕ) where
   pub odd-is : (length bytes % actionSize ≡ 0 → ⊥) → rampingBytes m bytes ≡ hourRefused 1 0
@@ -146,4 +141,5 @@ module _ (m : Member) (bytes : List ℕ) (whole : length bytes % actionSize ≡ 
 
   pub through-is : count ≤ h .count → (grains : ℕ) → ((actions : List Action) → SoFar actions h → grains ≡ hourGrains (m .rated .0) actions) → hourPaid grains ≡ rampingBytes m bytes
   through-is l grains g =
-      ap hourPaid (g (actionsIn bytes) (through l)) ∙ sym (whole-is m bytes whole ∙ paid-is m (actionsIn bytes) e k (omega (arith, first, long)))
+      let q = none-bad (actionsIn bytes) (omega (arith, first, long)) in
+      ap hourPaid (g (actionsIn bytes) (through l)) ∙ sym (whole-is m bytes whole ∙ hour-pays m (actionsIn bytes) (record { line = e; kind = k; few = q .0; within = q .1 }))

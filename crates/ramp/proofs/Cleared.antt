@@ -10,7 +10,7 @@ use lib.IntN.{ℤ, pos, _-ℤ_, _*ℤ_}
 use lib.ListN.{length, length-map}
 use borrow.Author.Tests.{eqb-false}
 use Rattle.ramp.specs.declared.Action.{Action}
-use Rattle.ramp.specs.Fractions.{fraction, less, times, sum, mean, cut}
+use Rattle.ramp.specs.Fractions.{fraction, times, sum, mean, cut}
 use Rattle.ramp.specs.Ramping.{errorOf, k1, k2, k3, index, rightWay, distance, meanIndex, hourWorth, hourGrains, firstStandard}
 use Rattle.ramp.specs.Outcomes.{ActionWithin}
 use Rattle.ramp.specs.Inner.{given, taken, cleared, clearedSum, clearedWorth, clearedGrains}

@@ -2,7 +2,7 @@
 use mathlib.Core.Path.{_≡_, refl, sym, _∙_, ap}
 use mathlib.Core.Bool.{Bool, true, false, cond, _&&_}
 use mathlib.Core.List.{List, [], _∷_, _++_, append-nil}
-use Prim.Native.Nat.{ℕ, suc, _+_, _-_, _*_, _^_, _≤_, _<_}
+use Prim.Native.Nat.{ℕ, _+_, _-_, _*_, _^_, _≤_, _<_}
 use native.Mathlib.Omega.{arith}
 use lib.Dec.{ltb}
 use lib.ListN.{length, length-append}
@@ -10,10 +10,11 @@ use borrow.Author.Tests.{ltb-true, eq-eqb, ne-eqb}
 use Rattle.le.proofs.Tests.{each}
 use Rattle.ramp.specs.declared.Action.{Action}
 use Rattle.ramp.specs.declared.so_far.HourSoFar.{HourSoFar}
-use Rattle.ramp.specs.Ramping.{mostActions, mostPower, mostDelay, mostRampRate, mostOverStandard, apart, isRightWay, moveOf, errorOf, rightWay, actionIsSound, firstStandard, firstUnsound}
+use Rattle.ramp.specs.Ramping.{mostActions, mostPower, mostDelay, mostRampRate, mostOverStandard, isRightWay, moveOf, errorOf, rightWay, actionIsSound, firstStandard, firstUnsound}
 use Rattle.ramp.specs.Outcomes.{ActionWithin}
 use Rattle.ramp.specs.Inner.{addUp, realOf, delayOf, standardWith, takesAction, SoFar, Goes}
 use Rattle.ramp.proofs.Within.{AllWithin, right-within, standard-some}
+use Rattle.ramp.proofs.Bounds.{move-most, error-most, right-le}
 use Rattle.ramp.proofs.Sound.{within-of, unsound-behind, all-within}
 
 -- Sums
@@ -28,15 +29,6 @@ right-append (a ∷ actions) more = go (isRightWay a) (right-append actions more
         → cond t (a ∷ rightWay (actions ++ more)) (rightWay (actions ++ more)) ≡ cond t (a ∷ rightWay actions) (rightWay actions) ++ rightWay more
     go true e = ap (λ (l : List Action). a ∷ l) e
     go false e = e
-
-pub right-le : (actions : List Action) → length (rightWay actions) ≤ length actions
-unfolding rightWay
-right-le [] = omega arith
-right-le (a ∷ actions) = go (isRightWay a) (right-le actions)
-  where
-    go : (t : Bool) → length (rightWay actions) ≤ length actions → length (cond t (a ∷ rightWay actions) (rightWay actions)) ≤ suc (length actions)
-    go true h = omega arith
-    go false h = omega arith
 
 module _ (f : Action → ℕ) where
   pub up-append : (actions more : List Action) → addUp f (actions ++ more) ≡ addUp f actions + addUp f more
@@ -147,19 +139,6 @@ module _ (actions : List Action) (a : Action) (h : HourSoFar) (s : SoFar actions
         }
 
 -- How large the sums can be
-
-apart-most : (p q most : ℕ) → p ≤ most → q ≤ most → apart p q ≤ most
-unfolding apart
-apart-most p q most h k = omega arith
-
-module _ (standard : ℕ) (a : Action) (w : ActionWithin standard a) where
-  pub move-most : moveOf a ≤ mostPower
-  unfolding moveOf
-  move-most = apart-most (a .start .0) (a .end .0) mostPower (w .powers .0) (w .powers .1)
-
-  pub error-most : errorOf a ≤ mostPower
-  unfolding errorOf
-  error-most = apart-most (a .end .0) (a .command .0) mostPower (w .powers .1) (w .powers .2)
 
 pub record Bounds (h : HourSoFar) : Type 0 where
   pub count : h .count ≤ mostActions

@@ -1,7 +1,13 @@
 pub mod Worth
 pub mod Within
-pub mod Cleared
 pub mod Sound
+pub mod Cleared
+pub mod Bounds
+pub mod Accepted
+pub mod Promises
+pub mod Order
+pub mod Cases
+pub mod Top
 pub mod Going
 pub mod Paid
 pub mod Answers

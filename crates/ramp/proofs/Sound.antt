@@ -9,7 +9,7 @@ use lib.ListN.{length}
 use borrow.Author.Tests.{eq-eqb, ne-eqb, eqb-true, eqb-false, le-leb, leb-true}
 use Rattle.le.proofs.Tests.{each, all}
 use Rattle.ramp.specs.declared.Action.{Action}
-use Rattle.ramp.specs.Ramping.{mostPower, mostDelay, mostRampRate, mostOverStandard, actionIsSound, firstUnsound}
+use Rattle.ramp.specs.Ramping.{mostActions, mostPower, mostDelay, mostRampRate, mostOverStandard, actionIsSound, firstStandard, firstUnsound, firstBadAction}
 use Rattle.ramp.specs.Outcomes.{ActionWithin}
 use Rattle.ramp.proofs.Within.{AllWithin}
 
@@ -80,6 +80,7 @@ unfolding firstUnsound
 unsound-behind standard [] more w = omega arith
 unsound-behind standard (a ∷ actions) more w = rw (of-within standard a (w .0)) (ap suc (unsound-behind standard actions more (w .1)) ∙ omega arith)
 
+-- the first that is not sound stands no further than their end
 pub unsound-le : (standard : ℕ) (actions : List Action) → firstUnsound standard actions ≤ length actions
 unfolding firstUnsound
 unsound-le standard [] = omega arith
@@ -103,3 +104,14 @@ all-within standard (a ∷ actions) e = go (all-within standard actions) (action
         → cond t (suc (firstUnsound standard actions)) 0 ≡ suc (length actions) → ActionWithin standard a × AllWithin standard actions
     go rest true s e = (within-of standard a s, rest (omega arith))
     go rest false s e = absurd (omega arith)
+
+-- where none is bad: at most 60, each within the limits
+pub none-bad : (actions : List Action) → length actions ≤ firstBadAction actions → (length actions ≤ mostActions) × AllWithin (firstStandard actions) actions
+unfolding firstBadAction
+none-bad actions h =
+    let le = unsound-le (firstStandard actions) actions in
+    (omega arith, all-within (firstStandard actions) actions (omega arith))
+
+pub bad-none : (actions : List Action) → length actions ≤ mostActions → AllWithin (firstStandard actions) actions → firstBadAction actions ≡ length actions
+unfolding firstBadAction
+bad-none actions few w = omega (arith, unsound-none (firstStandard actions) actions w)

@@ -3,3 +3,4 @@ pub mod Ramping
 pub mod Bytes
 pub mod Outcomes
 pub mod Inner
+pub mod Cases
