@@ -11,3 +11,4 @@ pub mod Top
 pub mod Going
 pub mod Paid
 pub mod Answers
+pub mod Exact

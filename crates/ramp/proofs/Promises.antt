@@ -62,7 +62,7 @@ no-right-way m actions h none = paid m actions h ∙ rw (eq-eqb (length (rightWa
 -- The most
 
 -- a refusal pays nothing
-accepted-or-nothing : (m : Member) (actions : List Action) → (ramping m actions .number ≡ 0) ⊎ (ramping m actions .grains .0 ≡ 0)
+pub accepted-or-nothing : (m : Member) (actions : List Action) → (ramping m actions .number ≡ 0) ⊎ (ramping m actions .grains .0 ≡ 0)
 unfolding ramping hourRefused hourPaid
 accepted-or-nothing m actions =
     go (not (memberIsSound m)) (not (isRamping (m .kind))) (ltb (firstBadAction actions) (length actions)) (firstBadAction actions) (hourGrains (m .rated .0) actions)

@@ -2,7 +2,7 @@
 use mathlib.Core.Path.{_≡_}
 use mathlib.Core.Logic.{_⊎_, _≢_}
 use mathlib.Core.List.{List}
-use Prim.Native.Nat.{ℕ, _*_, _≤_, _<_}
+use Prim.Native.Nat.{ℕ, _*_, _%_, _≤_, _<_}
 use lib.ListN.{length, getD}
 use Rattle.pay.specs.declared.Member.{Member}
 use Rattle.pay.specs.Member.{MemberWithin}
@@ -10,6 +10,7 @@ use Rattle.pay.specs.Kinds.{coal, gas, hydro}
 use Rattle.ramp.specs.declared.Action.{Action}
 use Rattle.ramp.specs.declared.Hour.{Hour}
 use Rattle.ramp.specs.Ramping.{mostActions, mostPower, mostDelay, mostRampRate, mostOverStandard, firstStandard, noAction, hourGrains, hourRefused, hourPaid}
+use Rattle.ramp.specs.Bytes.{actionSize, actionsIn}
 
 -- a coal, gas or hydro unit
 abbrev pub Ordinary : Member → Type 0
@@ -42,3 +43,8 @@ pub data HourOutcome (m : Member) (actions : List Action) (r : Hour) : Type 0 wh
       → (ActionWithin (firstStandard actions) (getD actions i noAction) → ⊥) → HourOutcome m actions r
   one-more : r ≡ hourRefused 10 mostActions → MayRamp m → mostActions < length actions → ActionsWithin actions mostActions → HourOutcome m actions r
   paid : r ≡ hourPaid (hourGrains (m .rated .0) actions) → MayRamp m → length actions ≤ mostActions → ActionsWithin actions (length actions) → HourOutcome m actions r
+
+-- the same in bytes: 1 first of all, where they are no multiple of 24
+pub data HourBytesOutcome (m : Member) (bytes : List ℕ) (r : Hour) : Type 0 where
+  no-actions : r ≡ hourRefused 1 0 → (length bytes % actionSize ≡ 0 → ⊥) → HourBytesOutcome m bytes r
+  of-actions : length bytes % actionSize ≡ 0 → HourOutcome m (actionsIn bytes) r → HourBytesOutcome m bytes r
