@@ -8,7 +8,8 @@ use Rattle.book.specs.Write.{BookOutcome}
 use Rattle.join.specs.Joining.{JoinOutcome}
 use Rattle.lookup.specs.declared.Place.{Place}
 use Rattle.score.specs.declared.answer.Score.{Score}
-use Rattle.nwb.specs.Told.{ToldCheck, ToldWrite, ToldJoin, ToldFind, ToldScore, ToldShare}
+use Rattle.ramp.specs.declared.Hour.{Hour}
+use Rattle.nwb.specs.Told.{ToldCheck, ToldWrite, ToldJoin, ToldFind, ToldScore, ToldRamp, ToldShare}
 
 -- nwb_check
 pub check-determined : (v : Verdict) (n p n′ p′ : ℕ) → ToldCheck v n p → ToldCheck v n′ p′ → (n ≡ n′) × (p ≡ p′)
@@ -35,6 +36,10 @@ pub score-determined : (s : Score) (n p g f n′ p′ g′ f′ : ℕ)
     → ToldScore s n p g f → ToldScore s n′ p′ g′ f′ → (n ≡ n′) × (p ≡ p′) × (g ≡ g′) × (f ≡ f′)
 score-determined s n p g f n′ p′ g′ f′ x y =
     (x .number-is ∙ sym (y .number-is), x .place-is ∙ sym (y .place-is), x .grains-is ∙ sym (y .grains-is), x .fen-is ∙ sym (y .fen-is))
+
+-- nwb_ramp; nwb_fen answers by its number alone
+pub ramp-determined : (h : Hour) (n p g n′ p′ g′ : ℕ) → ToldRamp h n p g → ToldRamp h n′ p′ g′ → (n ≡ n′) × (p ≡ p′) × (g ≡ g′)
+ramp-determined h n p g n′ p′ g′ x y = (x .number-is ∙ sym (y .number-is), x .place-is ∙ sym (y .place-is), x .grains-is ∙ sym (y .grains-is))
 
 -- nwb_share
 pub share-determined : (input before after after′ : List ℕ) (n p n′ p′ : ℕ) (g g′ : ℤ)

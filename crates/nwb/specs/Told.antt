@@ -13,6 +13,7 @@ use Rattle.join.specs.Joining.{JoinOutcome}
 use Rattle.lookup.specs.declared.Place.{Place}
 use Rattle.lookup.specs.declared.Place.the-variants.{Nowhere, InFirst, InSecond}
 use Rattle.score.specs.declared.answer.Score.{Score}
+use Rattle.ramp.specs.declared.Hour.{Hour}
 use Rattle.share_bytes.specs.Bytes.{partsBytes, sharingBytes}
 use Rattle.pay.specs.declared.Member.{Member}
 use Rattle.call.specs.declared.Call.{Call}
@@ -81,6 +82,12 @@ pub record ToldScore (s : Score) (number place grains fen : ℕ) : Type 0 where
   pub place-is : place ≡ s .place
   pub grains-is : grains ≡ s .grains .0
   pub fen-is : fen ≡ s .fen .0
+
+-- nwb_ramp: the number; place and grains in the cells
+pub record ToldRamp (h : Hour) (number place grains : ℕ) : Type 0 where
+  pub number-is : number ≡ h .number
+  pub place-is : place ≡ h .place
+  pub grains-is : grains ≡ h .grains .0
 
 -- nwb_share: the number; place and gap in the cells; what each line gets stands at the output's front, and the bytes behind stay
 pub record ToldShare (input before after : List ℕ) (number place : ℕ) (gap : ℤ) : Type 0 where

@@ -7,6 +7,7 @@ use book::write::write_one;
 use call::Call;
 use lookup::Place;
 use pay::Member;
+use units::Grains;
 use units::Kw;
 ghost use mathlib.Core.Path.{_≡_};
 ghost use mathlib.Core.List.{[], _∷_};
@@ -14,8 +15,10 @@ ghost use Rattle.book.specs.Check.{check};
 ghost use Rattle.book.specs.Write.{writing};
 ghost use Rattle.join.specs.Joining.{joining};
 ghost use Rattle.lookup.specs.Lookup.{which};
+ghost use Rattle.ramp.specs.Bytes.{rampingBytes};
 ghost use Rattle.score.specs.Scoring.{scoring};
-ghost use Rattle.nwb.specs.Told.{givenHeader, givenMember, givenCall, ToldCheck, ToldWrite, ToldJoin, ToldFind, ToldScore, ToldShare};
+ghost use Rattle.units.specs.Money.{grainsToFen};
+ghost use Rattle.nwb.specs.Told.{givenHeader, givenMember, givenCall, ToldCheck, ToldWrite, ToldJoin, ToldFind, ToldScore, ToldRamp, ToldShare};
 
 #[no_mangle]
 pub extern "C" fn nwb_check(b: &[u8], place: &mut u64) -> u32
@@ -152,6 +155,37 @@ pub extern "C" fn nwb_score(
     *grains = s.grains.0;
     *fen = s.fen.0;
     s.number
+}
+
+#[no_mangle]
+pub extern "C" fn nwb_ramp(
+    participant: u16,
+    kind: u8,
+    rated: u32,
+    actions: &[u8],
+    place: &mut u64,
+    grains: &mut u64,
+) -> u32
+    ensures { λ r. ⌜ ToldRamp (rampingBytes (givenMember participant kind rated) (now (actions .entry)))
+        r (now (place .exit)) (now (grains .exit)) ⌝ }
+{
+    let m = Member {
+        number: participant,
+        kind,
+        rated: Kw(rated),
+    };
+    let hour = ramp::ramping_bytes(m, actions);
+    *place = hour.place as u64;
+    *grains = hour.grains.0;
+    hour.number
+}
+
+#[no_mangle]
+pub extern "C" fn nwb_fen(grains: u64) -> u64
+    ensures { λ r. ⌜ r ≡ grainsToFen grains ⌝ }
+{
+    let fen = Grains(grains).to_fen();
+    fen.0
 }
 
 #[no_mangle]
