@@ -20,15 +20,16 @@ struct side {
     uint32_t (*join)(const uint8_t *, size_t, const uint8_t *, size_t, uint8_t *, size_t, uint64_t *, uint64_t *);
     uint32_t (*score)(uint16_t, uint8_t, uint32_t, const uint8_t *, size_t, const uint32_t *, size_t, uint64_t *, uint64_t *, uint64_t *);
     uint32_t (*share)(const uint8_t *, size_t, uint8_t *, size_t, uint64_t *, int64_t *);
+    uint32_t (*ramp)(uint16_t, uint8_t, uint32_t, const uint8_t *, size_t, uint64_t *, uint64_t *);
 };
-static const struct side sides[2] = {{nwb_check, nwb_join, nwb_score, nwb_share}, {ref_check, ref_join, ref_score, ref_share}};
+static const struct side sides[2] = {{nwb_check, nwb_join, nwb_score, nwb_share, nwb_ramp}, {ref_check, ref_join, ref_score, ref_share, ref_ramp}};
 
 /* ---- inputs ---- */
 
 struct book { uint8_t bytes[BOOK_MOST]; size_t len; };
 static struct book full, full_revised, full_bad, even, odd, most, single, window, events;
 static uint32_t series[2976];
-static uint8_t lines[64 * 24], equal_lines[64 * 24];
+static uint8_t lines[64 * 24], equal_lines[64 * 24], actions[60 * 24];
 
 static uint8_t out[BOOK_MOST];
 static uint64_t place, length, grains, fen;
@@ -95,6 +96,13 @@ static void build(void)
     for (uint32_t i = 0; i < 64; i++) /* every remainder the same, half of them one fen up: ties to the lower numbers */
         l[i] = (struct line){(uint16_t)(i + 1), 0, 1000, i == 0 ? 6400032 : 0, 0};
     put_lines(equal_lines, l, 64);
+
+    struct action hour[60];
+    for (uint32_t i = 0; i < 60; i++) { /* up and down in turn, now beyond the command, now short of it; every sixth the wrong way */
+        uint32_t start = 150000 + 97 * i, move = 9001 + 13 * i, end = i % 2 ? start - move : start + move;
+        hour[i] = (struct action){start, end, i % 6 == 5 ? 2 * start - end : end + 700 - 61 * (i % 23), i * 7 % 301, 2500 + 41 * i, 3001};
+    }
+    put_actions(actions, hour, 60);
 }
 
 /* ---- rows ---- */
@@ -114,6 +122,8 @@ static uint32_t score_events(const struct side *s) { return s->score(1, 1, 30000
 static uint32_t share_full(const struct side *s) { return s->share(lines, sizeof lines, out, sizeof out, &place, &gap); }
 static uint32_t share_equal(const struct side *s) { return s->share(equal_lines, sizeof equal_lines, out, sizeof out, &place, &gap); }
 
+static uint32_t ramp_full(const struct side *s) { return s->ramp(1, 1, 300001, actions, sizeof actions, &place, &grains); }
+
 static const struct { const char *name; uint32_t (*call)(const struct side *); uint32_t no; } rows[] = {
     {"join, 512 + 512 equal keys", join_equal, 0},
     {"join, 256 + 256 disjoint, interleaved", join_disjoint, 0},
@@ -124,6 +134,7 @@ static const struct { const char *name; uint32_t (*call)(const struct side *); u
     {"score, 512 events", score_events, 0},
     {"share, 64 lines", share_full, 0},
     {"share, 64 lines of one energy", share_equal, 0},
+    {"ramp, 60 actions", ramp_full, 0},
 };
 enum { ROWS = sizeof rows / sizeof *rows };
 

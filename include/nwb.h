@@ -1,4 +1,5 @@
-/* nwb.h: call books and sharing for the plants' own tools.
+/* nwb.h: call books, pay and sharing for the plants' own tools. Nine functions; nwb_ramp and nwb_fen are the newest, and the
+ * other seven are as they were.
  *
  * What holds for every function:
  *
@@ -6,7 +7,7 @@
  *    every call, and must be given; where the paper says zeros it is 0. Cells are the answer and no lent memory.
  *  - A refusal gives number and place, otherwise zeros; lent memory (`out`) keeps its contents, every byte of it.
  *  - Accepted, number and place are 0. Only the bytes of the answer are written to `out`; bytes after it stay.
- *  - What is lent for reading is only read. Records, lines and series values are counted from 0.
+ *  - What is lent for reading is only read. Records, actions, lines and series values are counted from 0.
  *  - Buffers and cells must not overlap one another.
  *  - A length of 0 may come with a null pointer. Any address will do for bytes (a series is aligned as uint32_t asks).
  *    Lengths of bytes are in bytes, the length of a series is in values.
@@ -65,6 +66,21 @@ uint32_t nwb_find(const uint8_t *first, size_t first_len, const uint8_t *second,
  * Nothing but the cells is written. */
 uint32_t nwb_score(uint16_t participant, uint8_t kind, uint32_t rated, const uint8_t *book, size_t book_len,
                    const uint32_t *series, size_t series_len, uint64_t *place, uint64_t *grains, uint64_t *fen);
+
+/* Scores one hour's control actions of a coal, gas or hydro unit (article 16): its register line as nwb_score has it, and 0 to 60
+ * actions of 24 bytes, little endian, six u32 each: power at the start, at the end, commanded power (kW, at most 5,000,000),
+ * delay (seconds, at most 300), real rate, standard rate (kW a minute, at most 1,000,000; real at most 100 times standard).
+ * In this order: 1 (no multiple of 24), 10 (the register line, place 0), 12 (another kind, place 0), then action by action 10, its
+ * place the action: a standard rate of 0 or unlike the first action's, a command equal to the start, a field above its limit, a
+ * 61st action (place 60). No actions are accepted, and pay 0.
+ * `grains` is the hour's pay, 0 on a refusal: 90,000 a kW of distance times the mean index, over the right-way actions alone,
+ * rounded down once; at most 1,630,800,000,000,000. Nothing but the cells is written. */
+uint32_t nwb_ramp(uint16_t participant, uint8_t kind, uint32_t rated, const uint8_t *actions, size_t actions_len,
+                  uint64_t *place, uint64_t *grains);
+
+/* Fen for grains, 60,000 to a fen, half a fen upwards: right for every number of 64 bits. A member's fen are those of its score's
+ * grains and its hours' grains added up, converted once. It refuses nothing and writes nothing. */
+uint64_t nwb_fen(uint64_t grains);
 
 /* Shares R = A - C over 0 to 64 lines of 24 bytes, little endian: number u16, status u8, a zero byte, energy u32,
  * compensation u64, assessment u32, four zero bytes. The outcome is 16 bytes a line: share i64, amount i64.

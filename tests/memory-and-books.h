@@ -1,4 +1,4 @@
-/* What the test programs share: lent memory between guard pages, and books and sharing lines put together from values.
+/* What the test programs share: lent memory between guard pages, and books, sharing lines and control actions put together from values.
  * The includer defines _DEFAULT_SOURCE first (mmap with MAP_ANONYMOUS under -std=c99). */
 #ifndef NWB_MEMORY_AND_BOOKS_H
 #define NWB_MEMORY_AND_BOOKS_H
@@ -97,7 +97,7 @@ static inline void on_touched_guard(void (*report)(int))
     sigaction(SIGABRT, &act, NULL);
 }
 
-/* ---- books and sharing lines from values ---- */
+/* ---- books, sharing lines and control actions from values ---- */
 
 enum { BOOK_MOST = 16 + 32 * 512 };
 
@@ -117,6 +117,8 @@ struct line {
     uint64_t compensation;
     uint32_t assessment;
 };
+
+struct action { uint32_t start, end, command, delay, real, standard; };
 
 static inline void put_bytes(uint8_t *p, uint64_t v, int n)
 {
@@ -170,6 +172,19 @@ static inline size_t put_lines(uint8_t *p, const struct line *lines, size_t n)
         put_bytes(p + 4, lines[i].energy, 4);
         put_bytes(p + 8, lines[i].compensation, 8);
         put_bytes(p + 16, lines[i].assessment, 4);
+    }
+    return 24 * n;
+}
+
+static inline size_t put_actions(uint8_t *p, const struct action *actions, size_t n)
+{
+    for (size_t i = 0; i < n; i++, p += 24) {
+        put_bytes(p, actions[i].start, 4);
+        put_bytes(p + 4, actions[i].end, 4);
+        put_bytes(p + 8, actions[i].command, 4);
+        put_bytes(p + 12, actions[i].delay, 4);
+        put_bytes(p + 16, actions[i].real, 4);
+        put_bytes(p + 20, actions[i].standard, 4);
     }
     return 24 * n;
 }

@@ -497,6 +497,49 @@ uint32_t ref_score(uint16_t participant, uint8_t kind, uint32_t rated, const uin
     return 0;
 }
 
+/* ---- ramping ---- */
+
+enum { ACTION = 24, MOST_ACTIONS = 60 };
+
+/* One hour: "90,000 grains per kW of distance times the mean index", as an exact fraction, rounded down once. An index is
+ * 0.2 x (3 real / standard + 1 - delay / 300 + 1 - error / 1.5% of N), here over 5 x 300 x 15 x standard x N. */
+uint32_t ref_ramp(uint16_t participant, uint8_t kind, uint32_t rated, const uint8_t *actions, size_t actions_len, uint64_t *place, uint64_t *grains)
+{
+    *place = *grains = 0;
+    if (actions_len % ACTION != 0)
+        return 1;
+    if (participant < 1 || participant > 64 || kind < 1 || kind > 8 || rated < 1 || rated > 4000000)
+        return 10;
+    if (kind != COAL && kind != GAS && kind != HYDRO)
+        return 12;
+
+    int64_t n = rated, distance = 0, right = 0;
+    __int128 indices = 0;
+    uint32_t first = actions_len ? get32(actions + 20) : 0;
+    for (size_t i = 0; i < actions_len / ACTION; i++) {
+        const uint8_t *p = actions + ACTION * i;
+        uint32_t start = get32(p), end = get32(p + 4), command = get32(p + 8), delay = get32(p + 12), real = get32(p + 16), standard = get32(p + 20);
+        if (i == MOST_ACTIONS || standard == 0 || standard != first || command == start || start > 5000000 || end > 5000000 || command > 5000000
+            || delay > 300 || real > 1000000 || standard > 1000000 || real > 100 * standard) {
+            *place = i;
+            return 10;
+        }
+        /* "An action whose end is not on the commanded side of its start is wrong-way: it earns no distance and stays out of the mean." */
+        if (start < command ? end <= start : end >= start)
+            continue;
+        int64_t error = end < command ? command - end : end - command, s = standard;
+        distance += end < start ? start - end : end - start;
+        indices += (__int128)(3 * 300 * 15 * (int64_t)real * n + 15 * (300 - (int64_t)delay) * s * n) + 300 * (15 * n - 1000 * error) * s;
+        right++;
+    }
+    if (right != 0 && indices > 0)
+        *grains = (uint64_t)((__int128)90000 * distance * indices / ((__int128)5 * 300 * 15 * first * n * right));
+    return 0;
+}
+
+/* "Adding 30,000 and dividing by 60,000, rounding down", the sum not wrapping. */
+uint64_t ref_fen(uint64_t grains) { return (uint64_t)(((unsigned __int128)grains + 30000) / 60000); }
+
 /* ---- sharing ---- */
 
 enum { LINE = 24, OUTCOME = 16, MOST_LINES = 64 };

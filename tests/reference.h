@@ -1,4 +1,4 @@
-/* The seven functions of nwb.h a second time, in plain C and written from the paper alone, so that the archive has something
+/* The nine functions of nwb.h a second time, in plain C and written from the paper alone, so that the archive has something
  * independent to be compared with. Same signatures, same answers; see nwb.h for what each one promises. */
 #ifndef NWB_REFERENCE_H
 #define NWB_REFERENCE_H
@@ -23,6 +23,10 @@ uint32_t ref_find(const uint8_t *first, size_t first_len, const uint8_t *second,
 
 uint32_t ref_score(uint16_t participant, uint8_t kind, uint32_t rated, const uint8_t *book, size_t book_len,
                    const uint32_t *series, size_t series_len, uint64_t *place, uint64_t *grains, uint64_t *fen);
+
+uint32_t ref_ramp(uint16_t participant, uint8_t kind, uint32_t rated, const uint8_t *actions, size_t actions_len, uint64_t *place, uint64_t *grains);
+
+uint64_t ref_fen(uint64_t grains);
 
 uint32_t ref_share(const uint8_t *lines, size_t lines_len, uint8_t *out, size_t out_len, uint64_t *place, int64_t *gap);
 
