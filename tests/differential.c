@@ -1,4 +1,4 @@
-/* The archive against the reference, over random sound, damaged and nearly sound input, all seven functions; and trees of joins
+/* The archive against the reference, over random sound, damaged and nearly sound input, all nine functions; and trees of joins
  * against the rule over a whole list of books.
  *
  *     differential [seed [cases [first]]]
@@ -45,8 +45,8 @@ static uint32_t within(uint32_t most)
 
 /* ---- what is being done, for the report ---- */
 
-enum function { CHECK, NONE, ONE, JOIN, FIND, SCORE, SHARE, FUNCTIONS };
-static const char *const names[] = {"check", "none", "one", "join", "find", "score", "share"};
+enum function { CHECK, NONE, ONE, JOIN, FIND, SCORE, SHARE, RAMP, FEN, FUNCTIONS };
+static const char *const names[] = {"check", "none", "one", "join", "find", "score", "share", "ramp", "fen"};
 
 static uint64_t seed, case_no, cases, differences;
 static uint64_t reached[FUNCTIONS][32];
@@ -278,6 +278,28 @@ static void both_share(const uint8_t *lines, size_t len, size_t out_len)
     const uint8_t *l = lay(&in1, where1, lines, len);
     a.no = nwb_share(l, len, out, out_len, &cells[0].cell, (int64_t *)&cells[1].cell);
     compare(SHARE, &a, &ref, 2, input_kept(&in1, lines, len), 1);
+}
+
+static void both_ramp(uint16_t participant, uint8_t kind, uint32_t rated, const uint8_t *actions, size_t len)
+{
+    doing("ramp");
+    with_bytes("actions", actions, len), with("participant", participant), with("kind", kind), with("rated", rated);
+    struct answer a = ref = soiled();
+    ref.no = ref_ramp(participant, kind, rated, actions, len, &ref.cell[0], &ref.cell[1]);
+    const uint8_t *p = lay(&in1, where1, actions, len);
+    a.no = nwb_ramp(participant, kind, rated, p, len, &cells[0].cell, &cells[1].cell);
+    compare(RAMP, &a, &ref, 2, input_kept(&in1, actions, len), 0);
+}
+
+/* The answer is no refusal's number: it is held as if it stood in a cell. */
+static void both_fen(uint64_t grains)
+{
+    doing("fen");
+    with("grains", (int64_t)grains);
+    struct answer a = ref = soiled();
+    ref.cell[0] = ref_fen(grains);
+    cells[0].cell = nwb_fen(grains);
+    compare(FEN, &a, &ref, 1, 1, 0);
 }
 
 /* ---- sound calls and books ---- */
@@ -857,6 +879,72 @@ static void case_share(void)
     both_share(bytes, len, room_for(len / 24 * 16));
 }
 
+/* Mostly hours that are paid: commands on either side of the start, ends about the command, now and then the wrong way; then damage. */
+static void case_ramp(void)
+{
+    static struct action l[62];
+    static uint8_t bytes[62 * 24];
+    uint32_t dice = below(100);
+    size_t n = dice < 55 ? below(7) : dice < 90 ? below(61) : dice < 96 ? 60 : 61 + below(2);
+    uint16_t participant = (uint16_t)(1 + within(63));
+    uint8_t kind = (uint8_t)(1 + below(3));
+    uint32_t rated = percent(50) ? 1 + within(3999999) : PICK(1, 2, 7, 29999, 200000, 300000, 300001, 4000000);
+    uint32_t standard = percent(50) ? 1 + within(999999) : PICK(1, 7, 3000, 3001, 10000, 1000000);
+    uint32_t most_real = standard < 10000 ? 100 * standard : 1000000, near = PICK(1, 10, 1000, 100000, 5000000), wrong = PICK(0, 10, 50);
+    for (size_t i = 0; i < n; i++) {
+        struct action a = {within(5000000), 0, 0, within(300), percent(70) ? within(most_real) : percent(50) ? standard : 0, standard};
+        a.command = percent(50) ? within(5000000) : a.start < 2500000 ? a.start + 1 + below(2000000) : a.start - 1 - below(2000000);
+        if (a.command == a.start)
+            a.command += a.start == 0 ? 1 : (uint32_t)-1;
+        a.end = a.command + within(near) - within(near); /* wraps where it falls below 0 */
+        if (a.end > 5000000 || percent(10))
+            a.end = a.command;
+        if (percent(wrong))
+            a.end = percent(30) ? a.start : a.command > a.start ? below(a.start + 1) : a.start + below(5000001 - a.start);
+        l[i] = a;
+    }
+    size_t len = put_actions(bytes, l, n);
+    uint32_t worse = percent(10) ? 8 : 1; /* then faults come in company, and their order shows */
+    if (percent(6 * worse) && n > 0)
+        for (uint32_t times = 1 + below(2); times > 0; times--) {
+            uint8_t *at = bytes + 24 * below((uint32_t)n);
+            switch (below(6)) {
+            case 0: bytes[below((uint32_t)len)] ^= (uint8_t)(1u << below(8)); break;
+            case 1: put_bytes(at + 4 * below(6), edge(), 4); break;
+            case 2: put_bytes(at + 4 * below(3), PICK(4999999, 5000000, 5000001), 4); break;
+            case 3: put_bytes(at + 12, PICK(299, 300, 301), 4); break;
+            case 4: put_bytes(at + 16, PICK(999999, 1000000, 1000001, most_real, most_real + 1), 4); break;
+            default: put_bytes(at + 20, PICK(0, 1, standard - 1, standard + 1, 1000000, 1000001), 4);
+            }
+        }
+    if (percent(3 * worse) && n > 0) {
+        uint8_t *at = bytes + 24 * below((uint32_t)n);
+        memcpy(at + 8, at, 4); /* the command is the start */
+    }
+    if (percent(3 * worse))
+        kind = (uint8_t)PICK(4, 5, 6, 7, 8);
+    if (percent(4 * worse))
+        switch (below(3)) {
+        case 0: participant = (uint16_t)PICK(0, 65, 256, 257, 65535); break;
+        case 1: kind = (uint8_t)PICK(0, 9, 255); break;
+        default: rated = PICK(0, 4000001, 0xffffffff);
+        }
+    if (percent(3 * worse) && len > 0)
+        len -= 1 + below(len < 24 ? (uint32_t)len : 24);
+    both_ramp(participant, kind, rated, bytes, len);
+}
+
+static void case_fen(void)
+{
+    uint64_t near = next() >> below(64);
+    switch (below(4)) {
+    case 0: both_fen(near); break;
+    case 1: both_fen(near / 60000 * 60000 + 29998 + below(4)); break; /* about half a fen; it may wrap, which is a number like another */
+    case 2: both_fen(UINT64_MAX - below(100000)); break;
+    default: both_fen(below(200000));
+    }
+}
+
 /* Books joined two at a time in any order and grouping, some of them more than once; against the rule over the whole list. */
 static void case_tree(void)
 {
@@ -921,7 +1009,8 @@ static void case_tree(void)
 /* ---- the run ---- */
 
 static const struct { void (*run)(void); uint32_t per_mille; } kinds[] = {
-    {case_check, 200}, {case_none, 20}, {case_one, 130}, {case_join, 240}, {case_join_full, 10}, {case_find, 140}, {case_score, 120}, {case_share, 120}, {case_tree, 20}};
+    {case_check, 170}, {case_none, 20}, {case_one, 110}, {case_join, 220}, {case_join_full, 10}, {case_find, 120}, {case_score, 120}, {case_share, 110}, {case_tree, 20},
+    {case_ramp, 90}, {case_fen, 10}};
 
 /* Numbers that each function can answer with, and so must have. For find these are its answers, and the numbers of joining that
  * can stand behind an empty one (1 and 2 counted at 10 and 11). */
@@ -929,7 +1018,8 @@ static const uint32_t reachable[FUNCTIONS][20] = {
     [CHECK] = {0, 1, 2, 3, 4, 5, 6}, [NONE] = {0, 4, 9}, [ONE] = {0, 4, 5, 9},
     [JOIN] = {0, 1, 2, 3, 4, 5, 6, 21, 22, 23, 24, 25, 26, 7, 8, 9},
     [FIND] = {0, 1, 2, 10, 11, 3, 4, 5, 6, 21, 22, 23, 24, 25, 26, 7},
-    [SCORE] = {0, 10, 1, 2, 3, 4, 5, 6, 11, 14, 12, 13}, [SHARE] = {0, 1, 10, 15, 16, 9}};
+    [SCORE] = {0, 10, 1, 2, 3, 4, 5, 6, 11, 14, 12, 13}, [SHARE] = {0, 1, 10, 15, 16, 9},
+    [RAMP] = {0, 1, 10, 12}, [FEN] = {0}};
 
 int main(int argc, char **argv)
 {

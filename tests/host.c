@@ -240,6 +240,39 @@ static void expect_share(int line, const struct line *lines, size_t n, size_t ou
     expect_share_bytes(line, bytes, put_lines(bytes, lines, n), out_len, no, place, gap, outcome);
 }
 
+static void expect_ramp_bytes(int line, uint16_t participant, uint8_t kind, uint32_t rated, const uint8_t *actions, size_t len,
+                              uint32_t no, uint64_t place, uint64_t grains)
+{
+    begin(line, "ramp");
+    FOR_PLACEMENTS {
+        const uint8_t *a = lay(&in1, placed_now, actions, len);
+        soil_cells();
+        want("number", nwb_ramp(participant, kind, rated, actions ? a : NULL, len, CELL(0), CELL(1)), no);
+        want("place", *CELL(0), place);
+        want("grains", *CELL(1), grains);
+        want_cells_kept(2);
+        want_input_kept(&in1, actions, len);
+    }
+    end();
+}
+
+/* An hour of participant 7. */
+static void expect_ramp(int line, uint8_t kind, uint32_t rated, const struct action *actions, size_t n, uint32_t no, uint64_t place, uint64_t grains)
+{
+    uint8_t bytes[62 * 24];
+    expect_ramp_bytes(line, 7, kind, rated, bytes, put_actions(bytes, actions, n), no, place, grains);
+}
+
+static void expect_fen(int line, uint64_t grains, uint64_t fen)
+{
+    begin(line, "fen");
+    placed_now = ALIGNED;
+    want("fen", nwb_fen(grains), fen);
+    end();
+}
+
+#define RAMP(...) expect_ramp(__LINE__, __VA_ARGS__)
+#define FEN(...) expect_fen(__LINE__, __VA_ARGS__)
 #define CHECK(...) expect_check(__LINE__, __VA_ARGS__)
 #define NONE(...) expect_none(__LINE__, __VA_ARGS__)
 #define ONE(...) expect_one(__LINE__, __VA_ARGS__)
@@ -1256,6 +1289,133 @@ static void share_refusals(void)
     group("share: every number alone, and the order of two");
 }
 
+/* ---- ramping ---- */
+
+static void ramp_sums(void)
+{
+    const struct action coal[] = {{100000, 109000, 110000, 60, 4500, 3000}, {109000, 109000, 120000, 0, 3000, 3000}, {109000, 108000, 120000, 0, 3000, 3000},
+                                  {109000, 100001, 100000, 30, 2999, 3000}};
+    RAMP(1, 300000, coal, 1, 0, 0, 984600000); /* 9,000 kW at 0.2 * (4.5 + 0.8 + 7/9) */
+    RAMP(1, 300000, coal, 4, 0, 0, 1778103211); /* with one that stays, one the wrong way, and one down that stops short by 1 kW */
+    RAMP(1, 300000, coal + 1, 2, 0, 0, 0);
+    const struct action uneven[] = {{100000, 109000, 110000, 61, 4499, 3001}, {109000, 100001, 100000, 29, 2999, 3001}, {100001, 99000, 120000, 0, 3001, 3001}};
+    RAMP(1, 300001, uneven, 3, 0, 0, 1777536605);
+    const struct action gas[] = {{0, 1, 1, 0, 1, 7}};
+    RAMP(2, 7, gas, 1, 0, 0, 43714); /* 90,000 * 0.2 * (3/7 + 2) */
+    /* An index below zero counts in a mean above zero, and a mean below zero pays 0. */
+    const struct action low[] = {{0, 1000, 10000, 300, 0, 1000}, {0, 10000, 10000, 0, 1000, 1000}};
+    RAMP(3, 200000, low, 2, 0, 0, 297000000); /* 11,000 kW at the mean of -0.4 and 1 */
+    RAMP(3, 200000, low, 1, 0, 0, 0);
+    const struct action tiny[] = {{0, 1, 2, 0, 1, 1}};
+    RAMP(1, 1, tiny, 1, 0, 0, 0); /* 1 kW of error is 66 2/3 times 1.5% of 1 kW */
+    RAMP(1, 1, NULL, 0, 0, 0, 0);
+    /* The error is taken on either side of the command: 1,000 kW beyond it as 1,000 kW short of it. */
+    const struct action beyond[] = {{0, 11000, 10000, 0, 3000, 3000}}, back[] = {{20000, 9000, 10000, 0, 3000, 3000}}, shy[] = {{0, 11000, 12000, 0, 3000, 3000}};
+    RAMP(1, 100000, beyond, 1, 0, 0, 858000000); /* 11,000 kW at 0.2 * (3 + 1 + 1/3) */
+    RAMP(1, 100000, back, 1, 0, 0, 858000000);
+    RAMP(1, 100000, shy, 1, 0, 0, 858000000);
+
+    /* The most: 60 actions of 5,000,000 kW at 0.2 * (300 + 1 + 1). A rating and a limit at their ends. */
+    static struct action most[62];
+    for (int i = 0; i < 62; i++)
+        most[i] = (struct action){0, 5000000, 5000000, 0, 1000000, 10000};
+    RAMP(1, 300000, most, 60, 0, 0, 1630800000000000);
+    RAMP(3, 4000000, most, 60, 0, 0, 1630800000000000);
+    RAMP(2, 1, most, 60, 0, 0, 1630800000000000);
+    RAMP(1, 300000, most, 59, 0, 0, 1603620000000000);
+    RAMP(1, 300000, most, 61, 10, 60, 0);
+    RAMP(1, 300000, most, 62, 10, 60, 0);
+    for (int i = 0; i < 60; i++) /* the largest error that there is, at the smallest rating */
+        most[i] = (struct action){0, 1, 5000000, 300, 0, 1000000};
+    RAMP(1, 1, most, 60, 0, 0, 0);
+    group("ramping: the cases, signs, extremes");
+}
+
+static void ramp_refusals(void)
+{
+    /* Every field at and past its edge. */
+    static const struct { struct action a; uint32_t no; uint64_t grains; } rows[] = {
+        {{0, 1000, 1000, 0, 3000, 3000}, 0, 90000000}, {{5000000, 4999000, 4999000, 0, 3000, 3000}, 0, 90000000}, {{5000001, 1000, 1000, 0, 3000, 3000}, 10, 0},
+        {{0, 5000001, 1000, 0, 3000, 3000}, 10, 0}, {{0, 1000, 5000001, 0, 3000, 3000}, 10, 0}, {{0xffffffff, 1000, 1000, 0, 3000, 3000}, 10, 0},
+        {{0, 0x80000000, 1000, 0, 3000, 3000}, 10, 0}, {{0, 1000, 0xffffffff, 0, 3000, 3000}, 10, 0}, {{0, 1000, 1000, 300, 3000, 3000}, 0, 72000000},
+        {{0, 1000, 1000, 301, 3000, 3000}, 10, 0}, {{0, 1000, 1000, 0xffffffff, 3000, 3000}, 10, 0}, {{0, 1000, 1000, 0, 0, 3000}, 0, 36000000},
+        {{0, 1000, 1000, 0, 300000, 3000}, 0, 5436000000}, {{0, 1000, 1000, 0, 300001, 3000}, 10, 0}, {{0, 1000, 1000, 0, 1000000, 1000000}, 0, 90000000},
+        {{0, 1000, 1000, 0, 1000001, 1000000}, 10, 0}, {{0, 1000, 1000, 0, 3000, 1000001}, 10, 0}, {{0, 1000, 1000, 0, 0xffffffff, 0xffffffff}, 10, 0},
+        {{0, 1000, 1000, 0, 100, 1}, 0, 5436000000}, {{0, 1000, 1000, 0, 101, 1}, 10, 0}, {{0, 1000, 1000, 0, 0, 0}, 10, 0}, {{0, 1000, 1000, 0, 1, 0}, 10, 0},
+        {{1000, 2000, 1000, 0, 3000, 3000}, 10, 0}, {{0, 0, 0, 0, 3000, 3000}, 10, 0}, {{1, 0, 0, 0, 3000, 3000}, 0, 90000},
+        {{1000, 1000, 2000, 0, 3000, 3000}, 0, 0}, {{1000, 999, 2000, 0, 3000, 3000}, 0, 0}, {{1000, 1001, 0, 0, 3000, 3000}, 0, 0},
+        /* a wrong-way action is asked like any other */
+        {{1000, 1000, 2000, 301, 3000, 3000}, 10, 0}, {{1000, 999, 2000, 0, 300001, 3000}, 10, 0}, {{1000, 999, 5000001, 0, 3000, 3000}, 10, 0}};
+    for (size_t i = 0; i < ROWS(rows); i++) {
+        row = (int)i;
+        RAMP(1, 300000, &rows[i].a, 1, rows[i].no, 0, rows[i].grains);
+        /* behind two good ones of its own standard rate: refused there, or taken */
+        uint32_t s = rows[i].a.standard >= 1 && rows[i].a.standard <= 1000000 ? rows[i].a.standard : 3000;
+        struct action behind[] = {{2000, 2000, 3000, 0, 0, s}, {2000, 1000, 3000, 0, 0, s}, rows[i].a};
+        RAMP(1, 300000, behind, 3, rows[i].no, rows[i].no ? 2 : 0, rows[i].grains);
+    }
+    row = -1;
+    /* Another standard rate than the first's, by one and by much; the first one is the measure. */
+    struct action two[] = {{0, 1000, 1000, 0, 3000, 3000}, {0, 1000, 1000, 0, 3000, 3001}, {0, 1000, 1000, 0, 3000, 3000}};
+    RAMP(1, 300000, two, 3, 10, 1, 0);
+    two[1].standard = 2999;
+    RAMP(1, 300000, two, 3, 10, 1, 0);
+    two[1].standard = 3000, two[2].standard = 1000000;
+    RAMP(1, 300000, two, 3, 10, 2, 0);
+    RAMP(1, 300000, two, 2, 0, 0, 180000000);
+
+    /* The register line, and the kinds. */
+    static const struct { uint16_t participant; uint8_t kind; uint32_t rated, no; } lines[] = {
+        {1, 1, 1, 0}, {64, 3, 4000000, 0}, {0, 1, 1, 10}, {65, 1, 1, 10}, {257, 1, 1, 10}, {1, 0, 1, 10}, {1, 9, 1, 10}, {1, 255, 1, 10},
+        {1, 1, 0, 10}, {1, 1, 4000001, 10}, {1, 1, 0xffffffff, 10}, {1, 4, 1, 12}, {1, 5, 1, 12}, {1, 6, 1, 12}, {1, 7, 1, 12}, {1, 8, 1, 12}};
+    uint8_t bytes[62 * 24];
+    size_t len = put_actions(bytes, two, 1);
+    for (size_t i = 0; i < ROWS(lines); i++) {
+        row = (int)i;
+        expect_ramp_bytes(__LINE__, lines[i].participant, lines[i].kind, lines[i].rated, bytes, len, lines[i].no, 0, lines[i].no ? 0 : 90000000);
+        expect_ramp_bytes(__LINE__, lines[i].participant, lines[i].kind, lines[i].rated, NULL, 0, lines[i].no, 0, 0);
+    }
+    row = -1;
+
+    /* Two that meet: the bytes' length, the register line, the kind, then the actions in turn. */
+    enum { ONE_, TEN_, TWELVE, A0, A1, A59, A60, ALL };
+    static const uint32_t no[] = {1, 10, 12, 10, 10, 10, 10}, place[] = {0, 0, 0, 0, 1, 59, 60};
+    for (int i = 0; i < ALL; i++)
+        for (int j = i; j < ALL; j++) {
+            struct action hour[61];
+#define MADE(f) (i == (f) || j == (f))
+            for (int k = 0; k < 61; k++)
+                hour[k] = (struct action){0, 1000, 1000, MADE(A0) && k == 0 ? 301u : 0, 3000, (MADE(A1) && k == 1) || (MADE(A59) && k == 59) ? 3001 : 3000};
+            len = put_actions(bytes, hour, MADE(A60) ? 61 : 60);
+            row = i * 100 + j;
+            expect_ramp_bytes(__LINE__, MADE(TEN_) ? 65 : 7, MADE(TWELVE) ? 4 : 1, 300000, bytes, len - MADE(ONE_), no[i], place[i], 0);
+#undef MADE
+        }
+    for (size_t cut = 1; cut < 24; cut++) {
+        row = (int)cut;
+        expect_ramp_bytes(__LINE__, 7, 1, 300000, bytes, 24 * 60 + cut, 1, 0, 0);
+        expect_ramp_bytes(__LINE__, 7, 1, 300000, bytes, cut, 1, 0, 0);
+    }
+    group("ramp: every number alone, and the order of two");
+}
+
+static void fen_of_grains(void)
+{
+    FEN(0, 0);
+    FEN(29999, 0);
+    FEN(30000, 1);
+    FEN(59999, 1);
+    FEN(60000, 1);
+    FEN(89999, 1);
+    FEN(90000, 2);
+    FEN(984600000, 16410);
+    FEN(1630800000000000, 27180000000);
+    FEN(0xffffffffffffffff, 307445734561826); /* 307,445,734,561,825 whole fen and 51,615 grains */
+    FEN(0xffffffffffffffff - 21616, 307445734561825); /* 29,999 grains above them */
+    FEN(0xffffffffffffffff - 21615, 307445734561826);
+    group("fen of grains");
+}
+
 /* ---- null with length 0, and registers ---- */
 
 static void nulls(void)
@@ -1280,6 +1440,10 @@ static void nulls(void)
     expect_share_bytes(__LINE__, NULL, 0, 0, 0, 0, 0, NULL);
     expect_share_bytes(__LINE__, NULL, 0, 16, 0, 0, 0, NULL);
     SHARE((struct line[]){{1, 0, 1, 1, 0}}, 1, 0, 9, 0, 0, NULL);
+    RAMP(1, 1, NULL, 0, 0, 0, 0);
+    expect_ramp_bytes(__LINE__, 7, 3, 1, NULL, 0, 0, 0, 0);
+    expect_ramp_bytes(__LINE__, 0, 4, 1, NULL, 0, 10, 0, 0);
+    expect_ramp_bytes(__LINE__, 7, 4, 1, NULL, 0, 12, 0, 0);
     group("null with length 0");
 }
 
@@ -1289,12 +1453,14 @@ static void upper_halves(void)
 #if defined __x86_64__
     typedef void any(void);
     /* Read from memory, so that the compiler does not see the two types meet. */
-    any *volatile none = (any *)nwb_none, *volatile one = (any *)nwb_one, *volatile find = (any *)nwb_find, *volatile score = (any *)nwb_score;
+    any *volatile none = (any *)nwb_none, *volatile one = (any *)nwb_one, *volatile find = (any *)nwb_find, *volatile score = (any *)nwb_score,
+        *volatile ramp = (any *)nwb_ramp;
     typedef uint32_t none_wide(uint64_t, uint64_t, uint64_t, uint8_t *, size_t, uint64_t *, uint64_t *);
     typedef uint32_t one_wide(uint64_t, uint64_t, uint64_t, uint64_t, uint64_t, uint64_t, uint64_t, uint64_t, uint64_t, uint64_t, uint64_t, uint64_t,
                               uint64_t, uint8_t *, size_t, uint64_t *, uint64_t *);
     typedef uint32_t find_wide(const uint8_t *, size_t, const uint8_t *, size_t, uint64_t, uint64_t, uint64_t *);
     typedef uint32_t score_wide(uint64_t, uint64_t, uint64_t, const uint8_t *, size_t, const uint32_t *, size_t, uint64_t *, uint64_t *, uint64_t *);
+    typedef uint32_t ramp_wide(uint64_t, uint64_t, uint64_t, const uint8_t *, size_t, uint64_t *, uint64_t *);
     const uint64_t dirt = 0xdeadbeef00000000u;
     uint8_t out[48], expected[48];
     struct call c = live(3, 0xfedcba98, 0x89abcdef, 8, 0x1234, 0x0567, -500, 0x01020304, 1);
@@ -1326,6 +1492,13 @@ static void upper_halves(void)
     want("grains", *CELL(1), 120000000);
     want("fen", *CELL(2), 2000);
     end();
+
+    begin(__LINE__, "ramp");
+    uint8_t action[24];
+    put_actions(action, &(struct action){0, 1, 1, 0, 1, 7}, 1);
+    want("number", ((ramp_wide *)ramp)(dirt | 7, dirt | 2, dirt | 7, action, 24, CELL(0), CELL(1)), 0);
+    want("grains", *CELL(1), 43714);
+    end();
 #endif
     group("upper halves of registers");
 }
@@ -1355,6 +1528,9 @@ int main(void)
     score_512();
     share_sums();
     share_refusals();
+    ramp_sums();
+    ramp_refusals();
+    fen_of_grains();
     nulls();
     upper_halves();
     printf("host: %u checks, %u failed\n", checks, failed);

@@ -1,5 +1,5 @@
 /* How much stack each function of the library takes: it runs on a stack of its own, filled with one byte, and what was overwritten is counted.
- * The inputs are full books, a full month and 64 lines, accepted and refused, so that every part of the library is entered. Prints a line a
+ * The inputs are full books, a full month, 64 lines and 60 actions, accepted and refused, so that every part of the library is entered. Prints a line a
  * function, and fails where one takes more than its bound, which docs/PROMISES.md names. */
 #define _DEFAULT_SOURCE
 #include "memory-and-books.h"
@@ -9,7 +9,7 @@
 enum { STACK = 1 << 20, FILL = 0xa5, QUARTERS = 2976 };
 
 static uint8_t *stack;
-static uint8_t first[BOOK_MOST], second[BOOK_MOST], damaged[BOOK_MOST], out[2 * BOOK_MOST], lines[24 * 65];
+static uint8_t first[BOOK_MOST], second[BOOK_MOST], damaged[BOOK_MOST], out[2 * BOOK_MOST], lines[24 * 65], actions[24 * 61];
 static size_t first_len, second_len, lines_len;
 static uint32_t series[QUARTERS];
 static uint64_t place, length, grains, fen, offset;
@@ -62,6 +62,15 @@ static void share(void)
     nwb_share(lines, lines_len, out, 0, &place, &gap);
     nwb_share(lines, lines_len + 24, out, sizeof out, &place, &gap);
 }
+
+static void ramp(void)
+{
+    nwb_ramp(1, 1, 300001, actions, 24 * 60, &place, &grains);
+    nwb_ramp(1, 1, 300001, actions, 24 * 61, &place, &grains);
+    nwb_ramp(1, 4, 300001, actions, 24 * 60, &place, &grains);
+}
+
+static void in_fen(void) { fen = nwb_fen(grains); }
 
 static void nothing(void) {}
 
@@ -121,6 +130,10 @@ static void fill(void)
         l[i] = (struct line){(uint16_t)(i + 1), (uint8_t)(i % 3), 5000000u - (uint32_t)i, 1000000007u + (uint64_t)i * 3, (uint32_t)i * 7};
     lines_len = put_lines(lines, l, 64);
     put_lines(lines + lines_len, l + 64, 1);
+    struct action hour[61]; /* the longest moves at an index that does not come out even */
+    for (uint32_t i = 0; i < 61; i++)
+        hour[i] = (struct action){0, 5000000 - i, 5000000, i, 999999 - i, 999983};
+    put_actions(actions, hour, 61);
 }
 
 int main(void)
@@ -128,6 +141,7 @@ int main(void)
     static const struct { const char *name; void (*job)(void); size_t most; } jobs[] = {
         {"nwb_check", check, 256}, {"nwb_none", none, 256}, {"nwb_one", one, 256}, {"nwb_join", join, 512},
         {"nwb_find", find, 512}, {"nwb_score", score, 512}, {"nwb_share", share, 8192},
+        {"nwb_ramp", ramp, 4096}, {"nwb_fen", in_fen, 256},
     };
     int failed = 0;
     stack = mmap(NULL, STACK, PROT_READ | PROT_WRITE, MAP_PRIVATE | MAP_ANONYMOUS, -1, 0);
