@@ -1,5 +1,5 @@
 // Texts that a spreadsheet saves: a register, a series, a number, with or without a sign.
-mod cells;
+pub mod cells;
 pub mod roll;
 pub mod series;
 

@@ -1,0 +1,7 @@
+pub mod Lines
+pub mod Adding
+pub mod Sound
+pub mod Taking
+pub mod Typing
+pub mod Paying
+pub mod Streaming

@@ -1,0 +1,21 @@
+use mathlib.Core.List.{[]}
+use borrow.Author.Needs.{needs}
+use Rattle.hours.proofs.read_hours.Statement.{statement}
+use Rattle.hours.proofs.read_hours.Tie as tie
+
+start-requires : tie.Need-start-requires
+start-requires c κs = search needs
+
+feed-requires : tie.Need-feed-requires
+feed-requires c κs = search needs
+
+finish-requires : tie.Need-finish-requires
+finish-requires c κs = search needs
+
+returns : tie.Need-returns
+returns c =
+    let a = c .before .before .before .before .args in
+    c .finish .ensures (a .member) (a .hours) (a .text .now) (c .before .feed .ensures (a .member) (a .hours) [] (c .before .before .start .ensures))
+
+pub read-hours-spec : {M : Type 1} → statement M
+read-hours-spec = tie.close (tie.spec start-requires feed-requires finish-requires returns)

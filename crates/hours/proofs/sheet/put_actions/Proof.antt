@@ -1,0 +1,23 @@
+use mathlib.Core.Path.{_≡_, sym}
+use native.Mathlib.Omega.{arith}
+use lib.ListN.{length}
+use lib.Seq.{set-out}
+use Rattle.hours.specs.Hours.{mostHours}
+use borrow.Author.Needs.{needs}
+use Rattle.hours.proofs.sheet.put_actions.Statement.{statement}
+use Rattle.hours.proofs.sheet.put_actions.Tie as tie
+
+array-write-all : tie.Need-array-write-all
+array-write-all c = search needs
+
+returns : tie.Need-returns
+returns c = search needs
+
+returns-2 : tie.Need-returns-2
+returns-2 c =
+    let a = c .before .args in
+    let long : length (a .t1) ≡ mostHours = search needs in
+    sym (set-out (a .t1) (a .at) _ (omega (arith, long)))
+
+pub put-actions-spec : {M : Type 1} → statement M
+put-actions-spec = tie.close (tie.spec array-write-all returns returns-2)

@@ -1,0 +1,133 @@
+-- What the inner contracts speak of, and no sentence of the request: the line that is being read, and the lines judged so far. What a file says is in Hours. Assumes
+-- nothing.
+use mathlib.Core.Path.{_≡_}
+use mathlib.Core.Bool.{Bool, true, false, cond, not, _&&_}
+use mathlib.Core.List.{List, [], _∷_, _++_, map}
+use Prim.Native.Nat.{ℕ, zero, suc, _+_, _*_, _-_, _≤_, _<_}
+use lib.Dec.{eqb, ltb, leb}
+use lib.ListN.{length, getD, take, replicate}
+use Rattle.tables.specs.declared.cells.Cells.{Cells}
+use Rattle.tables.specs.Meaning.{cellNumbers, rowsLeft}
+use Rattle.pay.specs.declared.Member.{Member}
+use Rattle.pay.specs.Member.{memberIsSound}
+use Rattle.ramp.specs.declared.Action.{Action}
+use Rattle.ramp.specs.Ramping.{mostActions, isRamping, actionIsSound, noAction, firstBadAction}
+use Rattle.hours.specs.declared.HourLine.{HourLine}
+use Rattle.hours.specs.declared.HoursFault.{HoursFault}
+use Rattle.hours.specs.declared.HoursFault.the-variants.{NoFault, OfMember, AtLine}
+use Rattle.hours.specs.declared.Hours.{Hours}
+use Rattle.hours.specs.declared.sheet.Sheet.{Sheet}
+use Rattle.hours.specs.Hours.{hourColumns, mostHours, asHourLine, ofHour, lastHour, firstBadLine, paysFrom, actionsFrom, hoursRefused, hoursOfLines, isFault}
+
+-- The line that is being read
+
+-- the largest u16 and u32
+abbrev pub mostShort : ℕ
+mostShort = 65535
+
+abbrev pub mostWord : ℕ
+mostWord = 4294967295
+
+-- a line's numbers fit its fields
+unfoldable pub hourLineFits : HourLine → Bool
+hourLineFits l =
+    leb (l .hour) mostShort && leb (l .action .start .0) mostWord && leb (l .action .end .0) mostWord && leb (l .action .command .0) mostWord
+    && leb (l .action .delay) mostWord && leb (l .action .real) mostWord && leb (l .action .standard) mostWord
+
+-- a line of zeros, which is never sound
+unfoldable pub blankHourLine : HourLine
+blankHourLine = record { hour = 0; action = noAction }
+
+-- a line that does not fit is as bad as a blank one
+unfoldable pub fairHourLine : HourLine → HourLine
+fairHourLine l = cond (hourLineFits l) l blankHourLine
+
+-- the numbers of the line, if `rest` is what is left of it
+abbrev pub hourNumbers : Cells → List ℕ → List ℕ
+hourNumbers cells rest = cellNumbers (hourColumns - 1) cells rest
+
+-- the line, if it ends here
+abbrev pub endedLine : Cells → HourLine
+endedLine cells = asHourLine (hourNumbers cells [])
+
+-- seven numbers, the last of them by itself
+abbrev pub sevenOf : List ℕ → ℕ → List ℕ
+sevenOf ended value = take (hourColumns - 1) ended ++ value ∷ []
+
+-- the lines that are left: the one that is being read, and those behind it
+abbrev pub linesLeft : Cells → List (List ℕ) → List HourLine
+linesLeft cells ls = map asHourLine (rowsLeft (hourColumns - 1) cells ls)
+
+-- 1 where something is so, else 0
+unfoldable pub oneIf : Bool → ℕ
+oneIf some = cond some 1 0
+
+-- The lines judged so far
+
+-- what lines say of a member
+unfoldable pub linesSay : Member → ℕ → List HourLine → Hours
+linesSay m hours ls =
+    cond (not (memberIsSound m)) (hoursRefused (OfMember 10))
+    (cond (not (isRamping (m .kind))) (hoursRefused (OfMember 12))
+    (hoursOfLines m hours ls))
+
+-- how many actions of a line's hour the sheet has
+unfoldable pub heldOf : Sheet → ℕ → ℕ
+heldOf s hour = cond (eqb hour (s .last)) (s .held) 0
+
+-- the standard rate that an action must have, where its hour has n before it
+unfoldable pub standardFor : Sheet → ℕ → Action → ℕ
+standardFor s n a = cond (eqb n 0) (a .standard) (getD (s .kept) 0 noAction .standard)
+
+-- the sheet takes a line
+unfoldable pub sheetTakes : Sheet → HourLine → Bool
+sheetTakes s l =
+    ltb (l .hour) (s .hours) && leb (s .last) (l .hour)
+    && ltb (heldOf s (l .hour)) mostActions
+    && actionIsSound (standardFor s (heldOf s (l .hour)) (l .action)) (l .action)
+
+-- none of an hour's actions is bad
+abbrev pub GoodHour : List Action → Type 0
+GoodHour actions = firstBadAction actions ≡ length actions
+
+-- lines that were all sound: their last hour's actions are good, later hours have none, and they are few
+pub record AllSound (hours : ℕ) (ls : List HourLine) : Type 0 where
+  pub all : firstBadLine hours [] ls ≡ length ls
+  pub kept : GoodHour (ofHour (lastHour ls) ls)
+  pub later : (hour : ℕ) → lastHour ls < hour → ofHour hour ls ≡ []
+  pub few : length ls ≤ mostActions * lastHour ls + length (ofHour (lastHour ls) ls)
+
+-- the sheet before any line
+pub record BlankSheet (m : Member) (month : ℕ) (t : Bool) (told : HoursFault) (s : Sheet) : Type 0 where
+  pub refused : s .refused ≡ t
+  pub fault : s .fault ≡ told
+  pub member : s .member ≡ m
+  pub hours : s .hours ≡ month
+  pub zeros : (s .count ≡ 0) × (s .last ≡ 0) × (s .held ≡ 0)
+  pub room : length (s .kept) ≡ mostActions
+  pub grains : s .grains ≡ replicate mostHours (record { 0 = 0 })
+  pub actions : s .actions ≡ replicate mostHours 0
+
+-- the sheet has taken these lines of a member that may ramp
+pub record Taken (m : Member) (hours : ℕ) (ls : List HourLine) (s : Sheet) : Type 0 where
+  pub good : (memberIsSound m ≡ true) × (isRamping (m .kind) ≡ true)
+  pub sound : AllSound hours ls
+  pub member : s .member ≡ m
+  pub month : (s .hours ≡ hours) × (hours ≤ mostShort)
+  pub count : s .count ≡ length ls
+  pub last : s .last ≡ lastHour ls
+  pub held : s .held ≡ length (ofHour (lastHour ls) ls)
+  pub kept : take (s .held) (s .kept) ≡ ofHour (lastHour ls) ls
+  pub room : length (s .kept) ≡ mostActions
+  pub grains : s .grains ≡ paysFrom (m .rated .0) ls 0 mostHours
+  pub actions : s .actions ≡ actionsFrom ls 0 mostHours
+
+-- the fault is told, whatever lines follow these
+pub record Refused (m : Member) (hours : ℕ) (ls : List HourLine) (fault : HoursFault) : Type 0 where
+  pub told : isFault fault ≡ true
+  pub stays : (rest : List HourLine) → linesSay m hours (ls ++ rest) ≡ hoursRefused fault
+
+-- the sheet has judged these lines
+pub record Judged (m : Member) (hours : ℕ) (ls : List HourLine) (s : Sheet) : Type 0 where
+  pub no : s .refused ≡ true → Refused m hours ls (s .fault)
+  pub yes : s .refused ≡ false → Taken m hours ls s

@@ -1,0 +1,3 @@
+pub mod Hours
+pub mod Stream
+pub mod Inner

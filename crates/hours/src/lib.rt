@@ -1,0 +1,109 @@
+// A ramping file read from text, a byte at a time, in fixed memory, whatever the text's length: what each hour of the month pays.
+mod line;
+mod sheet;
+mod sums;
+
+use line::LAST;
+use pay::Member;
+use ramp::Action;
+use sheet::Sheet;
+use tables::cells::Cells;
+use units::Grains;
+ghost use mathlib.Core.Path.{_≡_};
+ghost use mathlib.Core.List.{List, [], _++_};
+ghost use Prim.Native.Nat.{ℕ};
+ghost use Rattle.pay.specs.declared.Member.{Member};
+ghost use Rattle.hours.specs.Hours.{isFault, readHours};
+ghost use Rattle.hours.specs.Stream.{HasRead, endedPart};
+
+// The hours of 31 days.
+pub const MOST_HOURS: usize = 744;
+
+// A line of the file: its hour of the month, and its action.
+pub struct HourLine {
+    pub hour: u16,
+    pub action: Action,
+}
+
+// What is wrong: nothing; the register line (10) or its kind (12); a line of the file, counted from 0.
+pub enum HoursFault {
+    NoFault,
+    OfMember(u32),
+    AtLine(usize),
+}
+
+// A fault, otherwise zeros; or how many hours the file has, their grains together, and for each hour of the month its grains and its actions.
+pub struct Hours {
+    pub fault: HoursFault,
+    pub count: usize,
+    pub sum: Grains,
+    pub grains: [Grains; MOST_HOURS],
+    pub actions: [u8; MOST_HOURS],
+}
+
+// All that is kept of the file so far: the line that is being read, and what the lines before it come to.
+pub struct Reader {
+    cells: Cells,
+    sheet: Sheet,
+}
+
+impl Reader {
+    // The reader of a member's file in a month of so many hours, before any byte.
+    pub fn start(member: Member, hours: u16) -> Reader
+        ensures { λ r. ⌜ HasRead member hours r [] ⌝ }
+    {
+        let cells = Cells::start();
+        let sheet = Sheet::start(member, hours);
+        Reader { cells, sheet }
+    }
+
+    // The reader after some bytes more. The sheet is large: between line feeds only the cells move.
+    pub fn feed(self, bytes: &[u8]) -> Reader
+        ensures { λ r. ⌜ ((m : Member) (hours : ℕ) (text : List ℕ) → HasRead m hours self text → HasRead m hours r (text ++ now (bytes .entry))) ⌝ }
+    {
+        let mut cells = self.cells;
+        let mut sheet = self.sheet;
+        let mut i: usize = 0;
+        while i < bytes.len() {
+            let b = bytes[i];
+            if b == b'\n' {
+                sheet = sheet.with(cells);
+                cells = Cells::start();
+            } else {
+                cells = cells.step(LAST, b);
+            }
+            i += 1;
+        }
+        Reader { cells, sheet }
+    }
+
+    // Whether a fault is known: of the member, or of a line that has ended. No bytes that follow change the answer then.
+    pub fn is_settled(self) -> bool
+        ensures { λ r. ⌜ ((m : Member) (hours : ℕ) (text : List ℕ) → HasRead m hours self text → r ≡ isFault (readHours m hours (endedPart text) .fault)) ⌝ }
+    {
+        let sheet = self.sheet;
+        sheet.refused
+    }
+
+    // The answer, if the file ends here.
+    pub fn finish(self) -> Hours
+        ensures { λ r. ⌜ ((m : Member) (hours : ℕ) (text : List ℕ) → HasRead m hours self text → r ≡ readHours m hours text) ⌝ }
+    {
+        let cells = self.cells;
+        let sheet = self.sheet;
+        if cells.is_begun() {
+            let closed = sheet.with(cells);
+            return closed.answer();
+        }
+        sheet.answer()
+    }
+}
+
+// What a whole file says of a member in a month of so many hours.
+pub fn read_hours(member: Member, hours: u16, text: &[u8]) -> Hours
+    ensures { λ r. ⌜ r ≡ readHours member hours (now (text .entry)) ⌝ }
+{
+    let first = Reader::start(member, hours);
+    let last = first.feed(text);
+    last.finish()
+}

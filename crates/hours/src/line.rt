@@ -1,0 +1,89 @@
+// The line that is being read: seven numbers parted by commas, of which the last one read may still grow.
+use crate::HourLine;
+use ramp::Action;
+use row::hold;
+use tables::cells::Cells;
+use units::Kw;
+ghost use mathlib.Core.Path.{_≡_};
+ghost use Rattle.ramp.specs.Ramping.{noAction};
+ghost use Rattle.hours.specs.Hours.{asHourLine};
+ghost use Rattle.hours.specs.Inner.{blankHourLine, fairHourLine, endedLine, sevenOf};
+
+// A line is seven numbers.
+const COLUMNS: usize = 7;
+
+// Which of them is the last, from 0 on.
+pub const LAST: usize = COLUMNS - 1;
+
+const MOST_SHORT: u64 = 0xffff;
+
+const MOST_WORD: u64 = 0xffff_ffff;
+
+// An action of zeros.
+pub fn no_action() -> Action
+    ensures { λ r. ⌜ r ≡ noAction ⌝ }
+{
+    Action {
+        start: Kw(0),
+        end: Kw(0),
+        command: Kw(0),
+        delay: 0,
+        real: 0,
+        standard: 0,
+    }
+}
+
+fn blank_hour_line() -> HourLine
+    ensures { λ r. ⌜ r ≡ blankHourLine ⌝ }
+{
+    let none = no_action();
+    HourLine {
+        hour: 0,
+        action: none,
+    }
+}
+
+// The line of seven numbers, or a blank one where a number does not fit: it is past its limit.
+fn typed(ended: [u64; 7], standard: u64) -> HourLine
+    ensures { λ r. ⌜ r ≡ fairHourLine (asHourLine (sevenOf ended standard)) ⌝ }
+{
+    let h = ended[0];
+    let s = ended[1];
+    let e = ended[2];
+    let c = ended[3];
+    let d = ended[4];
+    let x = ended[5];
+    if (h <= MOST_SHORT)
+        & (s <= MOST_WORD)
+        & (e <= MOST_WORD)
+        & (c <= MOST_WORD)
+        & (d <= MOST_WORD)
+        & (x <= MOST_WORD)
+        & (standard <= MOST_WORD)
+    {
+        return HourLine {
+            hour: h as u16,
+            action: Action {
+                start: Kw(s as u32),
+                end: Kw(e as u32),
+                command: Kw(c as u32),
+                delay: d as u32,
+                real: x as u32,
+                standard: standard as u32,
+            },
+        };
+    }
+    blank_hour_line()
+}
+
+// The line, if it ends here.
+pub fn line_in(cells: Cells) -> HourLine
+    ensures { λ r. ⌜ r ≡ fairHourLine (endedLine cells) ⌝ }
+{
+    let row = cells.row;
+    if row.is_whole(LAST) {
+        let ended = row.ended;
+        return typed(ended, hold(row.value));
+    }
+    blank_hour_line()
+}
