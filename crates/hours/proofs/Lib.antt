@@ -5,3 +5,6 @@ pub mod Taking
 pub mod Typing
 pub mod Paying
 pub mod Streaming
+pub mod Exact
+pub mod Promises
+pub mod Examples

@@ -1,21 +1,22 @@
 -- Lines that were all sound, and one more: what the sheet keeps of them judges it as the lines do. Assumes nothing.
 use mathlib.Core.Path.{_≡_, refl, ap, sym, _∙_}
 use mathlib.Core.Bool.{Bool, true, false, cond, not, _&&_, true≢false}
-use mathlib.Core.List.{List, [], _∷_, _++_}
+use mathlib.Core.List.{List, [], _∷_, _++_, append-nil}
 use Prim.Native.Nat.{ℕ, zero, suc, _+_, _*_, _≤_, _<_}
 use native.Mathlib.Omega.{arith}
 use lib.Dec.{eqb, ltb, leb}
 use lib.ListN.{length, getD, take, length-append}
-use lib.Seq.{getD-take}
-use borrow.Author.Tests.{eq-eqb, ne-eqb, eqb-true, eqb-false, ltb-true, leb-true, le-leb}
+use lib.Seq.{append-snoc}
+use borrow.Author.Tests.{eqb-true, eqb-false, ltb-true, lt-ltb, leb-true, le-leb}
 use Rattle.le.proofs.Tests.{each, all, fails, holds-or-fails}
 use Rattle.ramp.specs.declared.Action.{Action}
-use Rattle.ramp.specs.Ramping.{mostActions, mostPower, mostDelay, mostRampRate, mostOverStandard, actionIsSound, firstStandard, firstUnsound, firstBadAction, noAction}
-use Rattle.ramp.proofs.Sound.{unsound-behind, unsound-le}
+use Rattle.ramp.specs.Ramping.{mostActions, mostPower, mostDelay, mostRampRate, actionIsSound, firstStandard, firstUnsound, firstBadAction, noAction}
+use Rattle.ramp.proofs.Sound.{within-of, of-within, unsound-behind, unsound-le}
 use Rattle.ramp.proofs.Going.{so-far-within}
 use Rattle.hours.specs.declared.HourLine.{HourLine}
 use Rattle.hours.specs.Hours.{ofHour, lastHour, hourLineIsSound, firstBadLine}
-use Rattle.hours.specs.Inner.{hourLineFits, blankHourLine, fairHourLine, mostShort, mostWord, GoodHour, AllSound}
+use Rattle.hours.specs.Outcomes.{LineWithin}
+use Rattle.hours.specs.Inner.{hourLineFits, blankHourLine, fairHourLine, mostShort, mostWord, GoodHour}
 use Rattle.hours.proofs.Lines.{of-its-hour, of-another, last-more, bad-behind}
 
 -- A line that fits
@@ -25,58 +26,48 @@ abbrev lineTests : ℕ → List HourLine → HourLine → List Bool
 lineTests hours ls l =
     leb (lastHour ls) (l .hour) ∷ ltb (length (ofHour (l .hour) ls)) mostActions ∷ actionIsSound (firstStandard (ofHour (l .hour) ls ++ l .action ∷ [])) (l .action) ∷ []
 
-abbrev actionTests : ℕ → Action → List Bool
-actionTests standard a =
-    eqb (a .standard) standard ∷ not (eqb (a .command .0) (a .start .0))
-    ∷ leb (a .start .0) mostPower ∷ leb (a .end .0) mostPower ∷ leb (a .command .0) mostPower
-    ∷ leb (a .delay) mostDelay ∷ leb (a .real) mostRampRate ∷ leb (a .standard) mostRampRate
-    ∷ leb (a .real) (mostOverStandard * a .standard) ∷ []
-
 abbrev pub wordTests : Action → List Bool
 wordTests a =
     leb (a .start .0) mostWord ∷ leb (a .end .0) mostWord ∷ leb (a .command .0) mostWord ∷ leb (a .delay) mostWord ∷ leb (a .real) mostWord ∷ leb (a .standard) mostWord ∷ []
 
--- what a sound line is
-pub record LineSound (hours : ℕ) (ls : List HourLine) (l : HourLine) : Type 0 where
-  pub hour : l .hour < hours
-  pub rises : lastHour ls ≤ l .hour
-  pub most : length (ofHour (l .hour) ls) < mostActions
-  pub action : actionIsSound (firstStandard (ofHour (l .hour) ls ++ l .action ∷ [])) (l .action) ≡ true
+-- a line's test and its limits as facts are one
+module _ (hours : ℕ) (ls : List HourLine) (l : HourLine) where
+  pub line-within : hourLineIsSound hours ls l ≡ true → LineWithin hours ls l
+  unfolding hourLineIsSound
+  line-within h =
+      let p = each (ltb (l .hour) hours) (lineTests hours ls l) h in
+      record { hour = ltb-true _ _ (p .0); rises = leb-true _ _ (p .1 .0); room = ltb-true _ _ (p .1 .1 .0); action = within-of _ _ (p .1 .1 .1 .0) }
 
-pub line-sound : (hours : ℕ) (ls : List HourLine) (l : HourLine) → hourLineIsSound hours ls l ≡ true → LineSound hours ls l
-unfolding hourLineIsSound
-line-sound hours ls l h =
-    let p = each (ltb (l .hour) hours) (lineTests hours ls l) h in
-    record { hour = ltb-true _ _ (p .0); rises = leb-true _ _ (p .1 .0); most = ltb-true _ _ (p .1 .1 .0); action = p .1 .1 .1 .0 }
+  pub within-line : LineWithin hours ls l → hourLineIsSound hours ls l ≡ true
+  unfolding hourLineIsSound
+  within-line w =
+      all (ltb (l .hour) hours) (lineTests hours ls l)
+      (lt-ltb _ _ (w .hour), (le-leb _ _ (w .rises), (lt-ltb _ _ (w .room), (of-within _ _ (w .action), tt))))
 
-below-word : (n most : ℕ) → most ≤ mostWord → leb n most ≡ true → leb n mostWord ≡ true
-below-word n most h e = le-leb n mostWord (omega (arith, h, leb-true n most e))
+below : (n most top : ℕ) → most ≤ top → n ≤ most → leb n top ≡ true
+below n most top h k = le-leb n top (omega (arith, h, k))
 
 sound-fits : (hours : ℕ) (ls : List HourLine) (l : HourLine) → hours ≤ mostShort → hourLineIsSound hours ls l ≡ true → hourLineFits l ≡ true
-unfolding hourLineFits actionIsSound
+unfolding hourLineFits
 sound-fits hours ls l few h =
-    let s = line-sound hours ls l h in
-    let a = l .action in
-    let p = each (not (eqb (a .standard) 0)) (actionTests (firstStandard (ofHour (l .hour) ls ++ a ∷ [])) a) (s .action) .1 .1 .1 in
-    all (leb (l .hour) mostShort) (wordTests a) (
-      le-leb (l .hour) mostShort (omega (arith, s .hour, few)),
+    let w = line-within hours ls l h in
+    let a = w .action in
+    let power : mostPower ≤ mostWord = omega arith in
+    let rate : mostRampRate ≤ mostWord = omega arith in
+    all (leb (l .hour) mostShort) (wordTests (l .action)) (
+      below (l .hour) hours mostShort few (omega (arith, w .hour)),
       (
-        below-word (a .start .0) mostPower (omega arith) (p .0),
+        below (l .action .start .0) mostPower mostWord power (a .powers .0),
         (
-          below-word (a .end .0) mostPower (omega arith) (p .1 .0),
-          (
-            below-word (a .command .0) mostPower (omega arith) (p .1 .1 .0),
-            (below-word (a .delay) mostDelay (omega arith) (p .1 .1 .1 .0), (below-word (a .real) mostRampRate (omega arith) (p .1 .1 .1 .1 .0), (below-word (a .standard) mostRampRate (omega arith) (p .1 .1 .1 .1 .1 .0), tt))),
-          ),
+          below (l .action .end .0) mostPower mostWord power (a .powers .1),
+          (below (l .action .command .0) mostPower mostWord power (a .powers .2), (below (l .action .delay) mostDelay mostWord (omega arith) (a .delay), (below (l .action .real) mostRampRate mostWord rate (a .rates .0), (below (l .action .standard) mostRampRate mostWord rate (a .rates .1), tt)))),
         ),
       ),
     )
 
 blank-bad : (hours : ℕ) (ls : List HourLine) → hourLineIsSound hours ls blankHourLine ≡ true → ⊥
-unfolding actionIsSound blankHourLine noAction
-blank-bad hours ls h =
-    let s = line-sound hours ls blankHourLine h in
-    true≢false (sym (each false (actionTests (firstStandard (ofHour 0 ls ++ noAction ∷ [])) noAction) (s .action) .0))
+unfolding blankHourLine noAction
+blank-bad hours ls h = line-within hours ls blankHourLine h .action .some-rate refl
 
 module _ (hours : ℕ) (few : hours ≤ mostShort) (ls : List HourLine) (l : HourLine) where
   -- a line that is taken by its fair form is itself,
@@ -103,7 +94,7 @@ pub good-most : (actions : List Action) → GoodHour actions → length actions 
 unfolding firstBadAction
 good-most actions h = omega (arith, h)
 
-good-sound : (actions : List Action) → GoodHour actions → firstUnsound (firstStandard actions) actions ≡ length actions
+pub good-sound : (actions : List Action) → GoodHour actions → firstUnsound (firstStandard actions) actions ≡ length actions
 unfolding firstBadAction
 good-sound actions h = omega (arith, h, unsound-le (firstStandard actions) actions)
 
@@ -117,41 +108,63 @@ one-more actions a h room s =
 
 -- Lines that were all sound
 
-pub all-none : (hours : ℕ) → AllSound hours []
+-- each hour's actions are good, hours past the last line's have none, and the lines are few
+pub record AllSound (hours : ℕ) (ls : List HourLine) : Type 0 where
+  pub all : firstBadLine hours [] ls ≡ length ls
+  pub good : (hour : ℕ) → GoodHour (ofHour hour ls)
+  pub later : (hour : ℕ) → lastHour ls < hour → ofHour hour ls ≡ []
+  pub few : length ls ≤ mostActions * lastHour ls + length (ofHour (lastHour ls) ls)
+
+-- one more line that is sound
+pub sound-more : (hours : ℕ) (ls : List HourLine) (l : HourLine) → firstBadLine hours [] ls ≡ length ls → hourLineIsSound hours ls l ≡ true → firstBadLine hours [] (ls ++ l ∷ []) ≡ length (ls ++ l ∷ [])
+unfolding firstBadLine
+sound-more hours ls l h t = let one : firstBadLine hours ls (l ∷ []) ≡ 1 = rw t in omega (arith, bad-behind hours [] ls (l ∷ []) h, one, length-append ls (l ∷ []))
+
+none-sound : (hours : ℕ) → AllSound hours []
 unfolding firstBadLine lastHour ofHour
-all-none hours = record { all = refl; kept = none-good; later = λ hour h. refl; few = omega arith }
+none-sound hours = record { all = refl; good = λ hour. none-good; later = λ hour h. refl; few = omega arith }
 
-module _ (hours : ℕ) (ls : List HourLine) (s : AllSound hours ls) where
-  -- an hour that is not the last of them has no actions yet
-  pub by-hour : (P : List Action → Type 0) (hour : ℕ) → lastHour ls ≤ hour → ((hour ≡ lastHour ls → ⊥) → P []) → (hour ≡ lastHour ls → P (ofHour (lastHour ls) ls)) → P (ofHour hour ls)
-  by-hour P hour h none last = go (eqb hour (lastHour ls)) refl
+module _ (hours : ℕ) (ls : List HourLine) (s : AllSound hours ls) (l : HourLine) (t : hourLineIsSound hours ls l ≡ true) where
+  abbrev within : LineWithin hours ls l
+  within = line-within hours ls l t
+
+  good-more : (hour : ℕ) → GoodHour (ofHour hour (ls ++ l ∷ []))
+  good-more hour = go (eqb (l .hour) hour) refl
     where
-      go : (t : Bool) → eqb hour (lastHour ls) ≡ t → P (ofHour hour ls)
-      go true e = let is = eqb-true hour (lastHour ls) e in rw is (last is)
-      go false e = let ne = eqb-false hour (lastHour ls) e in rw (s .later hour (omega (arith, h, ne))) (none ne)
+      go : (u : Bool) → eqb (l .hour) hour ≡ u → GoodHour (ofHour hour (ls ++ l ∷ []))
+      go true e = rw (← (eqb-true (l .hour) hour e), of-its-hour ls l) (one-more (ofHour (l .hour) ls) (l .action) (s .good (l .hour)) (within .room) (of-within _ _ (within .action)))
+      go false e = rw (of-another ls l hour (eqb-false (l .hour) hour e)) (s .good hour)
 
-  module _ (l : HourLine) (t : hourLineIsSound hours ls l ≡ true) where
-    abbrev sound : LineSound hours ls l
-    sound = line-sound hours ls l t
+  few-more : length ls + 1 ≤ mostActions * l .hour + (length (ofHour (l .hour) ls) + 1)
+  few-more = go (eqb (l .hour) (lastHour ls)) refl
+    where
+      go : (u : Bool) → eqb (l .hour) (lastHour ls) ≡ u → length ls + 1 ≤ mostActions * l .hour + (length (ofHour (l .hour) ls) + 1)
+      go true e = let is = eqb-true (l .hour) (lastHour ls) e in rw is (omega (arith, s .few))
+      go false e = omega (arith, s .few, good-most (ofHour (lastHour ls) ls) (s .good (lastHour ls)), within .rises, eqb-false (l .hour) (lastHour ls) e)
 
-    few-more : length ls + 1 ≤ mostActions * l .hour + (length (ofHour (l .hour) ls) + 1)
-    few-more = go (eqb (l .hour) (lastHour ls)) refl
-      where
-        go : (u : Bool) → eqb (l .hour) (lastHour ls) ≡ u → length ls + 1 ≤ mostActions * l .hour + (length (ofHour (l .hour) ls) + 1)
-        go true e = let is = eqb-true (l .hour) (lastHour ls) e in rw is (omega (arith, s .few))
-        go false e = omega (arith, s .few, good-most (ofHour (lastHour ls) ls) (s .kept), sound .rises, eqb-false (l .hour) (lastHour ls) e)
+  all-more : AllSound hours (ls ++ l ∷ [])
+  all-more =
+      let last = last-more ls l in
+      let its : ofHour (lastHour (ls ++ l ∷ [])) (ls ++ l ∷ []) ≡ ofHour (l .hour) ls ++ l .action ∷ [] = ap (λ (h : ℕ). ofHour h (ls ++ l ∷ [])) last ∙ of-its-hour ls l in
+      let many = length-append ls (l ∷ []) in
+      let acts = length-append (ofHour (l .hour) ls) (l .action ∷ []) in
+      record {
+        all = sound-more hours ls l (s .all) t;
+        good = good-more;
+        later = λ hour h. of-another ls l hour (λ e. omega (arith, h, last, e)) ∙ s .later hour (omega (arith, h, last, within .rises));
+        few = rw (its, last) (omega (arith, few-more, many, acts));
+      }
 
-    pub all-more : AllSound hours (ls ++ l ∷ [])
-    unfolding firstBadLine
-    all-more =
-        let last = last-more ls l in
-        let its : ofHour (lastHour (ls ++ l ∷ [])) (ls ++ l ∷ []) ≡ ofHour (l .hour) ls ++ l .action ∷ [] = ap (λ (h : ℕ). ofHour h (ls ++ l ∷ [])) last ∙ of-its-hour ls l in
-        let one : firstBadLine hours ls (l ∷ []) ≡ 1 = rw t in
-        let many = length-append ls (l ∷ []) in
-        let acts = length-append (ofHour (l .hour) ls) (l .action ∷ []) in
-        record {
-          all = omega (arith, bad-behind hours [] ls (l ∷ []) (s .all), one, many);
-          kept = rw its (one-more (ofHour (l .hour) ls) (l .action) (by-hour GoodHour (l .hour) (sound .rises) (λ ne. none-good) (λ e. s .kept)) (sound .most) (sound .action));
-          later = λ hour h. of-another ls l hour (λ e. omega (arith, h, last, e)) ∙ s .later hour (omega (arith, h, last, sound .rises));
-          few = rw (its, last) (omega (arith, few-more, many, acts));
-        }
+-- they are so as soon as none is bad
+sound-behind : (hours : ℕ) (before xs : List HourLine) → AllSound hours before → firstBadLine hours before xs ≡ length xs → AllSound hours (before ++ xs)
+unfolding firstBadLine
+sound-behind hours before [] s h = rw (append-nil before) s
+sound-behind hours before (x ∷ xs) s h = go (hourLineIsSound hours before x) refl h (sound-behind hours (before ++ x ∷ []) xs)
+  where
+    go : (t : Bool) → hourLineIsSound hours before x ≡ t → cond t (suc (firstBadLine hours (before ++ x ∷ []) xs)) 0 ≡ suc (length xs)
+        → (AllSound hours (before ++ x ∷ []) → firstBadLine hours (before ++ x ∷ []) xs ≡ length xs → AllSound hours ((before ++ x ∷ []) ++ xs)) → AllSound hours (before ++ x ∷ xs)
+    go true e k rec = rw (← (append-snoc before x xs)) (rec (all-more hours before s x e) (omega (arith, k)))
+    go false e k rec = absurd (omega (arith, k))
+
+pub all-sound : (hours : ℕ) (ls : List HourLine) → firstBadLine hours [] ls ≡ length ls → AllSound hours ls
+all-sound hours ls = sound-behind hours [] ls (none-sound hours)

@@ -23,7 +23,7 @@ use Rattle.hours.specs.declared.Reader.{Reader}
 use Rattle.hours.specs.declared.HoursFault.the-variants.{NoFault}
 use Rattle.hours.specs.Hours.{hourColumns, asHourLine, hourLines, isFault, hoursRefused, hoursPaid, readHours}
 use Rattle.hours.specs.Inner.{hourNumbers, endedLine, linesLeft, linesSay, Taken, Refused, Judged}
-use Rattle.hours.specs.Stream.{hasFeed, endedPart, HasRead}
+use Rattle.hours.specs.Stream.{hasFeed, endedPart, HasRead, Settled}
 use Rattle.hours.proofs.Taking.{refused-answer, answers}
 
 -- The part of a text that has ended
@@ -56,7 +56,7 @@ hour-lines : (ls : List (List ℕ)) → map asHourLine (map (rowOf hourColumns) 
 hour-lines [] = refl
 hour-lines (l ∷ ls) = ap (λ (xs : List HourLine). asHourLine (rowOf hourColumns l) ∷ xs) (hour-lines ls)
 
-said : (m : Member) (hours : ℕ) (text : List ℕ) → readHours m hours text ≡ linesSay m hours (hourLines text)
+pub said : (m : Member) (hours : ℕ) (text : List ℕ) → readHours m hours text ≡ linesSay m hours (hourLines text)
 unfolding readHours linesSay
 said m hours text = refl
 
@@ -126,6 +126,13 @@ module _ (m : Member) (hours : ℕ) where
             let r = k .ended .no e in
             e ∙ sym (r .told) ∙ ap (λ (h : Hours). isFault (h .fault)) (refused-answer m hours (hourLines (endedPart text)) (s .fault) r ∙ sym (said m hours (endedPart text)))
         go false e = e ∙ ap (λ (h : Hours). isFault (h .fault)) (answers m hours (hourLines (endedPart text)) s (k .ended .yes e) ∙ sym (said m hours (endedPart text)))
+
+    -- no line that follows changes the answer then
+    pub settled : isFault (readHours m hours (endedPart text) .fault) ≡ true → Settled m hours text
+    settled f rest =
+        let r = k .ended .no (settles ∙ f) in
+        said m hours (text ++ rest) ∙ ap (linesSay m hours) (k .left rest) ∙ r .stays (linesLeft cells (linesOf rest))
+        ∙ sym (said m hours text ∙ ap (linesSay m hours) ends ∙ r .stays (linesLeft cells []))
 
 -- Many bytes
 

@@ -23,13 +23,14 @@ use Rattle.hours.specs.declared.HoursFault.the-variants.{NoFault, OfMemb
 use Rattle.hours.specs.declared.Hours.{Hours}
 use Rattle.hours.specs.declared.sheet.Sheet.{Sheet}
 use Rattle.hours.specs.Hours.{mostHours, ofHour, lastHour, hourLineIsSound, firstBadLine, paysFrom, actionsFrom, hoursWith, grainsSum, hoursRefused, hoursPaid, hoursOfLines, isFault}
-use Rattle.hours.specs.Inner.{mostShort, fairHourLine, linesSay, heldOf, standardFor, sheetTakes, BlankSheet, GoodHour, AllSound, Taken, Refused, Judged}
+use Rattle.hours.specs.Outcomes.{LineWithin}
+use Rattle.hours.specs.Inner.{mostShort, fairHourLine, linesSay, heldOf, standardFor, sheetTakes, BlankSheet, GoodHour, Taken, Refused, Judged}
 use Rattle.hours.proofs.Lines.{of-its-hour, last-more, bad-behind, tableFrom, paidFor, pays-table, actions-table, table-none, table-more}
-use Rattle.hours.proofs.Sound.{LineSound, line-sound, good-most, fair-same, fair-bad, all-none, by-hour, all-more}
+use Rattle.hours.proofs.Sound.{line-within, good-most, fair-same, fair-bad, AllSound, sound-more, all-sound}
 
 -- What lines say of a member that may ramp
 
-lines-of : (m : Member) (hours : ℕ) (ls : List HourLine) → (memberIsSound m ≡ true) × (isRamping (m .kind) ≡ true) → linesSay m hours ls ≡ hoursOfLines m hours ls
+pub lines-of : (m : Member) (hours : ℕ) (ls : List HourLine) → (memberIsSound m ≡ true) × (isRamping (m .kind) ≡ true) → linesSay m hours ls ≡ hoursOfLines m hours ls
 unfolding linesSay
 lines-of m hours ls g = rw (g .0, g .1)
 
@@ -41,13 +42,13 @@ module _ (m : Member) (hours : ℕ) (s : Sheet) where
   no-pays N n = sym (pays-table N [] 0 n ∙ table-none (paidFor N) 0 n)
 
   pub starts-taken : (memberIsSound m ≡ true) × (isRamping (m .kind) ≡ true) → hours ≤ mostShort → BlankSheet m hours false NoFault s → Judged m hours [] s
-  unfolding ofHour lastHour
+  unfolding ofHour lastHour firstBadLine
   starts-taken g short b =
       record {
         no = λ e. absurd (holds-or-fails e (b .refused));
         yes = λ e. record {
           good = g;
-          sound = all-none hours;
+          sound = refl;
           member = b .member;
           month = (b .hours, short);
           count = b .zeros .0;
@@ -83,10 +84,11 @@ module _ (m : Member) (hours : ℕ) (ls : List HourLine) (s : Sheet) (k : Taken 
     -- the sheet's actions of an hour that may follow are the lines'
     pub held-is : (heldOf s hour ≡ length (ofHour hour ls)) × (take (heldOf s hour) (s .kept) ≡ ofHour hour ls)
     unfolding heldOf
-    held-is =
-        by-hour hours ls (k .sound) (λ (actions : List Action). (cond (eqb hour (s .last)) (s .held) 0 ≡ length actions) × (take (cond (eqb hour (s .last)) (s .held) 0) (s .kept) ≡ actions)) hour rises
-        (λ ne. rw (ne-eqb hour (s .last) (λ e. ne (e ∙ k .last))) (refl, refl))
-        (λ e. rw (eq-eqb hour (s .last) (e ∙ sym (k .last))) (k .held, k .kept))
+    held-is = go (eqb hour (s .last)) refl
+      where
+        go : (t : Bool) → eqb hour (s .last) ≡ t → (cond t (s .held) 0 ≡ length (ofHour hour ls)) × (take (cond t (s .held) 0) (s .kept) ≡ ofHour hour ls)
+        go true e = rw (eqb-true hour (s .last) e ∙ k .last) (k .held, k .kept)
+        go false e = rw (all-sound hours ls (k .sound) .later hour (omega (arith, rises, eqb-false hour (s .last) e, k .last))) (refl, refl)
 
   -- the standard rate that the sheet asks of an action is its hour's
   first-kept : (n : ℕ) (actions : List Action) (a : Action) → n ≡ length actions → take n (s .kept) ≡ actions → standardFor s n a ≡ firstStandard (actions ++ a ∷ [])
@@ -121,7 +123,7 @@ module _ (m : Member) (hours : ℕ) (ls : List HourLine) (s : Sheet) (k : Taken 
         stays = λ rest.
             let split = append-snoc ls l rest in
             let none : firstBadLine hours ls (l ∷ rest) ≡ 0 = rw h in
-            let place : firstBadLine hours [] (ls ++ l ∷ rest) ≡ s .count = omega (arith, bad-behind hours [] ls (l ∷ rest) (k .sound .all), none, k .count) in
+            let place : firstBadLine hours [] (ls ++ l ∷ rest) ≡ s .count = omega (arith, bad-behind hours [] ls (l ∷ rest) (k .sound), none, k .count) in
             let more : s .count < length (ls ++ l ∷ rest) = omega (arith, k .count, length-append ls (l ∷ rest)) in
             ap (linesSay m hours) split ∙ lines-of m hours (ls ++ l ∷ rest) (k .good) ∙ rw (place, lt-ltb (s .count) (length (ls ++ l ∷ rest)) more);
       }
@@ -130,7 +132,7 @@ module _ (m : Member) (hours : ℕ) (ls : List HourLine) (s : Sheet) (k : Taken 
 
   pub answers : hoursPaid (m .rated .0) ls ≡ linesSay m hours ls
   unfolding hoursOfLines
-  answers = sym (lines-of m hours ls (k .good) ∙ rw (k .sound .all, le-ltb (length ls) (length ls) (omega arith)))
+  answers = sym (lines-of m hours ls (k .good) ∙ rw (k .sound, le-ltb (length ls) (length ls) (omega arith)))
 
   pub answered : (count sum : ℕ) → count ≡ hoursWith (s .actions) → sum ≡ grainsSum (s .grains)
       → record { fault = NoFault; count = count; sum = record { 0 = sum }; grains = s .grains; actions = s .actions } ≡ linesSay m hours ls
@@ -156,8 +158,8 @@ module _ (m : Member) (hours : ℕ) (ls : List HourLine) (s : Sheet) (k : Taken 
   abbrev is-sound : hourLineIsSound hours ls l ≡ true
   is-sound = sym (takes-sound m hours ls s k l) ∙ t
 
-  abbrev line : LineSound hours ls l
-  line = line-sound hours ls l is-sound
+  abbrev line : LineWithin hours ls l
+  line = line-within hours ls l is-sound
 
   abbrev its-actions : (n ≡ length (ofHour (l .hour) ls)) × (take n (s .kept) ≡ ofHour (l .hour) ls)
   its-actions = let h = held-is m hours ls s k (l .hour) (line .rises) in (is ∙ h .0, ap (λ (x : ℕ). take x (s .kept)) is ∙ h .1)
@@ -165,7 +167,7 @@ module _ (m : Member) (hours : ℕ) (ls : List HourLine) (s : Sheet) (k : Taken 
   kept-more : (kept : List Action) → kept ≡ set (s .kept) n (l .action) → take (n + 1) kept ≡ ofHour (l .hour) ls ++ l .action ∷ []
   kept-more kept e =
       let h = its-actions in
-      let room : n < length (s .kept) = omega (arith, h .0, line .most, k .room) in
+      let room : n < length (s .kept) = omega (arith, h .0, line .room, k .room) in
       rw (e, add-one, take-suc-set (s .kept) n (l .action) room, h .1)
 
   pub taken-more : (r : Sheet) (pay : Grains)
@@ -175,21 +177,23 @@ module _ (m : Member) (hours : ℕ) (ls : List HourLine) (s : Sheet) (k : Taken 
       → Taken m hours (ls ++ l ∷ []) r
   taken-more r pay member month count last held kept grains actions pays =
       let h = its-actions in
-      let all = all-more hours ls (k .sound) l is-sound in
+      let now-sound : firstBadLine hours [] (ls ++ l ∷ []) ≡ length (ls ++ l ∷ []) = sound-more hours ls l (k .sound) is-sound in
+      let before = all-sound hours ls (k .sound) in
+      let after = all-sound hours (ls ++ l ∷ []) now-sound in
       let ends = last-more ls l in
       let its : ofHour (lastHour (ls ++ l ∷ [])) (ls ++ l ∷ []) ≡ ofHour (l .hour) ls ++ l .action ∷ [] = ap (λ (x : ℕ). ofHour x (ls ++ l ∷ [])) ends ∙ of-its-hour ls l in
       let now = kept-more (r .kept) kept in
       let more = length-append (ofHour (l .hour) ls) (l .action ∷ []) in
       let many = length-append ls (l ∷ []) in
-      let low : s .count + 1 < 2 ^ 64 = omega (arith, k .count, k .sound .few, good-most (ofHour (lastHour ls) ls) (k .sound .kept), line .rises, line .hour, k .month .1) in
+      let low : s .count + 1 < 2 ^ 64 = omega (arith, k .count, before .few, good-most (ofHour (lastHour ls) ls) (before .good (lastHour ls)), line .rises, line .hour, k .month .1) in
       let rated = ap (λ (x : Member). x .rated .0) (k .member) in
       let good = line-of m (k .good .0) .rated in
-      let hour : GoodHour (ofHour (l .hour) ls ++ l .action ∷ []) = subst GoodHour its (all .kept) in
+      let hour : GoodHour (ofHour (l .hour) ls ++ l .action ∷ []) = subst GoodHour (of-its-hour ls l) (after .good (l .hour)) in
       let paid : pay ≡ paidFor (m .rated .0) (ofHour (l .hour) ls ++ l .action ∷ []) =
       λ i. record { 0 = (pays (rw rated good) (subst GoodHour (sym now) hour) ∙ (λ j. hourGrains (rated j) (now j))) i } in
       record {
         good = k .good;
-        sound = all;
+        sound = now-sound;
         member = member ∙ k .member;
         month = (month ∙ k .month .0, k .month .1);
         count = omega (arith, count, mod-eq-of-lt low, k .count, many);

@@ -90,13 +90,6 @@ sheetTakes s l =
 abbrev pub GoodHour : List Action → Type 0
 GoodHour actions = firstBadAction actions ≡ length actions
 
--- lines that were all sound: their last hour's actions are good, later hours have none, and they are few
-pub record AllSound (hours : ℕ) (ls : List HourLine) : Type 0 where
-  pub all : firstBadLine hours [] ls ≡ length ls
-  pub kept : GoodHour (ofHour (lastHour ls) ls)
-  pub later : (hour : ℕ) → lastHour ls < hour → ofHour hour ls ≡ []
-  pub few : length ls ≤ mostActions * lastHour ls + length (ofHour (lastHour ls) ls)
-
 -- the sheet before any line
 pub record BlankSheet (m : Member) (month : ℕ) (t : Bool) (told : HoursFault) (s : Sheet) : Type 0 where
   pub refused : s .refused ≡ t
@@ -111,7 +104,7 @@ pub record BlankSheet (m : Member) (month : ℕ) (t : Bool) (told : HoursFault) 
 -- the sheet has taken these lines of a member that may ramp
 pub record Taken (m : Member) (hours : ℕ) (ls : List HourLine) (s : Sheet) : Type 0 where
   pub good : (memberIsSound m ≡ true) × (isRamping (m .kind) ≡ true)
-  pub sound : AllSound hours ls
+  pub sound : firstBadLine hours [] ls ≡ length ls
   pub member : s .member ≡ m
   pub month : (s .hours ≡ hours) × (hours ≤ mostShort)
   pub count : s .count ≡ length ls

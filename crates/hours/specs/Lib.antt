@@ -1,3 +1,4 @@
 pub mod Hours
 pub mod Stream
+pub mod Outcomes
 pub mod Inner

@@ -1,0 +1,151 @@
+-- What reading a ramping file promises: the lowest bad line is told, otherwise every hour; however the bytes come in; and the sum is the hours' sum. Assumes nothing.
+use mathlib.Core.Path.{_≡_, refl, ap, sym, _∙_}
+use mathlib.Core.Bool.{Bool, true, false, cond, not}
+use mathlib.Core.List.{List, [], _∷_, _++_, map}
+use Prim.Native.Nat.{ℕ, zero, suc, _+_, _*_, _≤_, _<_}
+use native.Mathlib.Omega.{arith}
+use lib.ListN.{length, replicate}
+use Rattle.le.proofs.Tests.{holds-or-fails}
+use Rattle.units.specs.declared.Grains.{Grains}
+use Rattle.units.specs.Money.{mostGrains, grainsPlus}
+use Rattle.pay.specs.declared.Member.{Member}
+use Rattle.ramp.specs.Ramping.{firstStandard, hourGrains}
+use Rattle.ramp.proofs.Sound.{all-within}
+use Rattle.ramp.proofs.Bounds.{mostHour, grains-most}
+use Rattle.ramp.proofs.Top.{EachHourMost, hoursTotal, hours-below-top}
+use Rattle.hours.specs.declared.HourLine.{HourLine}
+use Rattle.hours.specs.declared.HoursFault.{HoursFault}
+use Rattle.hours.specs.declared.HoursFault.the-variants.{NoFault, OfMember, AtLine}
+use Rattle.hours.specs.declared.Hours.{Hours}
+use Rattle.hours.specs.declared.Reader.{Reader}
+use Rattle.hours.specs.Hours.{mostHours, ofHour, hourLines, paysFrom, grainsSum, isFault, hoursRefused, hoursPaid, readHours}
+use Rattle.hours.specs.Outcomes.{LineWithinAt, LinesWithin, MayRead, HoursOutcome, bad-member, other-kind, bad-line, paid}
+use Rattle.hours.specs.Stream.{endedPart, HasRead, Settled}
+use Rattle.hours.proofs.Sound.{good-most, good-sound, AllSound, all-sound}
+use Rattle.hours.proofs.Streaming.{settled}
+use Rattle.hours.proofs.Exact.{none-bad, hours-exact}
+
+-- The whole file
+
+module _ (m : Member) (hours : ℕ) (text : List ℕ) where
+  -- THE LOWEST BAD LINE IS TOLD, and nothing else of the file;
+  pub lowest-bad : MayRead m → (i : ℕ) → i < length (hourLines text) → LinesWithin hours (hourLines text) i → (LineWithinAt hours (hourLines text) i → ⊥)
+      → readHours m hours text ≡ hoursRefused (AtLine i)
+  lowest-bad may i h w n = sym (hours-exact m hours text (hoursRefused (AtLine i)) .1 (bad-line i refl may h w n))
+
+  -- a file without a bad line is taken whole.
+  pub all-taken : MayRead m → LinesWithin hours (hourLines text) (length (hourLines text)) → readHours m hours text ≡ hoursPaid (m .rated .0) (hourLines text)
+  all-taken may w = sym (hours-exact m hours text (hoursPaid (m .rated .0) (hourLines text)) .1 (paid refl may w))
+
+  -- A refused file says nothing but its fault: zeros everywhere.
+  pub refused-zeros : isFault (readHours m hours text .fault) ≡ true → readHours m hours text ≡ hoursRefused (readHours m hours text .fault)
+  unfolding hoursRefused hoursPaid isFault
+  refused-zeros f = go (readHours m hours text) (hours-exact m hours text (readHours m hours text) .0 refl) f
+    where
+      told : (r : Hours) (fault : HoursFault) → r ≡ hoursRefused fault → r ≡ hoursRefused (r .fault)
+      told r fault e = e ∙ ap (λ (h : Hours). hoursRefused (h .fault)) (sym e)
+
+      go : (r : Hours) → HoursOutcome m hours (hourLines text) r → isFault (r .fault) ≡ true → r ≡ hoursRefused (r .fault)
+      go r (bad-member e n) f = told r (OfMember 10) e
+      go r (other-kind e w k) f = told r (OfMember 12) e
+      go r (bad-line i e may h w n) f = told r (AtLine i) e
+      go r (paid e may w) f = absurd (holds-or-fails f (ap (λ (h : Hours). isFault (h .fault)) e))
+
+-- What the hours pay
+
+-- the grains as numbers
+abbrev pub grainsOf : Hours → List ℕ
+grainsOf r = map (λ g. g .0) (r .grains)
+
+abbrev numbersOf : List Grains → List ℕ
+numbersOf gs = map (λ g. g .0) gs
+
+zeros-total : (n : ℕ) → hoursTotal (numbersOf (replicate n (record { 0 = 0 }))) ≡ 0
+unfolding hoursTotal
+zeros-total zero = refl
+zeros-total (suc n) = omega (arith, zeros-total n)
+
+plain-sum : (gs : List Grains) → hoursTotal (numbersOf gs) ≤ mostGrains → grainsSum gs ≡ hoursTotal (numbersOf gs)
+unfolding grainsSum hoursTotal grainsPlus
+plain-sum [] h = refl
+plain-sum (g ∷ gs) h = let rest = plain-sum gs (omega (arith, h)) in omega (arith, rest, h)
+
+-- of lines that are all sound, by a unit of some rating
+module _ (N : ℕ) (some : 0 < N) (hours : ℕ) (ls : List HourLine) (s : AllSound hours ls) where
+  hour-most : (hour : ℕ) → hourGrains N (ofHour hour ls) ≤ mostHour
+  hour-most hour =
+      let actions = ofHour hour ls in
+      grains-most N actions some (good-most actions (s .good hour)) (all-within (firstStandard actions) actions (good-sound actions (s .good hour)))
+
+  each-most : (hour n : ℕ) → EachHourMost (numbersOf (paysFrom N ls hour n))
+  unfolding paysFrom
+  each-most hour zero = tt
+  each-most hour (suc n) = (hour-most hour, each-most (suc hour) n)
+
+  pays-length : (hour n : ℕ) → length (numbersOf (paysFrom N ls hour n)) ≡ n
+  unfolding paysFrom
+  pays-length hour zero = refl
+  pays-length hour (suc n) = ap suc (pays-length (suc hour) n)
+
+  paid-sum : grainsSum (paysFrom N ls 0 mostHours) ≡ hoursTotal (numbersOf (paysFrom N ls 0 mostHours))
+  paid-sum =
+      let low = hours-below-top 0 (numbersOf (paysFrom N ls 0 mostHours)) (omega arith) (omega (arith, pays-length 0 mostHours)) (each-most 0 mostHours) in
+      plain-sum (paysFrom N ls 0 mostHours) (omega (arith, low))
+
+module _ (m : Member) (hours : ℕ) (text : List ℕ) where
+  -- THE SUM IS THE HOURS' SUM, never held at the top.
+  pub sum-is : readHours m hours text .sum .0 ≡ hoursTotal (grainsOf (readHours m hours text))
+  unfolding hoursRefused hoursPaid
+  sum-is = go (readHours m hours text) (hours-exact m hours text (readHours m hours text) .0 refl)
+    where
+      told : (r : Hours) (fault : HoursFault) → r ≡ hoursRefused fault → r .sum .0 ≡ hoursTotal (grainsOf r)
+      told r fault e = ap (λ (h : Hours). h .sum .0) e ∙ sym (zeros-total mostHours) ∙ ap (λ (h : Hours). hoursTotal (grainsOf h)) (sym e)
+
+      go : (r : Hours) → HoursOutcome m hours (hourLines text) r → r .sum .0 ≡ hoursTotal (grainsOf r)
+      go r (bad-member e n) = told r (OfMember 10) e
+      go r (other-kind e w k) = told r (OfMember 12) e
+      go r (bad-line i e may h w n) = told r (AtLine i) e
+      go r (paid e may w) =
+          ap (λ (h : Hours). h .sum .0) e
+          ∙ paid-sum (m .rated .0) (omega (arith, may .line .rated .0)) hours (hourLines text) (all-sound hours (hourLines text) (none-bad hours (hourLines text) w))
+          ∙ ap (λ (h : Hours). hoursTotal (grainsOf h)) (sym e)
+
+-- The stream: what the contracts of a reader say that has read a text
+
+-- a reader that was started for a member and a month, and fed part after part of a text, each as its contract has it
+pub data Streamed (m : Member) (hours : ℕ) : List ℕ → Reader → Type 0 where
+  started : (r : Reader) → HasRead m hours r [] → Streamed m hours [] r
+  fed : (text bytes : List ℕ) (s r : Reader) → Streamed m hours text s
+      → ((m : Member) (hours : ℕ) (x : List ℕ) → HasRead m hours s x → HasRead m hours r (x ++ bytes)) → Streamed m hours (text ++ bytes) r
+
+module _ (m : Member) (hours : ℕ) where
+  -- IN WHATEVER PARTS a text came, it is the text that has been read.
+  pub read-in-parts : (text : List ℕ) (r : Reader) → Streamed m hours text r → HasRead m hours r text
+  read-in-parts text r (started _ h) = h
+  read-in-parts text r (fed before bytes s _ k h) = h m hours before (read-in-parts before s k)
+
+  module _ (text : List ℕ) (r : Reader) (k : HasRead m hours r text) where
+    -- THE STREAM'S ANSWER is that of the whole file.
+    pub stream-answer : (t : Hours) → ((m : Member) (hours : ℕ) (x : List ℕ) → HasRead m hours r x → t ≡ readHours m hours x) → t ≡ readHours m hours text
+    stream-answer t h = h m hours text k
+
+    -- A FAULT THAT IS KNOWN STAYS: no bytes that follow change the answer.
+    pub stops-late-enough : ((m : Member) (hours : ℕ) (x : List ℕ) → HasRead m hours r x → true ≡ isFault (readHours m hours (endedPart x) .fault)) → Settled m hours text
+    stops-late-enough t = settled m hours (r .cells) (r .sheet) text k (sym (t m hours text k))
+
+-- Two outcomes that a contract allows are one
+
+pub read-determined : (m : Member) (hours : ℕ) (text : List ℕ) (t u : Hours) → t ≡ readHours m hours text → u ≡ readHours m hours text → t ≡ u
+read-determined m hours text t u e f = e ∙ sym f
+
+-- readers of one member and month that have read one text finish alike,
+pub finish-determined : (m : Member) (hours : ℕ) (text : List ℕ) (r s : Reader) → HasRead m hours r text → HasRead m hours s text → (t u : Hours)
+    → ((m : Member) (hours : ℕ) (x : List ℕ) → HasRead m hours r x → t ≡ readHours m hours x)
+    → ((m : Member) (hours : ℕ) (x : List ℕ) → HasRead m hours s x → u ≡ readHours m hours x) → t ≡ u
+finish-determined m hours text r s a b t u e f = e m hours text a ∙ sym (f m hours text b)
+
+-- and know of a fault at the same byte.
+pub settled-determined : (m : Member) (hours : ℕ) (text : List ℕ) (r s : Reader) → HasRead m hours r text → HasRead m hours s text → (t u : Bool)
+    → ((m : Member) (hours : ℕ) (x : List ℕ) → HasRead m hours r x → t ≡ isFault (readHours m hours (endedPart x) .fault))
+    → ((m : Member) (hours : ℕ) (x : List ℕ) → HasRead m hours s x → u ≡ isFault (readHours m hours (endedPart x) .fault)) → t ≡ u
+settled-determined m hours text r s a b t u e f = e m hours text a ∙ sym (f m hours text b)
