@@ -1,12 +1,11 @@
 -- A file's answer comes exactly under its condition: which line is the first bad one, and a table of all answers. Assumes nothing.
-use mathlib.Core.Path.{_≡_, refl, ap, sym, _∙_}
-use mathlib.Core.Bool.{Bool, true, false, cond, not}
+use mathlib.Core.Path.{_≡_, refl, sym, _∙_}
+use mathlib.Core.Bool.{Bool, true, false, cond}
 use mathlib.Core.List.{List, [], _∷_, _++_, append-nil}
 use mathlib.Core.Logic.{_↔_}
 use Prim.Native.Nat.{ℕ, zero, suc, _≤_, _<_}
 use native.Mathlib.Decide.{decLt}
 use native.Mathlib.Omega.{arith}
-use lib.Dec.{ltb}
 use lib.ListN.{length, getD, take}
 use lib.Seq.{append-snoc}
 use borrow.Author.Tests.{lt-ltb, le-ltb}
@@ -16,7 +15,7 @@ use Rattle.pay.specs.Member.{memberIsSound, MemberWithin}
 use Rattle.pay.proofs.Within.{line-of, of-line}
 use Rattle.ramp.specs.Ramping.{isRamping}
 use Rattle.hours.specs.declared.HourLine.{HourLine}
-use Rattle.hours.specs.declared.HoursFault.the-variants.{OfMember, AtLine}
+use Rattle.hours.specs.declared.HoursFault.the-variants.{AtLine}
 use Rattle.hours.specs.declared.Hours.{Hours}
 use Rattle.hours.specs.Hours.{hourLines, hourLineIsSound, firstBadLine, hoursRefused, hoursPaid, hoursOfLines, readHours}
 use Rattle.hours.specs.Outcomes.{LineWithin, LineWithinAt, LinesWithin, MayRead, HoursOutcome, bad-member, other-kind, bad-line, paid}
@@ -41,28 +40,26 @@ module _ (hours : ℕ) where
   before-bad : (before ls : List HourLine) (k : ℕ) → k < firstBadLine hours before ls → LineWithin hours (before ++ take k ls) (getD ls k blankHourLine)
   unfolding firstBadLine
   before-bad before [] k h = absurd (omega (arith, h))
-  before-bad before (l ∷ ls) k h = go (hourLineIsSound hours before l) refl k h (before-bad (before ++ l ∷ []) ls)
+  before-bad before (l ∷ ls) k h = go (firstBadLine hours (before ++ l ∷ []) ls) (hourLineIsSound hours before l) refl k h (before-bad (before ++ l ∷ []) ls)
     where
-      go : (t : Bool) → hourLineIsSound hours before l ≡ t → (k : ℕ) → k < cond t (suc (firstBadLine hours (before ++ l ∷ []) ls)) 0
-          → ((k : ℕ) → k < firstBadLine hours (before ++ l ∷ []) ls → LineWithin hours ((before ++ l ∷ []) ++ take k ls) (getD ls k blankHourLine))
+      go : (n : ℕ) (t : Bool) → hourLineIsSound hours before l ≡ t → (k : ℕ) → k < cond t (suc n) 0
+          → ((k : ℕ) → k < n → LineWithin hours ((before ++ l ∷ []) ++ take k ls) (getD ls k blankHourLine))
           → LineWithin hours (before ++ take k (l ∷ ls)) (getD (l ∷ ls) k blankHourLine)
-      go false e k h rec = absurd (omega (arith, h))
-      go true e zero h rec = rw (append-nil before) (line-within hours before l e)
-      go true e (suc k) h rec = rw (← (append-snoc before l (take k ls))) (rec k (omega (arith, h)))
+      go n false e k h rec = absurd (omega (arith, h))
+      go n true e zero h rec = rw (append-nil before) (line-within hours before l e)
+      go n true e (suc k) h rec = rw (← (append-snoc before l (take k ls))) (rec k (omega (arith, h)))
 
   -- and it is not
-  at-bad : (before ls : List HourLine) → firstBadLine hours before ls < length ls
-      → LineWithin hours (before ++ take (firstBadLine hours before ls) ls) (getD ls (firstBadLine hours before ls) blankHourLine) → ⊥
+  at-bad : (before ls : List HourLine) → let n = firstBadLine hours before ls in n < length ls → LineWithin hours (before ++ take n ls) (getD ls n blankHourLine) → ⊥
   unfolding firstBadLine
   at-bad before [] h = absurd (omega (arith, h))
-  at-bad before (l ∷ ls) h = go (hourLineIsSound hours before l) refl h (at-bad (before ++ l ∷ []) ls)
+  at-bad before (l ∷ ls) h = go (firstBadLine hours (before ++ l ∷ []) ls) (hourLineIsSound hours before l) refl h (at-bad (before ++ l ∷ []) ls)
     where
-      go : (t : Bool) → hourLineIsSound hours before l ≡ t → cond t (suc (firstBadLine hours (before ++ l ∷ []) ls)) 0 < suc (length ls)
-          → (firstBadLine hours (before ++ l ∷ []) ls < length ls
-          → LineWithin hours ((before ++ l ∷ []) ++ take (firstBadLine hours (before ++ l ∷ []) ls) ls) (getD ls (firstBadLine hours (before ++ l ∷ []) ls) blankHourLine) → ⊥)
-          → LineWithin hours (before ++ take (cond t (suc (firstBadLine hours (before ++ l ∷ []) ls)) 0) (l ∷ ls)) (getD (l ∷ ls) (cond t (suc (firstBadLine hours (before ++ l ∷ []) ls)) 0) blankHourLine) → ⊥
-      go false e h rec = rw (append-nil before) (refuted (hourLineIsSound hours before l) (within-line hours before l) e)
-      go true e h rec = rw (← (append-snoc before l (take (firstBadLine hours (before ++ l ∷ []) ls) ls))) (rec (omega (arith, h)))
+      go : (n : ℕ) (t : Bool) → hourLineIsSound hours before l ≡ t → cond t (suc n) 0 < suc (length ls)
+          → (n < length ls → LineWithin hours ((before ++ l ∷ []) ++ take n ls) (getD ls n blankHourLine) → ⊥)
+          → LineWithin hours (before ++ take (cond t (suc n) 0) (l ∷ ls)) (getD (l ∷ ls) (cond t (suc n) 0) blankHourLine) → ⊥
+      go n false e h rec = rw (append-nil before) (refuted (hourLineIsSound hours before l) (within-line hours before l) e)
+      go n true e h rec = rw (← (append-snoc before l (take n ls))) (rec (omega (arith, h)))
 
   module _ (ls : List HourLine) where
     -- lines within the limits stand before it, and one that is not does not

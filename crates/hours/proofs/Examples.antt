@@ -1,6 +1,6 @@
 -- Files and what is read of them: three lines over two hours, and one that is refused. They show that the definitions are about something. Assumes nothing.
 use mathlib.Core.Path.{_≡_, refl}
-use mathlib.Core.List.{List, [], _∷_, _++_, map}
+use mathlib.Core.List.{List, [], _∷_, _++_}
 use Prim.Native.Nat.{ℕ}
 use lib.ListN.{replicate, set}
 use Rattle.units.specs.declared.Grains.{Grains}
@@ -12,7 +12,8 @@ use Rattle.pay.specs.Member.{memberIsSound}
 use Rattle.ramp.specs.Ramping.{isRamping, actionIsSound, firstStandard, apart, isRightWay, moveOf, errorOf, k1, k2, k3, index, rightWay, moves, distance, meanIndex, hourWorth, hourGrains}
 use Rattle.ramp.specs.Fractions.{fraction, plus, less, times, sum, mean, cut}
 use Rattle.hours.specs.declared.HoursFault.the-variants.{NoFault, AtLine}
-use Rattle.hours.specs.Hours.{mostHours, asHourLine, hourLines, ofHour, lastHour, hourLineIsSound, firstBadLine, paysFrom, actionsFrom, hoursWith, grainsSum, hoursRefused, hoursPaid, hoursOfLines, readHours}
+use Rattle.hours.specs.Hours.{mostHours, asHourLine, hourLines, ofHour, lastHour, hourLineIsSound, firstBadLine, paysFrom, actionsFrom, hoursWith}
+use Rattle.hours.specs.Hours.{grainsSum, hoursRefused, hoursPaid, hoursOfLines, readHours}
 
 -- member 7, coal of 300,000 kW
 pub coal : Member
@@ -42,10 +43,13 @@ pub two-hours : readHours coal 744 (first ++ 10 ∷ second ++ 10 ∷ third)
       grains = set (set (replicate mostHours (grains 0)) 3 (grains 984600000)) 5 (grains 1778103211);
       actions = set (set (replicate mostHours 0) 3 1) 5 2;
     }
-unfolding coal first second third readHours hoursOfLines hoursPaid hourLines asHourLine ofHour lastHour hourLineIsSound firstBadLine paysFrom actionsFrom hoursWith grainsSum grainsPlus memberIsSound isRamping actionIsSound firstStandard rowOf numbersOf numbersIn apart isRightWay moveOf errorOf k1 k2 k3 index rightWay moves distance meanIndex hourWorth hourGrains fraction plus less times sum mean cut
+unfolding coal first second third readHours hoursOfLines hoursPaid hourLines asHourLine ofHour lastHour hourLineIsSound firstBadLine paysFrom actionsFrom hoursWith
+    grainsSum grainsPlus memberIsSound isRamping actionIsSound firstStandard rowOf numbersOf numbersIn apart isRightWay moveOf errorOf k1 k2 k3 index rightWay moves
+    distance meanIndex hourWorth hourGrains fraction plus less times sum mean cut
 two-hours = refl
 
 -- Hours that do not rise: line 1, behind line 0.
 pub not-rising : readHours coal 744 (second ++ 10 ∷ first ++ 10 ∷ []) ≡ hoursRefused (AtLine 1)
-unfolding coal first second third readHours hoursOfLines hoursPaid hourLines asHourLine ofHour lastHour hourLineIsSound firstBadLine memberIsSound isRamping actionIsSound firstStandard rowOf numbersOf numbersIn
+unfolding coal first second readHours hoursOfLines hourLines asHourLine ofHour lastHour hourLineIsSound firstBadLine memberIsSound isRamping actionIsSound firstStandard
+    rowOf numbersOf numbersIn
 not-rising = refl

@@ -1,6 +1,6 @@
 -- What the actions of an hour pay, one after another. Assumes nothing.
-use mathlib.Core.Path.{_≡_, ap, sym, _∙_, subst}
-use mathlib.Core.Bool.{true, false}
+use mathlib.Core.Path.{_≡_, ap, _∙_}
+use mathlib.Core.Bool.{false}
 use mathlib.Core.List.{List, [], _∷_, _++_}
 use Prim.Native.Nat.{ℕ, suc, _+_, _≤_, _<_}
 use native.Mathlib.Numerals.{add-one}
@@ -9,7 +9,7 @@ use lib.ListN.{length, take, drop, getD}
 use lib.Seq.{take-suc, split-at, take-take, length-take-le, getD-take}
 use Rattle.ramp.specs.declared.Action.{Action}
 use Rattle.ramp.specs.declared.so_far.HourSoFar.{HourSoFar}
-use Rattle.ramp.specs.Ramping.{hourGrains, firstBadAction, noAction}
+use Rattle.ramp.specs.Ramping.{hourGrains, firstBadAction}
 use Rattle.ramp.specs.Inner.{takesAction, SoFar}
 use Rattle.ramp.proofs.Answers.{stops}
 use Rattle.hours.specs.Inner.{GoodHour}

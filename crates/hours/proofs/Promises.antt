@@ -1,8 +1,8 @@
 -- What reading a ramping file promises: the lowest bad line is told, otherwise every hour; however the bytes come in; and the sum is the hours' sum. Assumes nothing.
 use mathlib.Core.Path.{_≡_, refl, ap, sym, _∙_}
-use mathlib.Core.Bool.{Bool, true, false, cond, not}
+use mathlib.Core.Bool.{Bool, true}
 use mathlib.Core.List.{List, [], _∷_, _++_, map}
-use Prim.Native.Nat.{ℕ, zero, suc, _+_, _*_, _≤_, _<_}
+use Prim.Native.Nat.{ℕ, zero, suc, _≤_, _<_}
 use native.Mathlib.Omega.{arith}
 use lib.ListN.{length, replicate}
 use Rattle.le.proofs.Tests.{holds-or-fails}
@@ -15,7 +15,7 @@ use Rattle.ramp.proofs.Bounds.{mostHour, grains-most}
 use Rattle.ramp.proofs.Top.{EachHourMost, hoursTotal, hours-below-top}
 use Rattle.hours.specs.declared.HourLine.{HourLine}
 use Rattle.hours.specs.declared.HoursFault.{HoursFault}
-use Rattle.hours.specs.declared.HoursFault.the-variants.{NoFault, OfMember, AtLine}
+use Rattle.hours.specs.declared.HoursFault.the-variants.{OfMember, AtLine}
 use Rattle.hours.specs.declared.Hours.{Hours}
 use Rattle.hours.specs.declared.Reader.{Reader}
 use Rattle.hours.specs.Hours.{mostHours, ofHour, hourLines, paysFrom, grainsSum, isFault, hoursRefused, hoursPaid, readHours}

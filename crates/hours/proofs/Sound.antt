@@ -1,11 +1,11 @@
 -- Lines that were all sound, and one more: what the sheet keeps of them judges it as the lines do. Assumes nothing.
-use mathlib.Core.Path.{_≡_, refl, ap, sym, _∙_}
-use mathlib.Core.Bool.{Bool, true, false, cond, not, _&&_, true≢false}
+use mathlib.Core.Path.{_≡_, refl, ap, _∙_}
+use mathlib.Core.Bool.{Bool, true, false, cond}
 use mathlib.Core.List.{List, [], _∷_, _++_, append-nil}
-use Prim.Native.Nat.{ℕ, zero, suc, _+_, _*_, _≤_, _<_}
+use Prim.Native.Nat.{ℕ, suc, _+_, _*_, _≤_, _<_}
 use native.Mathlib.Omega.{arith}
 use lib.Dec.{eqb, ltb, leb}
-use lib.ListN.{length, getD, take, length-append}
+use lib.ListN.{length, length-append}
 use lib.Seq.{append-snoc}
 use borrow.Author.Tests.{eqb-true, eqb-false, ltb-true, lt-ltb, leb-true, le-leb}
 use Rattle.le.proofs.Tests.{each, all, fails, holds-or-fails}
@@ -44,26 +44,26 @@ module _ (hours : ℕ) (ls : List HourLine) (l : HourLine) where
       all (ltb (l .hour) hours) (lineTests hours ls l)
       (lt-ltb _ _ (w .hour), (le-leb _ _ (w .rises), (lt-ltb _ _ (w .room), (of-within _ _ (w .action), tt))))
 
-below : (n most top : ℕ) → most ≤ top → n ≤ most → leb n top ≡ true
-below n most top h k = le-leb n top (omega (arith, h, k))
+word : (n most : ℕ) → most ≤ mostWord → n ≤ most → leb n mostWord ≡ true
+word n most h k = le-leb n mostWord (omega (arith, h, k))
 
 sound-fits : (hours : ℕ) (ls : List HourLine) (l : HourLine) → hours ≤ mostShort → hourLineIsSound hours ls l ≡ true → hourLineFits l ≡ true
 unfolding hourLineFits
 sound-fits hours ls l few h =
     let w = line-within hours ls l h in
-    let a = w .action in
+    let a = l .action in
+    let i = w .action in
     let power : mostPower ≤ mostWord = omega arith in
+    let delay : mostDelay ≤ mostWord = omega arith in
     let rate : mostRampRate ≤ mostWord = omega arith in
-    all (leb (l .hour) mostShort) (wordTests (l .action)) (
-      below (l .hour) hours mostShort few (omega (arith, w .hour)),
-      (
-        below (l .action .start .0) mostPower mostWord power (a .powers .0),
-        (
-          below (l .action .end .0) mostPower mostWord power (a .powers .1),
-          (below (l .action .command .0) mostPower mostWord power (a .powers .2), (below (l .action .delay) mostDelay mostWord (omega arith) (a .delay), (below (l .action .real) mostRampRate mostWord rate (a .rates .0), (below (l .action .standard) mostRampRate mostWord rate (a .rates .1), tt)))),
-        ),
-      ),
-    )
+    let hour = le-leb (l .hour) mostShort (omega (arith, few, w .hour)) in
+    let start = word (a .start .0) mostPower power (i .powers .0) in
+    let end = word (a .end .0) mostPower power (i .powers .1) in
+    let command = word (a .command .0) mostPower power (i .powers .2) in
+    let late = word (a .delay) mostDelay delay (i .delay) in
+    let real = word (a .real) mostRampRate rate (i .rates .0) in
+    let standard = word (a .standard) mostRampRate rate (i .rates .1) in
+    all (leb (l .hour) mostShort) (wordTests a) (hour, (start, (end, (command, (late, (real, (standard, tt)))))))
 
 blank-bad : (hours : ℕ) (ls : List HourLine) → hourLineIsSound hours ls blankHourLine ≡ true → ⊥
 unfolding blankHourLine noAction
@@ -116,7 +116,8 @@ pub record AllSound (hours : ℕ) (ls : List HourLine) : Type 0 where
   pub few : length ls ≤ mostActions * lastHour ls + length (ofHour (lastHour ls) ls)
 
 -- one more line that is sound
-pub sound-more : (hours : ℕ) (ls : List HourLine) (l : HourLine) → firstBadLine hours [] ls ≡ length ls → hourLineIsSound hours ls l ≡ true → firstBadLine hours [] (ls ++ l ∷ []) ≡ length (ls ++ l ∷ [])
+pub sound-more : (hours : ℕ) (ls : List HourLine) (l : HourLine) → firstBadLine hours [] ls ≡ length ls → hourLineIsSound hours ls l ≡ true
+    → firstBadLine hours [] (ls ++ l ∷ []) ≡ length (ls ++ l ∷ [])
 unfolding firstBadLine
 sound-more hours ls l h t = let one : firstBadLine hours ls (l ∷ []) ≡ 1 = rw t in omega (arith, bad-behind hours [] ls (l ∷ []) h, one, length-append ls (l ∷ []))
 

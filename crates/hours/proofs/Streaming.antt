@@ -2,27 +2,26 @@
 use mathlib.Core.Path.{_≡_, refl, ap, sym, _∙_, subst}
 use mathlib.Core.Bool.{Bool, true, false, cond, _||_}
 use mathlib.Core.List.{List, [], _∷_, _++_, map, append-assoc, append-nil}
-use Prim.Native.Nat.{ℕ, _+_, _≤_, _<_}
+use Prim.Native.Nat.{ℕ, _+_, _<_}
 use native.Mathlib.Numerals.{add-one}
 use lib.Dec.{eqb}
 use lib.ListN.{length, take, getD}
-use lib.Seq.{take-suc, take-all}
-use borrow.Author.Tests.{eq-eqb, ne-eqb}
+use lib.Seq.{take-suc}
+use borrow.Author.Tests.{ne-eqb}
 use Rattle.row.specs.Numbers.{lineFeed, linesOf}
 use Rattle.row.proofs.Left.{left-feed, left-byte}
 use Rattle.row.proofs.Texts.{or-true}
 use Rattle.pay.specs.declared.Member.{Member}
 use Rattle.tables.specs.declared.cells.Cells.{Cells}
 use Rattle.tables.specs.Table.{rowOf}
-use Rattle.tables.specs.Meaning.{cellsIsBegun, cellNumbers, rowsLeft, CellsFresh, CellsFollow}
+use Rattle.tables.specs.Meaning.{cellsIsBegun, cellNumbers, CellsFresh, CellsFollow}
 use Rattle.tables.proofs.Texts.{fresh-rows}
 use Rattle.hours.specs.declared.HourLine.{HourLine}
 use Rattle.hours.specs.declared.Hours.{Hours}
 use Rattle.hours.specs.declared.sheet.Sheet.{Sheet}
 use Rattle.hours.specs.declared.Reader.{Reader}
-use Rattle.hours.specs.declared.HoursFault.the-variants.{NoFault}
 use Rattle.hours.specs.Hours.{hourColumns, asHourLine, hourLines, isFault, hoursRefused, hoursPaid, readHours}
-use Rattle.hours.specs.Inner.{hourNumbers, endedLine, linesLeft, linesSay, Taken, Refused, Judged}
+use Rattle.hours.specs.Inner.{endedLine, linesLeft, linesSay, Judged}
 use Rattle.hours.specs.Stream.{hasFeed, endedPart, HasRead, Settled}
 use Rattle.hours.proofs.Taking.{refused-answer, answers}
 

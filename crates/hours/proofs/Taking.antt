@@ -1,8 +1,8 @@
 -- The sheet before any line, after a line that it takes, after one that it does not, and its answer. Assumes nothing.
 use mathlib.Core.Path.{_≡_, refl, ap, sym, _∙_, subst}
-use mathlib.Core.Bool.{Bool, true, false, cond, not, _&&_}
+use mathlib.Core.Bool.{Bool, true, false, cond, _&&_}
 use mathlib.Core.List.{List, [], _∷_, _++_, append-assoc, append-nil}
-use Prim.Native.Nat.{ℕ, zero, suc, _+_, _*_, _%_, _^_, _≤_, _<_}
+use Prim.Native.Nat.{ℕ, _+_, _%_, _^_, _≤_, _<_}
 use native.Mathlib.Nat.{mod-eq-of-lt, zero-add}
 use native.Mathlib.Numerals.{add-one}
 use native.Mathlib.Omega.{arith}
@@ -20,13 +20,12 @@ use Rattle.ramp.specs.Ramping.{mostActions, isRamping, actionIsSound, firstStan
 use Rattle.hours.specs.declared.HourLine.{HourLine}
 use Rattle.hours.specs.declared.HoursFault.{HoursFault}
 use Rattle.hours.specs.declared.HoursFault.the-variants.{NoFault, OfMember, AtLine}
-use Rattle.hours.specs.declared.Hours.{Hours}
 use Rattle.hours.specs.declared.sheet.Sheet.{Sheet}
-use Rattle.hours.specs.Hours.{mostHours, ofHour, lastHour, hourLineIsSound, firstBadLine, paysFrom, actionsFrom, hoursWith, grainsSum, hoursRefused, hoursPaid, hoursOfLines, isFault}
+use Rattle.hours.specs.Hours.{mostHours, ofHour, lastHour, hourLineIsSound, firstBadLine, paysFrom, hoursWith, grainsSum, hoursRefused, hoursPaid, hoursOfLines, isFault}
 use Rattle.hours.specs.Outcomes.{LineWithin}
 use Rattle.hours.specs.Inner.{mostShort, fairHourLine, linesSay, heldOf, standardFor, sheetTakes, BlankSheet, GoodHour, Taken, Refused, Judged}
-use Rattle.hours.proofs.Lines.{of-its-hour, last-more, bad-behind, tableFrom, paidFor, pays-table, actions-table, table-none, table-more}
-use Rattle.hours.proofs.Sound.{line-within, good-most, fair-same, fair-bad, AllSound, sound-more, all-sound}
+use Rattle.hours.proofs.Lines.{of-its-hour, last-more, bad-behind, paidFor, pays-table, actions-table, table-none, table-more}
+use Rattle.hours.proofs.Sound.{line-within, good-most, fair-same, fair-bad, sound-more, all-sound}
 
 -- What lines say of a member that may ramp
 
@@ -152,7 +151,10 @@ refused-more m hours ls l fault r = record { told = r .told; stays = λ rest. ap
 -- there is room for its action
 pub takes-room : (s : Sheet) (l : HourLine) → sheetTakes s l ≡ true → heldOf s (l .hour) < mostActions
 unfolding sheetTakes
-takes-room s l h = ltb-true _ _ (each (ltb (l .hour) (s .hours)) (leb (s .last) (l .hour) ∷ ltb (heldOf s (l .hour)) mostActions ∷ actionIsSound (standardFor s (heldOf s (l .hour)) (l .action)) (l .action) ∷ []) h .1 .1 .0)
+takes-room s l h =
+    let n = heldOf s (l .hour) in
+    let tests = leb (s .last) (l .hour) ∷ ltb n mostActions ∷ actionIsSound (standardFor s n (l .action)) (l .action) ∷ [] in
+    ltb-true n mostActions (each (ltb (l .hour) (s .hours)) tests h .1 .1 .0)
 
 module _ (m : Member) (hours : ℕ) (ls : List HourLine) (s : Sheet) (k : Taken m hours ls s) (l : HourLine) (t : sheetTakes s l ≡ true) (n : ℕ) (is : n ≡ heldOf s (l .hour)) where
   abbrev is-sound : hourLineIsSound hours ls l ≡ true

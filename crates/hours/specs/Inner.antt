@@ -3,7 +3,7 @@
 use mathlib.Core.Path.{_≡_}
 use mathlib.Core.Bool.{Bool, true, false, cond, not, _&&_}
 use mathlib.Core.List.{List, [], _∷_, _++_, map}
-use Prim.Native.Nat.{ℕ, zero, suc, _+_, _*_, _-_, _≤_, _<_}
+use Prim.Native.Nat.{ℕ, _-_, _≤_}
 use lib.Dec.{eqb, ltb, leb}
 use lib.ListN.{length, getD, take, replicate}
 use Rattle.tables.specs.declared.cells.Cells.{Cells}
@@ -14,7 +14,7 @@ use Rattle.ramp.specs.declared.Action.{Action}
 use Rattle.ramp.specs.Ramping.{mostActions, isRamping, actionIsSound, noAction, firstBadAction}
 use Rattle.hours.specs.declared.HourLine.{HourLine}
 use Rattle.hours.specs.declared.HoursFault.{HoursFault}
-use Rattle.hours.specs.declared.HoursFault.the-variants.{NoFault, OfMember, AtLine}
+use Rattle.hours.specs.declared.HoursFault.the-variants.{OfMember}
 use Rattle.hours.specs.declared.Hours.{Hours}
 use Rattle.hours.specs.declared.sheet.Sheet.{Sheet}
 use Rattle.hours.specs.Hours.{hourColumns, mostHours, asHourLine, ofHour, lastHour, firstBadLine, paysFrom, actionsFrom, hoursRefused, hoursOfLines, isFault}

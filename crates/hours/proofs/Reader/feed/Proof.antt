@@ -1,12 +1,10 @@
-use mathlib.Core.Path.{_≡_, refl, sym, ap, subst}
+use mathlib.Core.Path.{_≡_, sym, subst}
 use mathlib.Core.List.{List, _++_, append-nil}
 use mathlib.Core.Logic.{⊎-elim}
-use Prim.Native.Nat.{ℕ, _+_, _-_, _≤_, _<_}
+use Prim.Native.Nat.{ℕ, _-_, _≤_, _<_}
 use native.Mathlib.Omega.{arith}
 use lib.ListN.{length, take}
 use lib.Seq.{take-all}
-use Rattle.pay.specs.declared.Member.{Member}
-use Rattle.hours.specs.declared.Reader.{Reader}
 use Rattle.hours.specs.Stream.{HasRead}
 use Rattle.hours.proofs.Streaming.{ReadSoFar, feed-line, feed-byte}
 use Rattle.hours.proofs.Reader.feed.Statement.{statement}

@@ -1,10 +1,9 @@
-use mathlib.Core.Path.{_≡_, ap, sym, _∙_}
-use mathlib.Core.Bool.{true, false, _&&_}
+use mathlib.Core.Path.{_≡_, sym, _∙_}
 use mathlib.Core.List.{[], _∷_}
-use Prim.Native.Nat.{_+_, _-_, _≤_, _<_}
+use Prim.Native.Nat.{_-_, _≤_}
 use native.Mathlib.Omega.{arith}
 use lib.Dec.{leb}
-use lib.ListN.{length, take, getD}
+use lib.ListN.{length, take}
 use borrow.Author.Tests.{not-true, not-false, leb-true, le-leb}
 use Rattle.le.proofs.Tests.{each, all, holds-or-fails}
 use Rattle.pay.specs.Member.{mostRated}
@@ -43,7 +42,8 @@ returns : tie.Need-returns Inv-loop μ-loop
 returns c =
     let s = c .before .before .before .before .before .before in
     let l = c .before .before .before .before .loop in
-    λ rated good. absurd (pay-stop (s .args .t2) (l .i) (s .args .n) (omega arith) (omega (arith, s .pre, long s)) (l .h) (l .inv .1) (sym (c .before .takes .ensures) ∙ not-true _ (c .if1 .taken)) good)
+    let bad = sym (c .before .takes .ensures) ∙ not-true _ (c .if1 .taken) in
+    λ rated good. absurd (pay-stop (s .args .t2) (l .i) (s .args .n) (omega arith) (omega (arith, s .pre, long s)) (l .h) (l .inv .1) bad good)
 
 with-requires : tie.Need-with-requires Inv-loop μ-loop
 with-requires c κs = ((_, c .before .before .before .before .loop .inv .1), sym (c .before .takes .ensures) ∙ not-false _ (c .if1 .left))

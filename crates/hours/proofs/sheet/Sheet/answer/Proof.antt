@@ -21,7 +21,9 @@ grains-sum-requires c κs = search needs
 returns-2 : tie.Need-returns-2
 returns-2 c =
     let s = c .before .before .before .before .before .args .self in
-    λ m hours ls j. answered m hours ls s (j .yes (c .before .before .before .before .if1 .left)) (c .before .hours-with .result) (c .grains-sum .result .0) (c .before .hours-with .ensures) (c .grains-sum .ensures)
+    let n = c .before .hours-with in
+    let g = c .grains-sum in
+    λ m hours ls j. answered m hours ls s (j .yes (c .before .before .before .before .if1 .left)) (n .result) (g .result .0) (n .ensures) (g .ensures)
 
 pub answer-spec : {M : Type 1} → statement M
 answer-spec =

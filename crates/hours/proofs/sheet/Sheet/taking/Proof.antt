@@ -1,7 +1,6 @@
-use mathlib.Core.Path.{_≡_, refl, sym, subst}
+use mathlib.Core.Path.{refl, sym, subst}
 use Prim.Native.Nat.{ℕ, _<_}
 use native.Mathlib.Omega.{arith}
-use lib.ListN.{length}
 use Rattle.ramp.specs.Ramping.{mostActions}
 use Rattle.hours.proofs.Taking.{takes-room, taken-more}
 use borrow.Author.Needs.{needs}
