@@ -2,7 +2,7 @@
 -- whole text; how it is read is not spoken of. Assumes nothing.
 use mathlib.Core.Bool.{Bool, true, false, cond, not, _&&_}
 use mathlib.Core.List.{List, [], _∷_, _++_, map}
-use Prim.Native.Nat.{ℕ, zero, suc}
+use Prim.Native.Nat.{ℕ, zero, suc, min}
 use lib.Dec.{eqb, ltb, leb}
 use lib.ListN.{length, getD, replicate}
 use Rattle.units.specs.declared.Grains.{Grains}
@@ -27,6 +27,10 @@ hourColumns = 7
 -- the hours of 31 days: no month has more
 abbrev pub mostHours : ℕ
 mostHours = 744
+
+-- a month of so many hours, of which it has at most those
+unfoldable pub monthHours : ℕ → ℕ
+monthHours hours = min hours mostHours
 
 -- a line by its numbers: hour, power at the start, at the end, commanded power, delay, real rate, standard rate
 unfoldable pub asHourLine : List ℕ → HourLine

@@ -1,4 +1,5 @@
 pub mod Hours
+pub mod Name
 pub mod Stream
 pub mod Outcomes
 pub mod Inner

@@ -1,5 +1,6 @@
 // A ramping file read from text, a byte at a time, in fixed memory, whatever the text's length: what each hour of the month pays.
 mod line;
+pub mod name;
 mod sheet;
 mod sums;
 
@@ -13,7 +14,7 @@ ghost use mathlib.Core.Path.{_≡_};
 ghost use mathlib.Core.List.{List, [], _++_};
 ghost use Prim.Native.Nat.{ℕ};
 ghost use Rattle.pay.specs.declared.Member.{Member};
-ghost use Rattle.hours.specs.Hours.{isFault, readHours};
+ghost use Rattle.hours.specs.Hours.{monthHours, isFault, readHours};
 ghost use Rattle.hours.specs.Stream.{HasRead, endedPart};
 
 // The hours of 31 days.
@@ -41,6 +42,14 @@ pub struct Hours {
     pub actions: [u8; MOST_HOURS],
 }
 
+// A month of so many hours: no month has more than 744.
+fn month_hours(hours: u16) -> u16
+    ensures { λ r. ⌜ r ≡ monthHours hours ⌝ }
+{
+    let most = MOST_HOURS as u16;
+    if hours < most { hours } else { most }
+}
+
 // All that is kept of the file so far: the line that is being read, and what the lines before it come to.
 pub struct Reader {
     cells: Cells,
@@ -50,10 +59,11 @@ pub struct Reader {
 impl Reader {
     // The reader of a member's file in a month of so many hours, before any byte.
     pub fn start(member: Member, hours: u16) -> Reader
-        ensures { λ r. ⌜ HasRead member hours r [] ⌝ }
+        ensures { λ r. ⌜ HasRead member (monthHours hours) r [] ⌝ }
     {
         let cells = Cells::start();
-        let sheet = Sheet::start(member, hours);
+        let most = month_hours(hours);
+        let sheet = Sheet::start(member, most);
         Reader { cells, sheet }
     }
 
@@ -101,7 +111,7 @@ impl Reader {
 
 // What a whole file says of a member in a month of so many hours.
 pub fn read_hours(member: Member, hours: u16, text: &[u8]) -> Hours
-    ensures { λ r. ⌜ r ≡ readHours member hours (now (text .entry)) ⌝ }
+    ensures { λ r. ⌜ r ≡ readHours member (monthHours hours) (now (text .entry)) ⌝ }
 {
     let first = Reader::start(member, hours);
     let last = first.feed(text);

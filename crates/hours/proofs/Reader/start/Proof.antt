@@ -6,13 +6,18 @@ use Rattle.hours.proofs.Reader.start.Tie as tie
 start-requires : tie.Need-start-requires
 start-requires c κs = search needs
 
+month-hours-requires : tie.Need-month-hours-requires
+month-hours-requires c κs = search needs
+
 start-requires-2 : tie.Need-start-requires-2
 start-requires-2 c κs = search needs
 
 returns : tie.Need-returns
 returns c =
-    let a = c .before .before .args in
-    starts (a .member) (a .hours) (c .before .start .result) (c .start2 .result) (c .before .start .ensures) (c .start2 .ensures)
+    let a = c .before .before .before .args in
+    let most = c .before .month-hours .ensures in
+    starts (a .member) _ (c .before .before .start .result) (c .start2 .result) (c .before .before .start .ensures)
+    (rw most at (c .start2 .ensures))
 
 pub start-spec : {M : Type 1} → statement M
-start-spec = tie.close (tie.spec start-requires start-requires-2 returns)
+start-spec = tie.close (tie.spec start-requires month-hours-requires start-requires-2 returns)
