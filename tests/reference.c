@@ -359,6 +359,12 @@ uint32_t ref_join_all(const uint8_t *const books[], size_t n, uint8_t *out, size
 
 /* ---- pay, in grains ---- */
 
+/* 10: a register line within its limits */
+static int line_sound(uint32_t participant, uint32_t kind, uint32_t rated)
+{
+    return participant >= 1 && participant <= 64 && kind >= 1 && kind <= 8 && rated >= 1 && rated <= 4000000;
+}
+
 /* 12: is a sound live record open to this kind? */
 static int open_to(const uint8_t *r, uint32_t kind, uint32_t rated)
 {
@@ -451,7 +457,7 @@ uint32_t ref_score(uint16_t participant, uint8_t kind, uint32_t rated, const uin
                    const uint32_t *series, size_t series_len, uint64_t *place, uint64_t *grains, uint64_t *fen)
 {
     *place = *grains = *fen = 0;
-    if (participant < 1 || participant > 64 || kind < 1 || kind > 8 || rated < 1 || rated > 4000000)
+    if (!line_sound(participant, kind, rated))
         return 10;
     uint32_t no = ref_check(book, book_len, place);
     if (no != 0)
@@ -508,7 +514,7 @@ uint32_t ref_ramp(uint16_t participant, uint8_t kind, uint32_t rated, const uint
     *place = *grains = 0;
     if (actions_len % ACTION != 0)
         return 1;
-    if (participant < 1 || participant > 64 || kind < 1 || kind > 8 || rated < 1 || rated > 4000000)
+    if (!line_sound(participant, kind, rated))
         return 10;
     if (kind != COAL && kind != GAS && kind != HYDRO)
         return 12;

@@ -1,7 +1,8 @@
-// Runs the rules on their edges: three tables of cases, of the book's rules, of the scoring sums, and of the texts of sharing lines. They come
-// from standard input, a case a line (the file `stdin` tells how to read them); each case states what the paper says. A case that came out
+// Runs the rules on their edges: four tables of cases, of the book's rules, of the scoring sums, of the texts of sharing lines, and of hours of
+// ramping. They come from standard input, a case a line (the file `stdin` tells how to read them); each case states what the paper says. A case that came out
 // otherwise is told by its line, and each table ends with how many cases it has and how many are wrong.
 mod books;
+mod hours;
 mod numbers;
 mod scores;
 mod spelling;
@@ -40,6 +41,7 @@ fn with(tally: Tally, line: &[u8]) -> Tally {
         tally::BOOKS => books::with(tally, line),
         tally::SCORES => scores::with(tally, line),
         tally::TEXTS => texts::with(tally, line),
+        tally::HOURS => hours::with(tally, line),
         _ => stray(tally, line),
     }
 }

@@ -7,6 +7,8 @@ pub const SCORES: u64 = 2;
 
 pub const TEXTS: u64 = 3;
 
+pub const HOURS: u64 = 4;
+
 // Which table is being read, how many of its cases were run, how many came out otherwise than their line says; and which line of the input is
 // next, from 1 on.
 pub struct Tally {
@@ -37,6 +39,7 @@ fn tell_table(table: u64) {
         BOOKS => say::text(b"the book's rules: "),
         SCORES => say::text(b"scoring sums: "),
         TEXTS => say::text(b"texts of sharing lines: "),
+        HOURS => say::text(b"hours of ramping: "),
         _ => say::text(b"no table: "),
     }
 }
