@@ -8,7 +8,7 @@ use call::layout::put_call;
 use le::put_u8;
 use le::put_u16;
 use le::put_u32;
-use units::month::minutes_of;
+use units::calendar::minutes_of;
 ghost use mathlib.Core.Path.{_≡_};
 ghost use mathlib.Core.List.{[], _∷_};
 ghost use Rattle.le.specs.Le.{Stores};

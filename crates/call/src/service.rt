@@ -6,7 +6,7 @@ use crate::Call;
 use crate::LIVE;
 use crate::MOST_PARTICIPANT;
 use crate::WITHDRAWN;
-use units::month::MINUTES_PER_QUARTER;
+use units::calendar::MINUTES_PER_QUARTER;
 
 // The services, by their numbers in the paper.
 pub const DEEP_PEAK: u8 = 1;

@@ -253,9 +253,9 @@ fn keys(numbers: Numbers) -> bool {
 fn month(numbers: Numbers) -> bool {
     let year = numbers.half(1);
     let m = numbers.byte(2);
-    let days = units::month::days_of(year, m);
-    let minutes = units::month::minutes_of(year, m);
-    let quarters = units::month::quarters_of(year, m);
+    let days = units::calendar::days_of(year, m);
+    let minutes = units::calendar::minutes_of(year, m);
+    let quarters = units::calendar::quarters_of(year, m);
     let told = numbers.word(3);
     (days == told) & (minutes == told % 32 * 1440) & (quarters == told % 32 * 96)
 }

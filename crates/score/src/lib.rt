@@ -7,17 +7,17 @@ ghost use Rattle.score.specs.Scoring.{soundEarned, grainsEarned, scoring
 use crate::answer::Earned;
 use crate::answer::Score;
 use crate::answer::in_fen;
-use crate::month::records_earned;
+use crate::records::records_earned;
 use crate::series::series_fault;
 use book::check;
 use book::count_at;
 use book::header_at;
 use pay::Member;
 use pay::open::Month;
-use units::month::quarters_of;
+use units::calendar::quarters_of;
 
 pub mod answer;
-mod month;
+mod records;
 mod refusal;
 mod series;
 

@@ -8,8 +8,8 @@ use Rattle.score.specs.Scoring.{isOwnLive}
 use Rattle.score.proofs.Turns.{state-low}
 use Rattle.score.proofs.Energy.{idle-turned}
 use borrow.Author.Needs.{needs}
-use Rattle.score.proofs.month.turn_of.Statement.{statement}
-use Rattle.score.proofs.month.turn_of.Tie as tie
+use Rattle.score.proofs.records.turn_of.Statement.{statement}
+use Rattle.score.proofs.records.turn_of.Tie as tie
 
 -- the tests are ones of record i
 abbrev at : tie.Start → Call

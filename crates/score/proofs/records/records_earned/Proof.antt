@@ -14,8 +14,8 @@ use Rattle.pay.proofs.Sums.{total0-step, totalZ-step}
 use Rattle.pay.proofs.Signed.{mag-plus}
 use Rattle.score.specs.declared.answer.Earned.the-variants.{Accepted, Refused}
 use borrow.Author.Needs.{needs}
-use Rattle.score.proofs.month.records_earned.Statement.{statement}
-use Rattle.score.proofs.month.records_earned.Tie as tie
+use Rattle.score.proofs.records.records_earned.Statement.{statement}
+use Rattle.score.proofs.records.records_earned.Tie as tie
 
 abbrev Inv-loop : tie.InvT-loop
 Inv-loop month member b count series first grains₀ wh₀ i₀ grains wh i =

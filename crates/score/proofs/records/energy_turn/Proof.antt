@@ -8,8 +8,8 @@ use Rattle.pay.specs.Event.{eventWh}
 use Rattle.pay.proofs.Signed.{back32}
 use Rattle.score.proofs.Energy.{energy-turned}
 use borrow.Author.Needs.{needs}
-use Rattle.score.proofs.month.energy_turn.Statement.{statement}
-use Rattle.score.proofs.month.energy_turn.Tie as tie
+use Rattle.score.proofs.records.energy_turn.Statement.{statement}
+use Rattle.score.proofs.records.energy_turn.Tie as tie
 
 -- what was moved is a number of 32 bits
 a-fits : (c : tie.After-struct-told) → mag (c .before .record-at .result .a) < 2 ^ 31

@@ -4,8 +4,8 @@ use Rattle.book.specs.Book.{recordAt}
 use Rattle.pay.specs.Live.{livePay}
 use Rattle.score.proofs.Energy.{refused-turned, paid-turned}
 use borrow.Author.Needs.{needs}
-use Rattle.score.proofs.month.live_turn.Statement.{statement}
-use Rattle.score.proofs.month.live_turn.Tie as tie
+use Rattle.score.proofs.records.live_turn.Statement.{statement}
+use Rattle.score.proofs.records.live_turn.Tie as tie
 
 record-at-requires : tie.Need-record-at-requires
 record-at-requires c κs = search needs

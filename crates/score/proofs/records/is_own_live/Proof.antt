@@ -1,7 +1,7 @@
 use mathlib.Core.Path.{refl}
 use Rattle.score.specs.Scoring.{isOwnLive}
-use Rattle.score.proofs.month.is_own_live.Statement.{statement}
-use Rattle.score.proofs.month.is_own_live.Tie as tie
+use Rattle.score.proofs.records.is_own_live.Statement.{statement}
+use Rattle.score.proofs.records.is_own_live.Tie as tie
 
 returns : tie.Need-returns
 unfolding isOwnLive
