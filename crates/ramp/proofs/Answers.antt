@@ -5,7 +5,7 @@ use mathlib.Core.List.{List, [], _∷_, _++_}
 use Prim.Native.Nat.{ℕ, zero, suc, _+_, _-_, _*_, _/_, _%_, _≤_, _<_, min}
 use native.Mathlib.Omega.{arith}
 use lib.Dec.{ltb}
-use lib.ListN.{length}
+use lib.ListN.{length, length-append}
 use borrow.Author.Tests.{eq-eqb, ne-eqb, lt-ltb, ltb-false}
 use Rattle.pay.specs.declared.Member.{Member}
 use Rattle.pay.specs.Member.{memberIsSound}
@@ -14,7 +14,7 @@ use Rattle.ramp.specs.declared.so_far.HourSoFar.{HourSoFar}
 use Rattle.ramp.specs.Ramping.{mostActions, isRamping, actionIsSound, firstStandard, firstUnsound, firstBadAction, hourGrains, hourRefused, hourPaid, ramping}
 use Rattle.ramp.specs.Bytes.{actionSize, actionAt, actionsFrom, actionsIn, rampingBytes}
 use Rattle.ramp.specs.Inner.{takesAction, SoFar}
-use Rattle.ramp.proofs.Sound.{unsound-behind, unsound-le, all-within, none-bad, bad-none}
+use Rattle.ramp.proofs.Sound.{unsound-behind, unsound-le, all-within, bad-none}
 use Rattle.ramp.proofs.Accepted.{hour-pays}
 use Rattle.ramp.proofs.Going.{so-far-within, takes-is}
 
@@ -52,6 +52,16 @@ module _ (m : Member) (actions : List Action) where
   pub bad-action-is : memberIsSound m ≡ true → isRamping (m .kind) ≡ true → firstBadAction actions < length actions → ramping m actions ≡ hourRefused 10 (firstBadAction actions)
   unfolding ramping
   bad-action-is e k l = rw (e, k, lt-ltb (firstBadAction actions) (length actions) l) refl
+
+-- of an hour as it goes: it stops at the action that is not taken, and pays where every action is
+module _ (m : Member) (actions : List Action) (h : HourSoFar) (s : SoFar actions h) (e : memberIsSound m ≡ true) (k : isRamping (m .kind) ≡ true) where
+  pub stopped-answer : (a : Action) → takesAction h a ≡ false → (more : List Action) → ramping m (actions ++ a ∷ more) ≡ hourRefused 10 (length actions)
+  stopped-answer a t more =
+      let p = stops actions a h s t more in
+      bad-action-is m (actions ++ a ∷ more) e k (omega (arith, p, length-append actions (a ∷ more))) ∙ ap (hourRefused 10) p
+
+  pub taken-answer : ramping m actions ≡ hourPaid (hourGrains (m .rated .0) actions)
+  taken-answer = hour-pays m actions (record { line = e; kind = k; few = s .most; within = all-within (firstStandard actions) actions (s .sound) })
 
 module _ (m : Member) (bytes : List ℕ) where
   pub odd-is : (length bytes % actionSize ≡ 0 → ⊥) → rampingBytes m bytes ≡ hourRefused 1 0
@@ -141,5 +151,4 @@ module _ (m : Member) (bytes : List ℕ) (whole : length bytes % actionSize ≡ 
 
   pub through-is : count ≤ h .count → (grains : ℕ) → ((actions : List Action) → SoFar actions h → grains ≡ hourGrains (m .rated .0) actions) → hourPaid grains ≡ rampingBytes m bytes
   through-is l grains g =
-      let q = none-bad (actionsIn bytes) (omega (arith, first, long)) in
-      ap hourPaid (g (actionsIn bytes) (through l)) ∙ sym (whole-is m bytes whole ∙ hour-pays m (actionsIn bytes) (record { line = e; kind = k; few = q .0; within = q .1 }))
+      ap hourPaid (g (actionsIn bytes) (through l)) ∙ sym (whole-is m bytes whole ∙ taken-answer m (actionsIn bytes) h (through l) e k)

@@ -1,4 +1,5 @@
--- What inner contracts speak of, and no sentence of the request: an hour with everything cleared to one numerator and one denominator. Assumes nothing.
+-- What inner contracts speak of, and no sentence of the request: an hour with everything cleared to one numerator and one denominator, and an hour as
+-- it goes. Assumes nothing.
 use mathlib.Core.Path.{_≡_}
 use mathlib.Core.Bool.{Bool, cond, _&&_}
 use mathlib.Core.List.{List, [], _∷_}

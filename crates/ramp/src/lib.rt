@@ -62,8 +62,8 @@ fn hour_paid(grains: Grains) -> Hour
     }
 }
 
-// The actions before the first bad one.
-fn taken(s: &[u8], count: usize) -> HourSoFar
+// What the actions before the first bad one leave.
+fn hour_so_far(s: &[u8], count: usize) -> HourSoFar
     requires { ⌜ actionSize * count ≤ length (now s) ⌝ }
     ensures { λ r. ⌜ SoFar (actionsFrom (now (s .entry)) 0 (r .count)) r ⌝ }
     ensures { λ r. ⌜ r .count ≡ firstBadAction (actionsFrom (now (s .entry)) 0 count) ⌝ }
@@ -95,7 +95,7 @@ pub fn ramping_bytes(member: Member, actions: &[u8]) -> Hour
         return hour_refused(12, 0);
     }
     let count = actions.len() / ACTION_SIZE;
-    let h = taken(actions, count);
+    let h = hour_so_far(actions, count);
     if h.count < count {
         return hour_refused(10, h.count);
     }

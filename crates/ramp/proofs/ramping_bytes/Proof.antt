@@ -20,9 +20,10 @@ hour-refused-requires-2 c κs = search needs
 
 returns-2 : tie.Need-returns-2
 returns-2 c =
-    let s = c .before .before .before .before .before .args in
+    let line = c .before .before in
+    let a = line .before .before .before .args in
     c .hour-refused2 .ensures
-    ∙ sym (whole-is (s .member) (s .actions .now) (c .before .before .before .if1 .left) ∙ bad-line-is (s .member) _ (sym (c .before .before .is-sound .ensures) ∙ not-of _ (c .before .if2 .taken)))
+    ∙ sym (whole-is (a .member) (a .actions .now) (line .before .if1 .left) ∙ bad-line-is (a .member) _ (sym (line .is-sound .ensures) ∙ not-of _ (c .before .if2 .taken)))
 
 is-ramping-requires : tie.Need-is-ramping-requires
 is-ramping-requires c κs = search needs
@@ -32,35 +33,53 @@ hour-refused-requires-3 c κs = search needs
 
 returns-3 : tie.Need-returns-3
 returns-3 c =
-    let s = c .before .before .before .before .before .before .before .args in
+    let kind = c .before .before in
+    let line = kind .before .before in
+    let a = line .before .before .before .args in
+    let sound = sym (line .is-sound .ensures) ∙ not-not _ (kind .before .if2 .left) in
     c .hour-refused3 .ensures
-    ∙ sym (whole-is (s .member) (s .actions .now) (c .before .before .before .before .before .if1 .left) ∙ other-kind-is (s .member) _ (sym (c .before .before .before .before .is-sound .ensures) ∙ not-not _ (c .before .before .before .if2 .left)) (sym (c .before .before .is-ramping .ensures) ∙ not-of _ (c .before .if3 .taken)))
+    ∙ sym (whole-is (a .member) (a .actions .now) (line .before .if1 .left)
+    ∙ other-kind-is (a .member) _ sound (sym (kind .is-ramping .ensures) ∙ not-of _ (c .before .if3 .taken)))
 
-taken-requires : tie.Need-taken-requires
-taken-requires c κs = search needs
+hour-so-far-requires : tie.Need-hour-so-far-requires
+hour-so-far-requires c κs = search needs
 
 hour-refused-requires-4 : tie.Need-hour-refused-requires-4
 hour-refused-requires-4 c κs = search needs
 
 returns-4 : tie.Need-returns-4
 returns-4 c =
-    let s = c .before .before .before .before .before .before .before .before .before .before .args in
+    let t = c .before .before .before in
+    let kind = t .before .before in
+    let line = kind .before .before in
+    let a = line .before .before .before .args in
+    let sound = sym (line .is-sound .ensures) ∙ not-not _ (kind .before .if2 .left) in
+    let ordinary = sym (kind .is-ramping .ensures) ∙ not-not _ (t .before .if3 .left) in
     c .hour-refused4 .ensures
-    ∙ stopped-is (s .member) (s .actions .now) (c .before .before .before .before .before .before .before .before .if1 .left) (sym (c .before .before .before .before .before .before .before .is-sound .ensures) ∙ not-not _ (c .before .before .before .before .before .before .if2 .left)) (sym (c .before .before .before .before .before .is-ramping .ensures) ∙ not-not _ (c .before .before .before .before .if3 .left))
-    (c .before .before .before .taken .result) (c .before .before .before .taken .ensures) (c .before .if4 .taken)
+    ∙ stopped-is (a .member) (a .actions .now) (line .before .if1 .left) sound ordinary (t .hour-so-far .result) (t .hour-so-far .ensures) (c .before .if4 .taken)
 
 grains-requires : tie.Need-grains-requires
-grains-requires c κs = ((_, c .before .before .taken .ensures .0), line-of (c .before .before .before .before .before .before .before .before .before .args .member) (sym (c .before .before .before .before .before .before .is-sound .ensures) ∙ not-not _ (c .before .before .before .before .before .if2 .left)) .rated)
+grains-requires c κs =
+    let t = c .before .before in
+    let kind = t .before .before in
+    let line = kind .before .before in
+    ((_, t .hour-so-far .ensures .0), line-of (line .before .before .before .args .member) (sym (line .is-sound .ensures) ∙ not-not _ (kind .before .if2 .left)) .rated)
 
 hour-paid-requires : tie.Need-hour-paid-requires
 hour-paid-requires c κs = search needs
 
 returns-5 : tie.Need-returns-5
 returns-5 c =
-    let s = c .before .before .before .before .before .before .before .before .before .before .before .args in
+    let g = c .before in
+    let t = g .before .before .before in
+    let kind = t .before .before in
+    let line = kind .before .before in
+    let a = line .before .before .before .args in
+    let sound = sym (line .is-sound .ensures) ∙ not-not _ (kind .before .if2 .left) in
+    let ordinary = sym (kind .is-ramping .ensures) ∙ not-not _ (t .before .if3 .left) in
     c .hour-paid .ensures
-    ∙ through-is (s .member) (s .actions .now) (c .before .before .before .before .before .before .before .before .before .if1 .left) (sym (c .before .before .before .before .before .before .before .before .is-sound .ensures) ∙ not-not _ (c .before .before .before .before .before .before .before .if2 .left)) (sym (c .before .before .before .before .before .before .is-ramping .ensures) ∙ not-not _ (c .before .before .before .before .before .if3 .left))
-    (c .before .before .before .before .taken .result) (c .before .before .before .before .taken .ensures) (c .before .before .if4 .left) (c .before .grains .result .0) (c .before .grains .ensures)
+    ∙ through-is (a .member) (a .actions .now) (line .before .if1 .left) sound ordinary (t .hour-so-far .result) (t .hour-so-far .ensures) (g .before .if4 .left)
+    (g .grains .result .0) (g .grains .ensures)
 
 pub ramping-bytes-spec : {M : Type 1} → statement M
 ramping-bytes-spec =
@@ -74,7 +93,7 @@ ramping-bytes-spec =
     is-ramping-requires
     hour-refused-requires-3
     returns-3
-    taken-requires
+    hour-so-far-requires
     hour-refused-requires-4
     returns-4
     grains-requires

@@ -46,11 +46,13 @@ times-over-requires c κs =
 
 returns-3 : tie.Need-returns-3
 returns-3 c actions s =
-    let f = c .before .before .before .before .before .before .before .before in
-    let given = c .before .before .before .before .before .given-so-far .ensures in
-    let taken = c .before .before .before .before .taken-so-far .ensures in
+    let t = c .before .before .before .before in
+    let f = t .before .before .before .before in
+    let given = t .before .given-so-far .ensures in
+    let taken = t .taken-so-far .ensures in
+    let some : 0 < f .args .self .right = omega (arith, t .before .before .if1 .left) in
     c .times-over .ensures ∙ rw (given, taken, c .before .over-so-far .ensures)
-    (pays-more (f .args .rated .0) actions (f .args .self) s (f .pre .1 .0) (omega (arith, c .before .before .before .before .before .before .if1 .left)) (rw (← given, ← taken) (omega (arith, c .before .before .before .if2 .left))))
+    (pays-more (f .args .rated .0) actions (f .args .self) s (f .pre .1 .0) some (rw (← given, ← taken) (omega (arith, c .before .before .before .if2 .left))))
 
 pub grains-spec : {M : Type 1} → statement M
 grains-spec =

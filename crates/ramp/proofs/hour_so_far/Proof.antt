@@ -5,8 +5,8 @@ use Rattle.ramp.specs.Bytes.{actionsFrom}
 use Rattle.ramp.specs.Inner.{takesAction, SoFar}
 use Rattle.ramp.proofs.Sound.{not-of, not-not}
 use Rattle.ramp.proofs.Answers.{at-end, at-stop, go-on}
-use Rattle.ramp.proofs.taken.Statement.{statement}
-use Rattle.ramp.proofs.taken.Tie as tie
+use Rattle.ramp.proofs.hour_so_far.Statement.{statement}
+use Rattle.ramp.proofs.hour_so_far.Tie as tie
 
 abbrev Inv-loop : tie.InvT-loop
 Inv-loop s count h₀ i₀ h i = (i ≤ count) × SoFar (actionsFrom s 0 i) h
@@ -58,8 +58,8 @@ returns-2 c =
     let l = c .before .loop in
     at-end (s .s .now) (s .count) (l .i) (l .h) (l .inv .1) (omega arith)
 
-pub taken-spec : {M : Type 1} → statement M
-taken-spec =
+pub hour-so-far-spec : {M : Type 1} → statement M
+hour-so-far-spec =
     tie.close
     (tie.spec
     Inv-loop
