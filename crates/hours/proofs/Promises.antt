@@ -2,20 +2,23 @@
 use mathlib.Core.Path.{_≡_, refl, ap, sym, _∙_}
 use mathlib.Core.Bool.{Bool, true}
 use mathlib.Core.List.{List, [], _∷_, _++_, map}
-use Prim.Native.Nat.{ℕ, zero, suc, _≤_, _<_}
+use Prim.Native.Nat.{ℕ, zero, suc, _+_, _≤_, _<_}
+use native.Mathlib.Nat.{zero-add, add-zero, suc-add, add-suc}
 use native.Mathlib.Omega.{arith}
-use lib.ListN.{length, replicate}
+use lib.ListN.{length, getD, replicate}
 use Rattle.le.proofs.Tests.{holds-or-fails}
 use Rattle.units.specs.declared.Grains.{Grains}
 use Rattle.units.specs.Money.{mostGrains, grainsPlus}
 use Rattle.pay.specs.declared.Member.{Member}
-use Rattle.ramp.specs.Ramping.{firstStandard, hourGrains}
+use Rattle.pay.proofs.Within.{of-line}
+use Rattle.ramp.specs.Ramping.{firstStandard, hourGrains, hourPaid, ramping}
+use Rattle.ramp.proofs.Accepted.{Accepted, hour-pays}
 use Rattle.ramp.proofs.Sound.{all-within}
 use Rattle.ramp.proofs.Bounds.{mostHour, grains-most}
 use Rattle.ramp.proofs.Top.{EachHourMost, hoursTotal, hours-below-top}
 use Rattle.hours.specs.declared.HourLine.{HourLine}
 use Rattle.hours.specs.declared.HoursFault.{HoursFault}
-use Rattle.hours.specs.declared.HoursFault.the-variants.{OfMember, AtLine}
+use Rattle.hours.specs.declared.HoursFault.the-variants.{NoFault, OfMember, AtLine}
 use Rattle.hours.specs.declared.Hours.{Hours}
 use Rattle.hours.specs.declared.Reader.{Reader}
 use Rattle.hours.specs.Hours.{mostHours, ofHour, hourLines, paysFrom, grainsSum, isFault, hoursRefused, hoursPaid, readHours}
@@ -25,6 +28,12 @@ use Rattle.hours.proofs.Sound.{good-most, good-sound, AllSound, all-sou
 use Rattle.hours.proofs.Streaming.{settled}
 use Rattle.hours.proofs.Exact.{none-bad, hours-exact}
 
+-- the line of a fault, from 1 on
+abbrev lineTold : HoursFault → ℕ
+lineTold NoFault = 0
+lineTold (OfMember number) = 0
+lineTold (AtLine place) = suc place
+
 -- The whole file
 
 module _ (m : Member) (hours : ℕ) (text : List ℕ) where
@@ -32,6 +41,21 @@ module _ (m : Member) (hours : ℕ) (text : List ℕ) where
   pub lowest-bad : MayRead m → (i : ℕ) → i < length (hourLines text) → LinesWithin hours (hourLines text) i → (LineWithinAt hours (hourLines text) i → ⊥)
       → readHours m hours text ≡ hoursRefused (AtLine i)
   lowest-bad may i h w n = sym (hours-exact m hours text (hoursRefused (AtLine i)) .1 (bad-line i refl may h w n))
+
+  -- where a line is told, those before it are within the limits and it is not;
+  pub told-lowest : (i : ℕ) → readHours m hours text ≡ hoursRefused (AtLine i)
+      → MayRead m × (i < length (hourLines text)) × LinesWithin hours (hourLines text) i × (LineWithinAt hours (hourLines text) i → ⊥)
+  unfolding hoursRefused hoursPaid
+  told-lowest i e = go (hours-exact m hours text (hoursRefused (AtLine i)) .0 (sym e))
+    where
+      go : HoursOutcome m hours (hourLines text) (hoursRefused (AtLine i))
+          → MayRead m × (i < length (hourLines text)) × LinesWithin hours (hourLines text) i × (LineWithinAt hours (hourLines text) i → ⊥)
+      go (bad-member f n) = absurd (omega (arith, ap (λ (r : Hours). lineTold (r .fault)) f))
+      go (other-kind f w k) = absurd (omega (arith, ap (λ (r : Hours). lineTold (r .fault)) f))
+      go (paid f may w) = absurd (omega (arith, ap (λ (r : Hours). lineTold (r .fault)) f))
+      go (bad-line j f may h w n) =
+          let same : j ≡ i = omega (arith, ap (λ (r : Hours). lineTold (r .fault)) f) in
+          rw (← same) (may, h, w, n)
 
   -- a file without a bad line is taken whole.
   pub all-taken : MayRead m → LinesWithin hours (hourLines text) (length (hourLines text)) → readHours m hours text ≡ hoursPaid (m .rated .0) (hourLines text)
@@ -51,7 +75,15 @@ module _ (m : Member) (hours : ℕ) (text : List ℕ) where
       go r (bad-line i e may h w n) f = told r (AtLine i) e
       go r (paid e may w) f = absurd (holds-or-fails f (ap (λ (h : Hours). isFault (h .fault)) e))
 
+-- a fault that is told is one
+none-told : (fault : HoursFault) → isFault fault ≡ true → (r : Hours) → r ≡ hoursRefused fault → r .fault ≡ NoFault → ⊥
+unfolding hoursRefused isFault
+none-told fault t r e f = holds-or-fails t (ap isFault (sym (ap (λ (h : Hours). h .fault) e) ∙ f))
+
 -- What the hours pay
+
+abbrev none : Grains
+none = record { 0 = 0 }
 
 -- the grains as numbers
 abbrev pub grainsOf : Hours → List ℕ
@@ -87,6 +119,12 @@ module _ (N : ℕ) (some : 0 < N) (hours : ℕ) (ls : List HourLine) (s : AllSou
   pays-length hour zero = refl
   pays-length hour (suc n) = ap suc (pays-length (suc hour) n)
 
+  pays-at : (hour n k : ℕ) → k < n → getD (paysFrom N ls hour n) k none .0 ≡ hourGrains N (ofHour (hour + k) ls)
+  unfolding paysFrom
+  pays-at hour zero k h = absurd (omega (arith, h))
+  pays-at hour (suc n) zero h = ap (λ (x : ℕ). hourGrains N (ofHour x ls)) (sym (add-zero hour))
+  pays-at hour (suc n) (suc k) h = pays-at (suc hour) n k (omega (arith, h)) ∙ ap (λ (x : ℕ). hourGrains N (ofHour x ls)) (suc-add hour k ∙ sym (add-suc hour k))
+
   paid-sum : grainsSum (paysFrom N ls 0 mostHours) ≡ hoursTotal (numbersOf (paysFrom N ls 0 mostHours))
   paid-sum =
       let low = hours-below-top 0 (numbersOf (paysFrom N ls 0 mostHours)) (omega arith) (omega (arith, pays-length 0 mostHours)) (each-most 0 mostHours) in
@@ -109,6 +147,26 @@ module _ (m : Member) (hours : ℕ) (text : List ℕ) where
           ap (λ (h : Hours). h .sum .0) e
           ∙ paid-sum (m .rated .0) (omega (arith, may .line .rated .0)) hours (hourLines text) (all-sound hours (hourLines text) (none-bad hours (hourLines text) w))
           ∙ ap (λ (h : Hours). hoursTotal (grainsOf h)) (sym e)
+
+  -- EACH HOUR IS PAID AS ITS ACTIONS ARE SCORED: of a file that is taken, no hour is refused.
+  pub as-scored : readHours m hours text .fault ≡ NoFault → (hour : ℕ) → hour < mostHours
+      → ramping m (ofHour hour (hourLines text)) ≡ hourPaid (getD (readHours m hours text .grains) hour none .0)
+  unfolding hoursPaid isFault
+  as-scored f hour h = go (readHours m hours text) (hours-exact m hours text (readHours m hours text) .0 refl) f
+    where
+      go : (r : Hours) → HoursOutcome m hours (hourLines text) r → r .fault ≡ NoFault → ramping m (ofHour hour (hourLines text)) ≡ hourPaid (getD (r .grains) hour none .0)
+      go r (bad-member e n) f = absurd (none-told (OfMember 10) refl r e f)
+      go r (other-kind e w k) f = absurd (none-told (OfMember 12) refl r e f)
+      go r (bad-line i e may h w n) f = absurd (none-told (AtLine i) refl r e f)
+      go r (paid e may w) f =
+          let s = all-sound hours (hourLines text) (none-bad hours (hourLines text) w) in
+          let some : 0 < m .rated .0 = omega (arith, may .line .rated .0) in
+          let actions = ofHour hour (hourLines text) in
+          let good : Accepted m actions =
+          record { line = of-line m (may .line); kind = may .kind; few = good-most actions (s .good hour); within = all-within (firstStandard actions) actions (good-sound actions (s .good hour)) } in
+          hour-pays m actions good
+          ∙ ap hourPaid (sym (ap (λ (x : Hours). getD (x .grains) hour none .0) e ∙ pays-at (m .rated .0) some hours (hourLines text) s 0 mostHours hour h
+          ∙ ap (λ (x : ℕ). hourGrains (m .rated .0) (ofHour x (hourLines text))) (zero-add hour)))
 
 -- The stream: what the contracts of a reader say that has read a text
 

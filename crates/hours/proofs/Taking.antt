@@ -23,7 +23,7 @@ use Rattle.hours.specs.declared.HoursFault.the-variants.{NoFault, OfMemb
 use Rattle.hours.specs.declared.sheet.Sheet.{Sheet}
 use Rattle.hours.specs.Hours.{mostHours, ofHour, lastHour, hourLineIsSound, firstBadLine, paysFrom, hoursWith, grainsSum, hoursRefused, hoursPaid, hoursOfLines, isFault}
 use Rattle.hours.specs.Outcomes.{LineWithin}
-use Rattle.hours.specs.Inner.{mostShort, fairHourLine, linesSay, heldOf, standardFor, sheetTakes, BlankSheet, GoodHour, Taken, Refused, Judged}
+use Rattle.hours.specs.Inner.{mostShort, fairHourLine, linesSay, filledFor, standardFor, sheetTakes, BlankSheet, GoodHour, Taken, Refused, Judged}
 use Rattle.hours.proofs.Lines.{of-its-hour, last-more, bad-behind, paidFor, pays-table, actions-table, table-none, table-more}
 use Rattle.hours.proofs.Sound.{line-within, good-most, fair-same, fair-bad, sound-more, all-sound}
 
@@ -52,7 +52,7 @@ module _ (m : Member) (hours : ℕ) (s : Sheet) where
           month = (b .hours, short);
           count = b .zeros .0;
           last = b .zeros .1;
-          held = b .zeros .2;
+          filled = b .zeros .2;
           kept = ap (λ (n : ℕ). take n (s .kept)) (b .zeros .2);
           room = b .room;
           grains = b .grains ∙ no-pays (m .rated .0) mostHours;
@@ -81,12 +81,12 @@ refused-12 m hours h k ls = rw (h, k)
 module _ (m : Member) (hours : ℕ) (ls : List HourLine) (s : Sheet) (k : Taken m hours ls s) where
   module _ (hour : ℕ) (rises : lastHour ls ≤ hour) where
     -- the sheet's actions of an hour that may follow are the lines'
-    pub held-is : (heldOf s hour ≡ length (ofHour hour ls)) × (take (heldOf s hour) (s .kept) ≡ ofHour hour ls)
-    unfolding heldOf
-    held-is = go (eqb hour (s .last)) refl
+    pub filled-is : (filledFor s hour ≡ length (ofHour hour ls)) × (take (filledFor s hour) (s .kept) ≡ ofHour hour ls)
+    unfolding filledFor
+    filled-is = go (eqb hour (s .last)) refl
       where
-        go : (t : Bool) → eqb hour (s .last) ≡ t → (cond t (s .held) 0 ≡ length (ofHour hour ls)) × (take (cond t (s .held) 0) (s .kept) ≡ ofHour hour ls)
-        go true e = rw (eqb-true hour (s .last) e ∙ k .last) (k .held, k .kept)
+        go : (t : Bool) → eqb hour (s .last) ≡ t → (cond t (s .filled) 0 ≡ length (ofHour hour ls)) × (take (cond t (s .filled) 0) (s .kept) ≡ ofHour hour ls)
+        go true e = rw (eqb-true hour (s .last) e ∙ k .last) (k .filled, k .kept)
         go false e = rw (all-sound hours ls (k .sound) .later hour (omega (arith, rises, eqb-false hour (s .last) e, k .last))) (refl, refl)
 
   -- the standard rate that the sheet asks of an action is its hour's
@@ -100,18 +100,18 @@ module _ (m : Member) (hours : ℕ) (ls : List HourLine) (s : Sheet) (k : Taken 
   pub takes-sound : (l : HourLine) → sheetTakes s l ≡ hourLineIsSound hours ls l
   unfolding sheetTakes hourLineIsSound
   takes-sound l =
-      (λ i. ltb (l .hour) (k .month .0 i) && leb (k .last i) (l .hour) && ltb (heldOf s (l .hour)) mostActions
-      && actionIsSound (standardFor s (heldOf s (l .hour)) (l .action)) (l .action))
+      (λ i. ltb (l .hour) (k .month .0 i) && leb (k .last i) (l .hour) && ltb (filledFor s (l .hour)) mostActions
+      && actionIsSound (standardFor s (filledFor s (l .hour)) (l .action)) (l .action))
       ∙ go (ltb (l .hour) hours) (leb (lastHour ls) (l .hour)) refl
     where
       go : (t u : Bool) → leb (lastHour ls) (l .hour) ≡ u
-          → (t && u && ltb (heldOf s (l .hour)) mostActions && actionIsSound (standardFor s (heldOf s (l .hour)) (l .action)) (l .action))
+          → (t && u && ltb (filledFor s (l .hour)) mostActions && actionIsSound (standardFor s (filledFor s (l .hour)) (l .action)) (l .action))
           ≡ (t && u && ltb (length (ofHour (l .hour) ls)) mostActions && actionIsSound (firstStandard (ofHour (l .hour) ls ++ l .action ∷ [])) (l .action))
       go false u e = refl
       go true false e = refl
       go true true e =
-          let h = held-is (l .hour) (leb-true (lastHour ls) (l .hour) e) in
-          λ i. ltb (h .0 i) mostActions && actionIsSound (first-kept (heldOf s (l .hour)) (ofHour (l .hour) ls) (l .action) (h .0) (h .1) i) (l .action)
+          let h = filled-is (l .hour) (leb-true (lastHour ls) (l .hour) e) in
+          λ i. ltb (h .0 i) mostActions && actionIsSound (first-kept (filledFor s (l .hour)) (ofHour (l .hour) ls) (l .action) (h .0) (h .1) i) (l .action)
 
   -- a line that is not sound is refused, whatever lines follow
   pub bad-refused : (l : HourLine) → hourLineIsSound hours ls l ≡ false → Refused m hours (ls ++ l ∷ []) (AtLine (s .count))
@@ -149,14 +149,14 @@ refused-more m hours ls l fault r = record { told = r .told; stays = λ rest. ap
 -- A line that is taken
 
 -- there is room for its action
-pub takes-room : (s : Sheet) (l : HourLine) → sheetTakes s l ≡ true → heldOf s (l .hour) < mostActions
+pub takes-room : (s : Sheet) (l : HourLine) → sheetTakes s l ≡ true → filledFor s (l .hour) < mostActions
 unfolding sheetTakes
 takes-room s l h =
-    let n = heldOf s (l .hour) in
+    let n = filledFor s (l .hour) in
     let tests = leb (s .last) (l .hour) ∷ ltb n mostActions ∷ actionIsSound (standardFor s n (l .action)) (l .action) ∷ [] in
     ltb-true n mostActions (each (ltb (l .hour) (s .hours)) tests h .1 .1 .0)
 
-module _ (m : Member) (hours : ℕ) (ls : List HourLine) (s : Sheet) (k : Taken m hours ls s) (l : HourLine) (t : sheetTakes s l ≡ true) (n : ℕ) (is : n ≡ heldOf s (l .hour)) where
+module _ (m : Member) (hours : ℕ) (ls : List HourLine) (s : Sheet) (k : Taken m hours ls s) (l : HourLine) (t : sheetTakes s l ≡ true) (n : ℕ) (is : n ≡ filledFor s (l .hour)) where
   abbrev is-sound : hourLineIsSound hours ls l ≡ true
   is-sound = sym (takes-sound m hours ls s k l) ∙ t
 
@@ -164,7 +164,7 @@ module _ (m : Member) (hours : ℕ) (ls : List HourLine) (s : Sheet) (k : Taken 
   line = line-within hours ls l is-sound
 
   abbrev its-actions : (n ≡ length (ofHour (l .hour) ls)) × (take n (s .kept) ≡ ofHour (l .hour) ls)
-  its-actions = let h = held-is m hours ls s k (l .hour) (line .rises) in (is ∙ h .0, ap (λ (x : ℕ). take x (s .kept)) is ∙ h .1)
+  its-actions = let h = filled-is m hours ls s k (l .hour) (line .rises) in (is ∙ h .0, ap (λ (x : ℕ). take x (s .kept)) is ∙ h .1)
 
   kept-more : (kept : List Action) → kept ≡ set (s .kept) n (l .action) → take (n + 1) kept ≡ ofHour (l .hour) ls ++ l .action ∷ []
   kept-more kept e =
@@ -173,11 +173,11 @@ module _ (m : Member) (hours : ℕ) (ls : List HourLine) (s : Sheet) (k : Taken 
       rw (e, add-one, take-suc-set (s .kept) n (l .action) room, h .1)
 
   pub taken-more : (r : Sheet) (pay : Grains)
-      → r .member ≡ s .member → r .hours ≡ s .hours → r .count ≡ (s .count + 1) % 2 ^ 64 → r .last ≡ l .hour → r .held ≡ n + 1
+      → r .member ≡ s .member → r .hours ≡ s .hours → r .count ≡ (s .count + 1) % 2 ^ 64 → r .last ≡ l .hour → r .filled ≡ n + 1
       → r .kept ≡ set (s .kept) n (l .action) → r .grains ≡ set (s .grains) (l .hour) pay → r .actions ≡ set (s .actions) (l .hour) (n + 1)
       → ((1 ≤ s .member .rated .0) × (s .member .rated .0 ≤ mostRated) → GoodHour (take (n + 1) (r .kept)) → pay .0 ≡ hourGrains (s .member .rated .0) (take (n + 1) (r .kept)))
       → Taken m hours (ls ++ l ∷ []) r
-  taken-more r pay member month count last held kept grains actions pays =
+  taken-more r pay member month count last filled kept grains actions pays =
       let h = its-actions in
       let now-sound : firstBadLine hours [] (ls ++ l ∷ []) ≡ length (ls ++ l ∷ []) = sound-more hours ls l (k .sound) is-sound in
       let before = all-sound hours ls (k .sound) in
@@ -200,8 +200,8 @@ module _ (m : Member) (hours : ℕ) (ls : List HourLine) (s : Sheet) (k : Taken 
         month = (month ∙ k .month .0, k .month .1);
         count = omega (arith, count, mod-eq-of-lt low, k .count, many);
         last = last ∙ sym ends;
-        held = held ∙ (let e : n + 1 ≡ length (ofHour (l .hour) ls ++ l .action ∷ []) = omega (arith, h .0, more) in e) ∙ ap (λ (xs : List Action). length xs) (sym its);
-        kept = ap (λ (x : ℕ). take x (r .kept)) held ∙ now ∙ sym its;
+        filled = filled ∙ (let e : n + 1 ≡ length (ofHour (l .hour) ls ++ l .action ∷ []) = omega (arith, h .0, more) in e) ∙ ap (λ (xs : List Action). length xs) (sym its);
+        kept = ap (λ (x : ℕ). take x (r .kept)) filled ∙ now ∙ sym its;
         room = ap (λ (xs : List Action). length xs) kept ∙ length-set (s .kept) n (l .action) ∙ k .room;
         grains = grains ∙ (λ i. set ((k .grains ∙ pays-table (m .rated .0) ls 0 mostHours) i) (l .hour) (paid i))
             ∙ sym (pays-table (m .rated .0) (ls ++ l ∷ []) 0 mostHours ∙ table-more (paidFor (m .rated .0)) ls l 0 mostHours (l .hour) (zero-add (l .hour)));

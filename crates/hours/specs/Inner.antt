@@ -72,8 +72,8 @@ linesSay m hours ls =
     (hoursOfLines m hours ls))
 
 -- how many actions of a line's hour the sheet has
-unfoldable pub heldOf : Sheet → ℕ → ℕ
-heldOf s hour = cond (eqb hour (s .last)) (s .held) 0
+unfoldable pub filledFor : Sheet → ℕ → ℕ
+filledFor s hour = cond (eqb hour (s .last)) (s .filled) 0
 
 -- the standard rate that an action must have, where its hour has n before it
 unfoldable pub standardFor : Sheet → ℕ → Action → ℕ
@@ -83,8 +83,8 @@ standardFor s n a = cond (eqb n 0) (a .standard) (getD (s .kept) 0 noAction .sta
 unfoldable pub sheetTakes : Sheet → HourLine → Bool
 sheetTakes s l =
     ltb (l .hour) (s .hours) && leb (s .last) (l .hour)
-    && ltb (heldOf s (l .hour)) mostActions
-    && actionIsSound (standardFor s (heldOf s (l .hour)) (l .action)) (l .action)
+    && ltb (filledFor s (l .hour)) mostActions
+    && actionIsSound (standardFor s (filledFor s (l .hour)) (l .action)) (l .action)
 
 -- none of an hour's actions is bad
 abbrev pub GoodHour : List Action → Type 0
@@ -96,7 +96,7 @@ pub record BlankSheet (m : Member) (month : ℕ) (t : Bool) (told : HoursFault) 
   pub fault : s .fault ≡ told
   pub member : s .member ≡ m
   pub hours : s .hours ≡ month
-  pub zeros : (s .count ≡ 0) × (s .last ≡ 0) × (s .held ≡ 0)
+  pub zeros : (s .count ≡ 0) × (s .last ≡ 0) × (s .filled ≡ 0)
   pub room : length (s .kept) ≡ mostActions
   pub grains : s .grains ≡ replicate mostHours (record { 0 = 0 })
   pub actions : s .actions ≡ replicate mostHours 0
@@ -109,8 +109,8 @@ pub record Taken (m : Member) (hours : ℕ) (ls : List HourLine) (s : Sheet) : T
   pub month : (s .hours ≡ hours) × (hours ≤ mostShort)
   pub count : s .count ≡ length ls
   pub last : s .last ≡ lastHour ls
-  pub held : s .held ≡ length (ofHour (lastHour ls) ls)
-  pub kept : take (s .held) (s .kept) ≡ ofHour (lastHour ls) ls
+  pub filled : s .filled ≡ length (ofHour (lastHour ls) ls)
+  pub kept : take (s .filled) (s .kept) ≡ ofHour (lastHour ls) ls
   pub room : length (s .kept) ≡ mostActions
   pub grains : s .grains ≡ paysFrom (m .rated .0) ls 0 mostHours
   pub actions : s .actions ≡ actionsFrom ls 0 mostHours

@@ -28,10 +28,11 @@ ghost use Rattle.ramp.specs.Ramping.{mostActions, hourGrains};
 ghost use Rattle.hours.specs.declared.HourLine.{HourLine};
 ghost use Rattle.hours.specs.Hours.{mostHours, isFault, hoursRefused, readHours};
 ghost use Rattle.hours.specs.declared.HoursFault.the-variants.{AtLine};
-ghost use Rattle.hours.specs.Inner.{endedLine, heldOf, standardFor, sheetTakes, linesSay, BlankSheet, GoodHour, Taken, Judged};
+ghost use Rattle.hours.specs.Inner.{endedLine, filledFor, standardFor, sheetTakes, linesSay, BlankSheet, GoodHour, Taken, Judged};
 
-// How many lines were taken, the hour of the last of them (else 0), its actions and how many, and for each hour of the month its grains and its actions.
-// `refused`: the member, or the line after them, has the fault.
+// How many lines were taken, the hour of the last of them (else 0), its actions, how many they are, and for each hour of the month its grains and its actions.
+// `refused`: the member, or the line after them, has the fault. The actions of the last hour are kept, and their sums made of them anew at every line: sums that
+// came from no actions could be past what adding to them allows.
 pub struct Sheet {
     pub refused: bool,
     pub fault: HoursFault,
@@ -39,7 +40,7 @@ pub struct Sheet {
     pub hours: u16,
     pub count: usize,
     pub last: u16,
-    pub held: usize,
+    pub filled: usize,
     pub kept: [Action; MOST_ACTIONS],
     pub grains: [Grains; MOST_HOURS],
     pub actions: [u8; MOST_HOURS],
@@ -135,7 +136,7 @@ impl Sheet {
             hours,
             count: 0,
             last: 0,
-            held: 0,
+            filled: 0,
             kept,
             grains,
             actions,
@@ -156,10 +157,10 @@ impl Sheet {
     }
 
     // How many actions of an hour the sheet has.
-    fn held_of(self, hour: u16) -> usize
-        ensures { λ r. ⌜ r ≡ heldOf self hour ⌝ }
+    fn filled_for(self, hour: u16) -> usize
+        ensures { λ r. ⌜ r ≡ filledFor self hour ⌝ }
     {
-        if hour == self.last { self.held } else { 0 }
+        if hour == self.last { self.filled } else { 0 }
     }
 
     // The standard rate that an action must have, where its hour has n before it.
@@ -176,7 +177,7 @@ impl Sheet {
         ensures { λ r. ⌜ r ≡ sheetTakes self l ⌝ }
     {
         let a = l.action;
-        let n = self.held_of(l.hour);
+        let n = self.filled_for(l.hour);
         let sound = action_is_sound(self.standard_for(n, a), a);
         (l.hour < self.hours) & (self.last <= l.hour) & (n < MOST_ACTIONS) & sound
     }
@@ -186,7 +187,7 @@ impl Sheet {
         requires { ⌜ sheetTakes self l ≡ true ⌝ }
         ensures { λ r. ⌜ ((m : Member) (hours : ℕ) (ls : List HourLine) → self .refused ≡ false → Taken m hours ls self → (r .refused ≡ false) × Taken m hours (ls ++ l ∷ []) r) ⌝ }
     {
-        let n = self.held_of(l.hour);
+        let n = self.filled_for(l.hour);
         let a = l.action;
         let mut kept = self.kept;
         kept[n] = a;
@@ -205,7 +206,7 @@ impl Sheet {
             hours: self.hours,
             count: std::num::wrapping_add_usize(self.count, 1),
             last: l.hour,
-            held: n + 1,
+            filled: n + 1,
             kept,
             grains,
             actions,
@@ -227,7 +228,7 @@ impl Sheet {
             hours: self.hours,
             count: self.count,
             last: self.last,
-            held: self.held,
+            filled: self.filled,
             kept,
             grains,
             actions,

@@ -3,13 +3,13 @@ use mathlib.Core.Bool.{_&&_}
 use Prim.Native.Nat.{ℕ}
 use lib.Dec.{ltb, leb}
 use Rattle.ramp.specs.Ramping.{mostActions, actionIsSound}
-use Rattle.hours.specs.Inner.{heldOf, standardFor, sheetTakes}
+use Rattle.hours.specs.Inner.{filledFor, standardFor, sheetTakes}
 use borrow.Author.Needs.{needs}
 use Rattle.hours.proofs.sheet.Sheet.takes.Statement.{statement}
 use Rattle.hours.proofs.sheet.Sheet.takes.Tie as tie
 
-held-of-requires : tie.Need-held-of-requires
-held-of-requires c κs = search needs
+filled-for-requires : tie.Need-filled-for-requires
+filled-for-requires c κs = search needs
 
 standard-for-requires : tie.Need-standard-for-requires
 standard-for-requires c κs = search needs
@@ -21,14 +21,14 @@ returns : tie.Need-returns
 unfolding sheetTakes
 returns c =
     let d = c .before .before .before .before in
-    let n = d .before .before .held-of in
+    let n = d .before .before .filled-for in
     let f = d .before .standard-for in
     let a = d .before .before .before .before .args in
-    let rate : f .result ≡ standardFor (a .self) (heldOf (a .self) (a .l .hour)) (a .l .action) = f .ensures ∙ ap (λ (x : ℕ). standardFor (a .self) x (a .l .action)) (n .ensures) in
-    let sound : d .action-is-sound .result ≡ actionIsSound (standardFor (a .self) (heldOf (a .self) (a .l .hour)) (a .l .action)) (a .l .action) =
+    let rate : f .result ≡ standardFor (a .self) (filledFor (a .self) (a .l .hour)) (a .l .action) = f .ensures ∙ ap (λ (x : ℕ). standardFor (a .self) x (a .l .action)) (n .ensures) in
+    let sound : d .action-is-sound .result ≡ actionIsSound (standardFor (a .self) (filledFor (a .self) (a .l .hour)) (a .l .action)) (a .l .action) =
     d .action-is-sound .ensures ∙ ap (λ (x : ℕ). actionIsSound x (a .l .action)) rate in
     λ i. ltb (a .l .hour) (a .self .hours) && leb (a .self .last) (a .l .hour) && ltb (n .ensures i) mostActions && sound i
 
 pub takes-spec : {M : Type 1} → statement M
 takes-spec =
-    tie.close (tie.spec held-of-requires standard-for-requires action-is-sound-requires returns)
+    tie.close (tie.spec filled-for-requires standard-for-requires action-is-sound-requires returns)

@@ -7,11 +7,11 @@ use borrow.Author.Needs.{needs}
 use Rattle.hours.proofs.sheet.Sheet.taking.Statement.{statement}
 use Rattle.hours.proofs.sheet.Sheet.taking.Tie as tie
 
-room : (c : tie.After-held-of) → c .held-of .result < mostActions
-room c = subst (λ (x : ℕ). x < mostActions) (sym (c .held-of .ensures)) (takes-room (c .before .args .self) (c .before .args .l) (c .before .pre))
+room : (c : tie.After-filled-for) → c .filled-for .result < mostActions
+room c = subst (λ (x : ℕ). x < mostActions) (sym (c .filled-for .ensures)) (takes-room (c .before .args .self) (c .before .args .l) (c .before .pre))
 
-held-of-requires : tie.Need-held-of-requires
-held-of-requires c κs = search needs
+filled-for-requires : tie.Need-filled-for-requires
+filled-for-requires c κs = search needs
 
 mul-kept : tie.Need-mul-kept
 mul-kept c = record { fits = omega (arith, room (c .before .before)) }
@@ -50,7 +50,7 @@ returns : tie.Need-returns
 returns c =
     let start = c .before .before .before .before .before .before .before .before .before .before .before in
     let a = start .args in
-    let n = c .before .before .before .before .before .before .before .before .before .before .held-of in
+    let n = c .before .before .before .before .before .before .before .before .before .before .filled-for in
     let p = c .before .before .before .before .before .before .paid in
     λ m hours ls on k. (
       refl,
@@ -62,7 +62,7 @@ pub taking-spec : {M : Type 1} → statement M
 taking-spec =
     tie.close
     (tie.spec
-    held-of-requires
+    filled-for-requires
     mul-kept
     array-set-from-kept
     add-paid
