@@ -2,7 +2,7 @@ pub mod Before
 pub mod Scored
 pub mod Each
 pub mod Adding
-pub mod Most
+pub mod Hours
 pub mod Promises
 pub mod Meaning
 pub mod Story

@@ -9,7 +9,7 @@ use lib.Dec.{eqb, ltb}
 use lib.ListN.{length, getD, List·getD-append}
 use borrow.Author.Tests.{eqb-false, ltb-true}
 use Rattle.units.specs.declared.Grains.{Grains}
-use Rattle.units.specs.Money.{mostGrains, grainsPlus}
+use Rattle.units.specs.Money.{grainsPlus}
 use Rattle.call.specs.declared.Call.{Call}
 use Rattle.book.specs.declared.Verdict.{Verdict}
 use Rattle.book.specs.Book.{countAt, recordAt}
@@ -25,17 +25,18 @@ use Rattle.score.specs.Scoring.{monthGrains, firstRefused, recordsEarned, after
 use Rattle.score.proofs.First.{first-bad}
 use Rattle.explain.specs.declared.CallPart.{CallPart}
 use Rattle.explain.specs.declared.Explained.{Explained}
-use Rattle.explain.specs.Explaining.{callPart, partsOf, blankPart, filledUp, monthWh, explainEarned, explaining, partsGrains, partsWh, partAt, OwnLive, HasPart}
+use Rattle.explain.specs.Explaining.{callPart, partsOf, blankPart, filledUp, monthWh, hoursSum, explainEarned, explaining, hoursGrains, HoursWithin, partsGrains, partsWh, partAt, OwnLive, HasPart}
 use Rattle.explain.specs.Inner.{partsBefore}
 use Rattle.explain.proofs.Before.{parts-are}
 use Rattle.explain.proofs.Scored.{accepted-ready}
 use Rattle.explain.proofs.Each.{of-record, indexed, rising}
 use Rattle.explain.proofs.Adding.{filled-grains, filled-wh, before-grains, before-wh}
-use Rattle.explain.proofs.Most.{month-most}
+use Rattle.score.proofs.Most.{mostHour, month-most}
+use Rattle.explain.proofs.Hours.{month-of-hours}
 
 -- Two outcomes that the contract of `explain` allows are one.
-pub explain-determined : (m : Member) (b series : List ℕ) (added : Grains) (r s : Explained) → r ≡ explaining m b series added → s ≡ explaining m b series added → r ≡ s
-explain-determined m b series added r s p q = p ∙ sym q
+pub explain-determined : (m : Member) (b series : List ℕ) (hours : List Grains) (r s : Explained) → r ≡ explaining m b series hours → s ≡ explaining m b series hours → r ≡ s
+explain-determined m b series hours r s p q = p ∙ sym q
 
 -- Accepted is what has no number
 
@@ -70,9 +71,12 @@ earned-num m b series = go (memberIsSound m)
     go true z = after-num (check b) (soundEarned m b series) (λ y. after-num _ _ (records-num _ m series (recordAt b) (countAt b)) y) z
     go false z = omega arith
 
-module _ (m : Member) (b series : List ℕ) (added : Grains) where
+module _ (m : Member) (b series : List ℕ) (hours : List Grains) where
   abbrev r : Explained
-  r = explaining m b series added
+  r = explaining m b series hours
+
+  abbrev added : Grains
+  added = record { 0 = hoursSum hours }
 
   record IsAccepted : Type 0 where
     grains : Grains
@@ -86,7 +90,7 @@ module _ (m : Member) (b series : List ℕ) (added : Grains) where
       go (Accepted g) d z = record { grains = g; is = d }
       go (Refused v p) d z = absurd (earned-num m b series (ap num d ∙ z))
 
-  -- The parts' grains, the energy's and what is added are the grains, held at the top of 64 bits.
+  -- The parts' grains, the energy's and what the hours add are the grains, held at the top of 64 bits.
   pub parts-held : r .grains .0 ≡ grainsPlus (partsGrains (r .parts) + r .energy .0) (r .added .0)
   unfolding explaining explainEarned grainsPlus partsGrains monthGrains monthWh
   parts-held = go (grainsEarned m b series) refl
@@ -97,22 +101,22 @@ module _ (m : Member) (b series : List ℕ) (added : Grains) where
           ap (λ (n : ℕ). grainsPlus n (added .0)) (omega (arith, t, accepted-ready m b series g d .1))
       go (Refused v p) d = omega (arith, filled-grains [])
 
-  -- Below the top they add up.
-  pub parts-add-up : partsGrains (r .parts) + r .energy .0 + r .added .0 ≤ mostGrains → partsGrains (r .parts) + r .energy .0 + r .added .0 ≡ r .grains .0
-  unfolding grainsPlus
-  parts-add-up l = omega (arith, parts-held)
-
-  -- Where nothing is added they always do: no month reaches the top.
-  pub parts-add-up-alone : added .0 ≡ 0 → partsGrains (r .parts) + r .energy .0 ≡ r .grains .0
+  -- WHERE NO HOUR IS ABOVE WHAT ONE PAYS THEY ADD UP: no month reaches the top.
+  pub parts-add-up : HoursWithin mostHour hours → partsGrains (r .parts) + r .energy .0 + r .added .0 ≡ r .grains .0
   unfolding explaining explainEarned grainsPlus partsGrains monthGrains monthWh
-  parts-add-up-alone none = go (grainsEarned m b series) refl
+  parts-add-up within = go (grainsEarned m b series) refl
     where
-      go : (e : Earned) → grainsEarned m b series ≡ e → (let s = explainEarned m b series added e in partsGrains (s .parts) + s .energy .0 ≡ s .grains .0)
+      go : (e : Earned) → grainsEarned m b series ≡ e → (let s = explainEarned m b series added e in partsGrains (s .parts) + s .energy .0 + s .added .0 ≡ s .grains .0)
       go (Accepted g) d =
           let a = accepted-ready m b series g d in
           let t = filled-grains (partsOf m b series) ∙ ap partsGrains (parts-are m b series) ∙ before-grains m b series (countAt b) in
-          omega (arith, t, a .1, month-most m b series (a .0))
+          omega (arith, t, a .1, month-most m b series (a .0), month-of-hours hours within .1)
       go (Refused v p) d = omega (arith, filled-grains [])
+
+  -- And what the hours add to an accepted score is the sum of all of them.
+  pub hours-add-up : r .number ≡ 0 → HoursWithin mostHour hours → r .added .0 ≡ hoursGrains hours
+  unfolding explaining explainEarned
+  hours-add-up z within = let a = accepted-of z in rw (a .is) (month-of-hours hours within .0)
 
   -- The month's Wh are those of the parts, added up, and their sum is paid, clamped at zero once.
   pub energy-adds-up : (r .wh .0 ≡ partsWh (r .parts)) × (r .energy .0 ≡ energyPay (partsWh (r .parts)))
@@ -163,32 +167,33 @@ module _ (m : Member) (b series : List ℕ) (added : Grains) where
     part-of-its-record k l = rw (at k l) (of-record m b series (countAt b) k (omega (arith, counted)) .is)
 
 -- An explanation is refused exactly as the score is, with its number and place.
-pub refused-as-scored : (m : Member) (b series : List ℕ) (added : Grains)
-    → (explaining m b series added .number ≡ scoring m b series .number) × (explaining m b series added .place ≡ scoring m b series .place)
+pub refused-as-scored : (m : Member) (b series : List ℕ) (hours : List Grains)
+    → (explaining m b series hours .number ≡ scoring m b series .number) × (explaining m b series hours .place ≡ scoring m b series .place)
 unfolding explaining explainEarned scoring inFen
-refused-as-scored m b series added = go (grainsEarned m b series)
+refused-as-scored m b series hours = go (grainsEarned m b series)
   where
-    go : (e : Earned) → (explainEarned m b series added e .number ≡ inFen e .number) × (explainEarned m b series added e .place ≡ inFen e .place)
+    go : (e : Earned) → (explainEarned m b series (record { 0 = hoursSum hours }) e .number ≡ inFen e .number) × (explainEarned m b series (record { 0 = hoursSum hours }) e .place ≡ inFen e .place)
     go (Accepted g) = (refl, refl)
     go (Refused v p) = (refl, refl)
 
--- With nothing added the grains are the score's.
-pub as-scored : (m : Member) (b series : List ℕ) → explaining m b series (record { 0 = 0 }) .grains ≡ scoring m b series .grains
+-- Where the hours pay nothing the grains are the score's.
+pub as-scored : (m : Member) (b series : List ℕ) (hours : List Grains) → hoursSum hours ≡ 0 → explaining m b series hours .grains ≡ scoring m b series .grains
 unfolding explaining explainEarned scoring inFen grainsPlus
-as-scored m b series = go (grainsEarned m b series) refl
+as-scored m b series hours none = go (grainsEarned m b series) refl
   where
-    go : (e : Earned) → grainsEarned m b series ≡ e → explainEarned m b series (record { 0 = 0 }) e .grains ≡ inFen e .grains
+    go : (e : Earned) → grainsEarned m b series ≡ e → explainEarned m b series (record { 0 = hoursSum hours }) e .grains ≡ inFen e .grains
     go (Accepted g) d =
         let a = accepted-ready m b series g d in
         ap (λ (n : ℕ). record { 0 = n }) (omega (arith, a .1, month-most m b series (a .0)))
     go (Refused v p) d = refl
 
--- The grains of an accepted score are the score's and what is added, held at the top of 64 bits.
-pub grains-as-scored : (m : Member) (b series : List ℕ) (added : Grains) → scoring m b series .number ≡ 0
-    → explaining m b series added .grains .0 ≡ grainsPlus (scoring m b series .grains .0) (added .0)
+-- The grains of an accepted score are the score's and what the hours add, held at the top of 64 bits.
+pub grains-as-scored : (m : Member) (b series : List ℕ) (hours : List Grains) → scoring m b series .number ≡ 0
+    → explaining m b series hours .grains .0 ≡ grainsPlus (scoring m b series .grains .0) (hoursSum hours)
 unfolding explaining explainEarned scoring inFen num
-grains-as-scored m b series added = go (grainsEarned m b series) refl
+grains-as-scored m b series hours = go (grainsEarned m b series) refl
   where
-    go : (e : Earned) → grainsEarned m b series ≡ e → inFen e .number ≡ 0 → explainEarned m b series added e .grains .0 ≡ grainsPlus (inFen e .grains .0) (added .0)
+    go : (e : Earned) → grainsEarned m b series ≡ e → inFen e .number ≡ 0
+        → explainEarned m b series (record { 0 = hoursSum hours }) e .grains .0 ≡ grainsPlus (inFen e .grains .0) (hoursSum hours)
     go (Accepted g) d z = refl
     go (Refused v p) d z = absurd (earned-num m b series (ap num d ∙ z))

@@ -1,4 +1,4 @@
--- A month explained: half a window that paid, a stop, an event paid by energy, 1,000 grains added; others' and withdrawn calls are not told. Assumes nothing.
+-- A month explained: half a window that paid, a stop, an event paid by energy, two ramping hours of 400 and 600 grains; others' and withdrawn calls are not told. Assumes nothing.
 use mathlib.Core.Path.{_≡_, refl, sym, _∙_, ap}
 use mathlib.Core.Bool.{true}
 use mathlib.Core.List.{List, [], _∷_, _++_}
@@ -43,7 +43,7 @@ use Rattle.score.proofs.Turns.{faultIn, much-not, series-good, records-sum, sou
 use Rattle.explain.proofs.Before.{parts-are}
 use Rattle.explain.proofs.Adding.{before-grains, before-wh}
 use Rattle.explain.specs.declared.CallPart.{CallPart}
-use Rattle.explain.specs.Explaining.{callPart, ownPart, partsFrom, partsOf, filledUp, monthWh, explainEarned, explaining, partsGrains, partsWh}
+use Rattle.explain.specs.Explaining.{callPart, ownPart, partsFrom, partsOf, filledUp, monthWh, hoursSum, explainEarned, explaining, partsGrains, partsWh}
 
 -- area 5, February 2026
 february : Header
@@ -185,7 +185,7 @@ grains-told =
     let e = ap energyPay wh-told in
     omega (arith, t, e)
 
-pub explained : explaining seven book series (record { 0 = 1000 })
+pub explained : explaining seven book series (record { 0 = 400 } ∷ record { 0 = 600 } ∷ [])
     ≡ record {
       number = 0;
       place = 0;
@@ -196,5 +196,5 @@ pub explained : explaining seven book series (record { 0 = 1000 })
       grains = record { 0 = 3649800001000 };
       parts = filledUp parts;
     }
-unfolding explaining explainEarned grainsPlus energyPay clamp parts
+unfolding explaining explainEarned hoursSum grainsPlus energyPay clamp parts
 explained = rw (is-accepted, parts-told, wh-told, grains-told) refl

@@ -1,8 +1,8 @@
--- Why a member got its grains: a part for each of its live calls, the month's energy, and what is added. Assumes nothing.
+-- Why a member got its grains: a part for each of its live calls, the month's energy, and what its ramping hours add. Assumes nothing.
 use mathlib.Core.Path.{_≡_}
 use mathlib.Core.Bool.{true, cond}
 use mathlib.Core.List.{List, [], _∷_, _++_}
-use Prim.Native.Nat.{ℕ, suc, _+_, _-_, _<_}
+use Prim.Native.Nat.{ℕ, suc, _+_, _-_, _<_, _≤_}
 use lib.IntN.{ℤ, pos, _+ℤ_}
 use lib.ListN.{getD, length, replicate}
 use Rattle.units.specs.declared.Grains.{Grains}
@@ -57,6 +57,15 @@ filledUp parts = parts ++ replicate (mostRecords version - length parts) blankPa
 unfoldable pub monthWh : Member → List ℕ → ℤ
 monthWh m b = totalZ (whAt m (recordAt b)) (countAt b)
 
+-- the hours of a month of 31 days
+abbrev pub mostHours : ℕ
+mostHours = 744
+
+-- what the ramping hours pay together
+unfoldable pub hoursSum : List Grains → ℕ
+hoursSum [] = 0
+hoursSum (hour ∷ hours) = grainsPlus (hour .0) (hoursSum hours)
+
 -- of an accepted score the parts, the month's Wh and their pay, clamped at zero once, and what is added; of a refused one its number and
 -- place, otherwise zeros
 unfoldable pub explainEarned : Member → List ℕ → List ℕ → Grains → Earned → Explained
@@ -83,9 +92,9 @@ explainEarned m b series added (Refused number place) =
       parts = filledUp [];
     }
 
--- why the member has its grains, where so many are added to its score
-unfoldable pub explaining : Member → List ℕ → List ℕ → Grains → Explained
-explaining m b series added = explainEarned m b series added (grainsEarned m b series)
+-- why the member has its grains, where its ramping hours pay these
+unfoldable pub explaining : Member → List ℕ → List ℕ → List Grains → Explained
+explaining m b series hours = explainEarned m b series (record { 0 = hoursSum hours }) (grainsEarned m b series)
 
 -- What the promises speak of
 
@@ -98,6 +107,16 @@ partsGrains (p ∷ ps) = p .grains .0 + partsGrains ps
 unfoldable pub partsWh : List CallPart → ℤ
 partsWh [] = pos 0
 partsWh (p ∷ ps) = p .wh .0 +ℤ partsWh ps
+
+-- the grains of hours, added up
+unfoldable pub hoursGrains : List Grains → ℕ
+hoursGrains [] = 0
+hoursGrains (hour ∷ hours) = hour .0 + hoursGrains hours
+
+-- at most a month of hours, each at most this
+pub record HoursWithin (most : ℕ) (hours : List Grains) : Type 0 where
+  pub few : length hours ≤ mostHours
+  pub each : (k : ℕ) → k < length hours → getD hours k (record { 0 = 0 }) .0 ≤ most
 
 -- part k of an explanation
 abbrev pub partAt : Explained → ℕ → CallPart

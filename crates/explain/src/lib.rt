@@ -1,8 +1,8 @@
-// Why a member got its grains: a part for each of its live calls, the month's energy, and what is added.
+// Why a member got its grains: a part for each of its live calls, the month's energy, and what its ramping hours add.
 ghost use mathlib.Core.Path.{_≡_};
 ghost use Rattle.score.specs.declared.answer.Earned.the-variants.{Accepted};
 ghost use Rattle.score.specs.Scoring.{grainsEarned};
-ghost use Rattle.explain.specs.Explaining.{explainEarned, explaining};
+ghost use Rattle.explain.specs.Explaining.{hoursSum, explainEarned, explaining};
 use crate::parts::blank_parts;
 use crate::parts::parts_before;
 use book::MOST_RECORDS;
@@ -16,6 +16,9 @@ use units::Wh;
 
 pub mod parts;
 
+// The hours of 31 days.
+pub const MOST_HOURS: usize = 744;
+
 // One live call of the member: its record, the grains for each kW of rating, the Wh of its event, its grains, and the quarter hours
 // of a window that paid.
 pub struct CallPart {
@@ -26,8 +29,8 @@ pub struct CallPart {
     pub quarters: u32,
 }
 
-// A refusal's number and place, otherwise zeros; or how many parts there are, the month's Wh and their pay, what is added, all the
-// grains, and the parts.
+// A refusal's number and place, otherwise zeros; or how many parts there are, the month's Wh and their pay, what the ramping hours add, all
+// the grains, and the parts.
 pub struct Explained {
     pub number: u32,
     pub place: usize,
@@ -69,8 +72,8 @@ fn explain_accepted(
 }
 
 // The member's score, explained part by part, with so many grains added to it.
-pub fn explain(member: Member, book: &[u8], series: &[u32], added: Grains) -> Explained
-    ensures { λ r. ⌜ r ≡ explaining member (now (book .entry)) (now (series .entry)) added ⌝ }
+fn explain_with(member: Member, book: &[u8], series: &[u32], added: Grains) -> Explained
+    ensures { λ r. ⌜ r ≡ explainEarned member (now (book .entry)) (now (series .entry)) added (grainsEarned member (now (book .entry)) (now (series .entry))) ⌝ }
 {
     let earned = grains_earned(member, book, series);
     match earned {
@@ -89,4 +92,31 @@ pub fn explain(member: Member, book: &[u8], series: &[u32], added: Grains) -> Ex
             }
         }
     }
+}
+
+// The hours' grains together.
+fn hours_sum(hours: [Grains; MOST_HOURS]) -> Grains
+    ensures { λ r. ⌜ r .0 ≡ hoursSum hours ⌝ }
+{
+    let mut sum = Grains(0);
+    let mut i: usize = 0;
+    while i < MOST_HOURS {
+        let hour = hours[i];
+        sum = sum.plus(hour);
+        i += 1;
+    }
+    sum
+}
+
+// The member's score, explained part by part, and its ramping hours, 0 where one pays nothing.
+pub fn explain(
+    member: Member,
+    book: &[u8],
+    series: &[u32],
+    hours: [Grains; MOST_HOURS],
+) -> Explained
+    ensures { λ r. ⌜ r ≡ explaining member (now (book .entry)) (now (series .entry)) hours ⌝ }
+{
+    let added = hours_sum(hours);
+    explain_with(member, book, series, added)
 }

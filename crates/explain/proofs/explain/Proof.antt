@@ -1,76 +1,23 @@
-use mathlib.Core.Path.{_≡_, sym, _∙_, ap}
-use mathlib.Core.List.{List}
+use mathlib.Core.Path.{_∙_, ap}
 use Prim.Native.Nat.{ℕ}
-use lib.IntN.{pos}
-use Rattle.score.specs.declared.answer.Earned.the-variants.{Accepted, Refused}
 use Rattle.score.specs.Scoring.{grainsEarned}
-use Rattle.explain.specs.declared.Explained.{Explained}
-use Rattle.explain.specs.declared.CallPart.{CallPart}
 use Rattle.explain.specs.Explaining.{explainEarned, explaining}
 use borrow.Author.Needs.{needs}
 use Rattle.explain.proofs.explain.Statement.{statement}
 use Rattle.explain.proofs.explain.Tie as tie
 
-abbrev refusal : ℕ → ℕ → List CallPart → Explained
-refusal number place parts =
-    record {
-      number = number;
-      place = place;
-      count = 0;
-      wh = record { 0 = pos 0 };
-      energy = record { 0 = 0 };
-      added = record { 0 = 0 };
-      grains = record { 0 = 0 };
-      parts = parts;
-    }
+hours-sum-requires : tie.Need-hours-sum-requires
+hours-sum-requires c κs = search needs
 
--- the score is accepted, and refused
-accepts : (c : tie.After-known-told)
-    → grainsEarned (c .before .before .before .before .before .before .args .member) (c .before .before .before .before .before .before .args .book .now)
-    (c .before .before .before .before .before .before .args .series .now) ≡ Accepted (c .before .earned .given .0 .0)
-accepts c = sym (c .before .before .before .grains-earned .ensures) ∙ c .before .earned .given .1
-
-refuses : (c : tie.After-known-told2)
-    → grainsEarned (c .before .before .before .before .before .before .args .member) (c .before .before .before .before .before .before .args .book .now)
-    (c .before .before .before .before .before .before .args .series .now) ≡ Refused (c .before .earned2 .given .0 .0) (c .before .earned2 .given .0 .1 .0)
-refuses c = sym (c .before .before .before .grains-earned .ensures) ∙ c .before .earned2 .given .1
-
-grains-earned-requires : tie.Need-grains-earned-requires
-grains-earned-requires c κs = search needs
-
-enum-known-earned : tie.Need-enum-known-earned
-enum-known-earned c = search needs
-
-explain-accepted-requires : tie.Need-explain-accepted-requires
-explain-accepted-requires c κs = accepts c
-
-enum-known-earned-2 : tie.Need-enum-known-earned-2
-enum-known-earned-2 c = search needs
-
-blank-parts-requires : tie.Need-blank-parts-requires
-blank-parts-requires c κs = search needs
+explain-with-requires : tie.Need-explain-with-requires
+explain-with-requires c κs = search needs
 
 returns : tie.Need-returns
 unfolding explaining
 returns c =
-    let a = c .before .before .before .before .before .before .before .args in
-    c .explain-accepted .ensures ∙ ap (explainEarned (a .member) (a .book .now) (a .series .now) (a .added)) (sym (accepts (c .before)))
-
-returns-2 : tie.Need-returns-2
-unfolding explaining explainEarned
-returns-2 c =
-    let a = c .before .before .before .before .before .before .before .args in
-    let g = c .before .before .earned2 .given .0 in
-    ap (refusal (g .0) (g .1 .0)) (c .blank-parts .ensures) ∙ ap (explainEarned (a .member) (a .book .now) (a .series .now) (a .added)) (sym (refuses (c .before)))
+    let a = c .before .before .before .before .args in
+    c .explain-with .ensures
+    ∙ ap (λ (n : ℕ). explainEarned (a .member) (a .book .now) (a .series .now) (record { 0 = n }) (grainsEarned (a .member) (a .book .now) (a .series .now))) (c .before .hours-sum .ensures)
 
 pub explain-spec : {M : Type 1} → statement M
-explain-spec =
-    tie.close
-    (tie.spec
-    grains-earned-requires
-    enum-known-earned
-    explain-accepted-requires
-    enum-known-earned-2
-    blank-parts-requires
-    returns
-    returns-2)
+explain-spec = tie.close (tie.spec hours-sum-requires explain-with-requires returns)

@@ -1,13 +1,14 @@
--- No accepted score reaches the top of 64 bits. Assumes nothing.
-use mathlib.Core.Path.{_≡_, refl}
+-- The most grains that a score has: with a month's ramping hours they stay below the top of 64 bits. Assumes nothing.
+use mathlib.Core.Path.{_≡_, refl, sym, ap, _∙_}
 use mathlib.Core.Bool.{Bool, true, false, cond}
 use mathlib.Core.List.{List}
-use Prim.Native.Nat.{ℕ, zero, suc, _*_, _≤_, _<_}
+use Prim.Native.Nat.{ℕ, zero, suc, _+_, _*_, _≤_, _<_}
 use native.Mathlib.Omega.{arith}
 use lib.Dec.{eqb}
 use lib.IntN.{pos}
 use borrow.Author.Tests.{eqb-true}
-use Rattle.units.specs.Money.{mostGrains}
+use Rattle.units.specs.Money.{grainsPlus}
+use Rattle.units.proofs.Laws.{plus-sum}
 use Rattle.call.specs.declared.Call.{Call}
 use Rattle.call.specs.Limits.{callIsSound}
 use Rattle.call.specs.Services.{frequencyEvent, mostMoved}
@@ -15,6 +16,7 @@ use Rattle.book.specs.Book.{version, mostRecords, headerAt, countAt, recordAt}
 use Rattle.book.specs.Check.{headerMinutes}
 use Rattle.book.proofs.Exact.{accepted-tests}
 use Rattle.book.proofs.Heads.{headed-is}
+use Rattle.book.proofs.Judged.{zero-accepted}
 use Rattle.pay.specs.declared.Member.{Member}
 use Rattle.pay.specs.Sum.{total, totalZ}
 use Rattle.pay.specs.Member.{isByRate}
@@ -24,9 +26,22 @@ use Rattle.pay.specs.Inner.{mostPay}
 use Rattle.pay.proofs.Sums.{total-none, total0-suc, totalZ-none, totalZ-suc}
 use Rattle.pay.proofs.Signed.{event-clamp, clamp-plus}
 use Rattle.pay.proofs.Bounds.{cond-most, moved-most, live-most}
-use Rattle.score.specs.Scoring.{isOwnLive, payOf, whOf, payAt, whAt, monthGrains}
-use Rattle.score.specs.Outcomes.{Ready}
+use Rattle.score.specs.declared.answer.Score.{Score}
+use Rattle.score.specs.Scoring.{isOwnLive, payOf, whOf, payAt, whAt, monthGrains, scoring}
+use Rattle.score.specs.Outcomes.{Ready, ScoreOutcome, bad-line, bad-book, bad-length, bad-value, is-contested, not-open, stands-against, scored}
 use Rattle.score.proofs.Checked.{all-sound, spans-month}
+use Rattle.score.proofs.Exact.{outcome}
+
+-- 512 calls at the most that one pays, and as many events of 1,000,000,000 Wh at 120,000 grains each
+abbrev pub mostScore : ℕ
+mostScore = 2109440000000000000
+
+-- the most that one ramping hour pays, and the 744 hours of a month
+abbrev pub mostHour : ℕ
+mostHour = 1630800000000000
+
+abbrev pub mostRamping : ℕ
+mostRamping = 744 * mostHour
 
 -- no event of a sound call counts for more than may be moved
 wh-most : (m : Member) (minutes : ℕ) (x : Call) → callIsSound minutes x ≡ true → clamp (whOf m x) ≤ mostMoved
@@ -69,6 +84,28 @@ module _ (m : Member) (b series : List ℕ) (ready : Ready m b series) where
       rw (totalZ-suc (whAt m (recordAt b)) n)
       (omega (arith, clamp-plus (totalZ (whAt m (recordAt b)) n) (whAt m (recordAt b) n), energy-most n (omega arith), wh-most m minutes (recordAt b n) (is-sound n (omega arith))))
 
-  pub month-most : monthGrains m series (recordAt b) (countAt b) ≤ mostGrains
+  pub month-most : monthGrains m series (recordAt b) (countAt b) ≤ mostScore
   unfolding monthGrains energyPay
   month-most = omega (arith, few, grains-most (countAt b) (omega arith), energy-most (countAt b) (omega arith))
+
+module _ (m : Member) (b series : List ℕ) (z : scoring m b series .number ≡ 0) where
+  -- No score has more grains.
+  pub score-most : scoring m b series .grains .0 ≤ mostScore
+  score-most = go (outcome m b series)
+    where
+      number : (r : Score) → scoring m b series ≡ r → r .number ≡ 0
+      number r e = sym (ap (λ (s : Score). s .number) e) ∙ z
+
+      go : ScoreOutcome m b series (scoring m b series) → scoring m b series .grains .0 ≤ mostScore
+      go (bad-line e l) = absurd (omega (arith, number _ e))
+      go (bad-book e l f) = absurd (f (zero-accepted b (number _ e)))
+      go (bad-length e l f) = absurd (omega (arith, number _ e))
+      go (bad-value i e l s h v w) = absurd (omega (arith, number _ e))
+      go (is-contested i e t s) = absurd (omega (arith, number _ e))
+      go (not-open i e t s f) = absurd (omega (arith, number _ e))
+      go (stands-against i j e t s o h a) = absurd (omega (arith, number _ e))
+      go (scored g e r c is) = rw (e, is) (month-most m b series r)
+
+  -- A score and a month's ramping hours never reach the top of 64 bits: their grains together are the sum.
+  pub hours-fit : (hours : ℕ) → hours ≤ mostRamping → grainsPlus (scoring m b series .grains .0) hours ≡ scoring m b series .grains .0 + hours
+  hours-fit hours l = plus-sum (scoring m b series .grains .0) hours (omega (arith, score-most))
