@@ -15,7 +15,7 @@ use Rattle.book.specs.Book.{countAt, callsOf}
 use Rattle.book.specs.Check.{accepted, check}
 use Rattle.score.specs.declared.answer.Earned.{Earned}
 use Rattle.score.specs.declared.answer.Earned.the-variants.{Accepted, Refused}
-use Rattle.score.specs.Scoring.{grainsEarned}
+use Rattle.score.specs.Scoring.{grainsEarned, inFen}
 use Rattle.book.proofs.Judged.{zero-accepted}
 use Rattle.apportion.specs.Apportion.{total}
 use Rattle.share.specs.declared.Line.{Line}
@@ -26,16 +26,20 @@ use Rattle.register.specs.declared.Entry.{Entry}
 use Rattle.register.specs.Register.{blankEntry, entryLine, firstBadEntry}
 use Rattle.register.proofs.Entries.{length-lines, line-at}
 use Rattle.month.specs.declared.Fault.{Fault}
-use Rattle.month.specs.declared.Fault.the-variants.{NoFault, InRegister, InBook, Unlisted, OfMember, InSharing}
+use Rattle.month.specs.declared.Fault.the-variants.{NoFault, InRegister, InBook, Unlisted, OfMember, OfRamping, InSharing}
+use Rattle.month.specs.declared.Ramped.{Ramped}
 use Rattle.month.specs.declared.Row.{Row}
 use Rattle.month.specs.declared.Statement.{Statement}
-use Rattle.month.specs.Settling.{MonthGiven, firstUnlisted, earnedWith, earnings, firstRefusedMember, memberFault, earnedGrains, compensations}
+use Rattle.month.specs.declared.members.MemberEarned.{MemberEarned}
+use Rattle.month.specs.declared.members.MemberEarned.the-variants.{Both, NotScored, NotRamped}
+use Rattle.month.specs.Settling.{MonthGiven, firstUnlisted, noRamping, earnedWith, earnings, firstRefusedMember, memberFault, earnedGrains, compensations}
 use Rattle.month.specs.Settling.{rowOf, rowsOf, blankRow, filledRows, monthRefused, sharedMonth, monthLines, earnedMonth, settling}
-use Rattle.month.specs.Outcomes.{ownSeries, earnedIn, linesIn, grainsIn, statementOf}
-use Rattle.month.proofs.Walking.{noGrains, noFen, fenOf, length-earnings}
+use Rattle.month.specs.Outcomes.{ownSeries, rampedOfLine, earnedIn, linesIn, grainsIn, statementOf}
+use Rattle.month.proofs.Walking.{noGrains, noFen, fenOf, isBoth, length-earnings}
+use Rattle.month.proofs.Statements.{next-of}
 
 abbrev pub rowsSettled : MonthGiven → List Row
-rowsSettled g = rowsOf (below (linesIn g)) (linesIn g) (grainsIn g) (sharing (linesIn g) .parts)
+rowsSettled g = rowsOf (below (linesIn g)) (linesIn g) (grainsIn g) (g .ramped) (sharing (linesIn g) .parts)
 
 -- what it has passed
 pub record Passed (g : MonthGiven) : Type 0 where
@@ -53,29 +57,32 @@ isFault (InRegister line) = true
 isFault (InBook number place) = true
 isFault (Unlisted call) = true
 isFault (OfMember line number place) = true
+isFault (OfRamping line number place) = true
 isFault (InSharing number place) = true
 
 no-refusal : (fault : Fault) → isFault fault ≡ true → monthRefused fault .fault ≡ NoFault → ⊥
 unfolding monthRefused
 no-refusal fault e h = true≢false (sym e ∙ ap isFault h)
 
--- the first refused member has a refusal; where none is refused, each is accepted
-refused-at : (line : ℕ) (es : List Earned) → firstRefusedMember es < length es → isFault (memberFault line (getD es (firstRefusedMember es) (Refused 0 0))) ≡ true
+-- the first refused member has a refusal; where none is refused, each has the grains of both
+refused-at : (line : ℕ) (es : List MemberEarned) → firstRefusedMember es < length es → isFault (memberFault line (getD es (firstRefusedMember es) (NotScored 0 0))) ≡ true
 unfolding firstRefusedMember memberFault
 refused-at line [] h = absurd (omega arith)
-refused-at line (Accepted g ∷ es) h = refused-at line es (omega arith)
-refused-at line (Refused number place ∷ es) h = refl
+refused-at line (Both g ∷ es) h = refused-at line es (omega arith)
+refused-at line (NotScored number place ∷ es) h = refl
+refused-at line (NotRamped number place ∷ es) h = refl
 
-pub accepted-at : (es : List Earned) (i : ℕ) (d : Earned) → length es ≤ firstRefusedMember es → i < length es → getD es i d ≡ Accepted (earnedGrains (getD es i d))
+pub both-at : (es : List MemberEarned) (i : ℕ) (d : MemberEarned) → length es ≤ firstRefusedMember es → i < length es → getD es i d ≡ Both (earnedGrains (getD es i d))
 unfolding firstRefusedMember earnedGrains
-accepted-at [] i d h l = absurd (omega arith)
-accepted-at (Accepted g ∷ es) zero d h l = refl
-accepted-at (Accepted g ∷ es) (suc i) d h l = accepted-at es i d (omega arith) (omega arith)
-accepted-at (Refused number place ∷ es) i d h l = absurd (omega arith)
+both-at [] i d h l = absurd (omega arith)
+both-at (Both g ∷ es) zero d h l = refl
+both-at (Both g ∷ es) (suc i) d h l = both-at es i d (omega arith) (omega arith)
+both-at (NotScored number place ∷ es) i d h l = absurd (omega arith)
+both-at (NotRamped number place ∷ es) i d h l = absurd (omega arith)
 
 -- what is behind the register, the book and the listing
 abbrev restOf : MonthGiven → Statement
-restOf g = earnedMonth (g .entries) (g .book) (earnedIn g)
+restOf g = earnedMonth (g .entries) (g .book) (g .ramped) (earnedIn g)
 
 record Reached (g : MonthGiven) : Type 0 where
   register : g .count ≤ firstBadEntry 0 (g .entries)
@@ -122,7 +129,7 @@ passed g h = go (ltb first (length es)) (eqb (o .number) 0) refl refl (r .none)
     r : Reached g
     r = reached g h
 
-    es : List Earned
+    es : List MemberEarned
     es = earnedIn g
 
     first : ℕ
@@ -133,7 +140,7 @@ passed g h = go (ltb first (length es)) (eqb (o .number) 0) refl refl (r .none)
 
     all : Bool → Bool → Statement
     all a b =
-        cond a (monthRefused (memberFault first (getD es first (Refused 0 0))))
+        cond a (monthRefused (memberFault first (getD es first (NotScored 0 0))))
         (cond b (statementOf g) (monthRefused (InSharing (o .number) (o .place))))
 
     go : (a b : Bool) → ltb first (length es) ≡ a → eqb (o .number) 0 ≡ b → all a b .fault ≡ NoFault → Passed g
@@ -156,51 +163,45 @@ own-next series [] zero = refl
 own-next series [] (suc i) = refl
 own-next series (l ∷ ls) i = ap (take (getD ls i 0)) (drop-drop (total (take i ls)) l series)
 
-pub earned-at : (es : List Entry) (book series lengths : List ℕ) (added : List Grains) (i : ℕ) (d : Earned) → i < length es
-    → getD (earnings es book series lengths added) i d
-    ≡ earnedWith (grainsEarned (getD es i blankEntry .member) book (ownSeries series lengths i)) (getD added i noGrains)
+pub earned-at : (es : List Entry) (book series lengths : List ℕ) (ramped : List Ramped) (i : ℕ) (d : MemberEarned) → i < length es
+    → getD (earnings es book series lengths ramped) i d
+    ≡ earnedWith (grainsEarned (getD es i blankEntry .member) book (ownSeries series lengths i)) (getD ramped i noRamping)
 unfolding earnings
-earned-at [] book series lengths added i d h = absurd (omega arith)
-earned-at (e ∷ es) book series lengths added zero d h = refl
-earned-at (e ∷ es) book series lengths added (suc i) d h =
-    earned-at es book (drop (getD lengths 0 0) series) (drop 1 lengths) (drop 1 added) i d (omega arith)
-    ∙ rw (own-next series lengths i, next added) refl
+earned-at [] book series lengths ramped i d h = absurd (omega arith)
+earned-at (e ∷ es) book series lengths ramped zero d h = refl
+earned-at (e ∷ es) book series lengths ramped (suc i) d h =
+    earned-at es book (drop (getD lengths 0 0) series) (drop 1 lengths) (drop 1 ramped) i d (omega arith)
+    ∙ rw (own-next series lengths i, next-of ramped i noRamping) refl
+
+-- where there are the grains of both, score and ramping file are good, and the grains are theirs together
+pub with-both : (x : Earned) (r : Ramped) (g : Grains) → earnedWith x r ≡ Both g
+    → (inFen x .number ≡ 0) × (r .number ≡ 0) × (g .0 ≡ grainsPlus (inFen x .grains .0) (r .grains .0))
+unfolding earnedWith earnedGrains inFen
+with-both (Accepted y) r g e = go (eqb (r .number) 0) refl e
   where
-    next : (xs : List Grains) → getD (drop 1 xs) i noGrains ≡ getD xs (suc i) noGrains
-    next [] = refl
-    next (x ∷ xs) = refl
-
-abbrev isAccepted : Earned → Bool
-isAccepted (Accepted g) = true
-isAccepted (Refused number place) = false
-
--- what was added was added to something
-pub with-accepted : (x : Earned) (a g : Grains) → earnedWith x a ≡ Accepted g → (x ≡ Accepted (earnedGrains x)) × (g .0 ≡ grainsPlus (earnedGrains x .0) (a .0))
-unfolding earnedWith earnedGrains
-with-accepted (Accepted y) a g e = (refl, sym (ap (λ (x : Earned). earnedGrains x .0) e))
-with-accepted (Refused number place) a g e = absurd (true≢false (sym (ap isAccepted e)))
+    go : (t : Bool) → eqb (r .number) 0 ≡ t → cond t (Both (record { 0 = grainsPlus (y .0) (r .grains .0) })) (NotRamped (r .number) (r .place)) ≡ Both g
+        → (inFen (Accepted y) .number ≡ 0) × (r .number ≡ 0) × (g .0 ≡ grainsPlus (y .0) (r .grains .0))
+    go true z e = (refl, eqb-true (r .number) 0 z, sym (ap (λ (x : MemberEarned). earnedGrains x .0) e))
+    go false z e = absurd (true≢false (sym (ap isBoth e)))
+with-both (Refused number place) r g e = absurd (true≢false (sym (ap isBoth e)))
 
 -- The rows
 
 abbrev pub noPart : Part
 noPart = record { share = pos 0; amount = pos 0 }
 
-pub length-rows : (isBelow : Bool) (ls : List Line) (gs : List Grains) (ps : List Part) → length (rowsOf isBelow ls gs ps) ≡ length ls
+pub length-rows : (isBelow : Bool) (ls : List Line) (gs : List Grains) (rs : List Ramped) (ps : List Part) → length (rowsOf isBelow ls gs rs ps) ≡ length ls
 unfolding rowsOf
-length-rows isBelow [] gs ps = refl
-length-rows isBelow (l ∷ ls) gs ps = ap suc (length-rows isBelow ls (drop 1 gs) (drop 1 ps))
+length-rows isBelow [] gs rs ps = refl
+length-rows isBelow (l ∷ ls) gs rs ps = ap suc (length-rows isBelow ls (drop 1 gs) (drop 1 rs) (drop 1 ps))
 
-pub row-at : (isBelow : Bool) (ls : List Line) (gs : List Grains) (ps : List Part) (i : ℕ) (d : Row) → i < length ls
-    → getD (rowsOf isBelow ls gs ps) i d ≡ rowOf isBelow (getD ls i blankLine) (getD gs i noGrains) (getD ps i noPart)
+pub row-at : (isBelow : Bool) (ls : List Line) (gs : List Grains) (rs : List Ramped) (ps : List Part) (i : ℕ) (d : Row) → i < length ls
+    → getD (rowsOf isBelow ls gs rs ps) i d ≡ rowOf isBelow (getD ls i blankLine) (getD gs i noGrains) (getD rs i noRamping .hours) (getD ps i noPart)
 unfolding rowsOf
-row-at isBelow [] gs ps i d h = absurd (omega arith)
-row-at isBelow (l ∷ ls) gs ps zero d h = refl
-row-at isBelow (l ∷ ls) gs ps (suc i) d h =
-    row-at isBelow ls (drop 1 gs) (drop 1 ps) i d (omega arith) ∙ rw (next gs noGrains, next ps noPart) refl
-  where
-    next : {A : Type 0} (xs : List A) (z : A) → getD (drop 1 xs) i z ≡ getD xs (suc i) z
-    next [] z = refl
-    next (x ∷ xs) z = refl
+row-at isBelow [] gs rs ps i d h = absurd (omega arith)
+row-at isBelow (l ∷ ls) gs rs ps zero d h = refl
+row-at isBelow (l ∷ ls) gs rs ps (suc i) d h =
+    row-at isBelow ls (drop 1 gs) (drop 1 rs) (drop 1 ps) i d (omega arith) ∙ rw (next-of gs i noGrains, next-of rs i noRamping, next-of ps i noPart) refl
 
 module _ (g : MonthGiven) where
   pub length-in : length (linesIn g) ≡ length (g .entries)
@@ -209,18 +210,18 @@ module _ (g : MonthGiven) where
 
   -- the row of line i
   pub settled-row : (i : ℕ) → Passed g → i < length (g .entries)
-      → getD (settling g .rows) i blankRow ≡ rowOf (below (linesIn g)) (getD (linesIn g) i blankLine) (getD (grainsIn g) i noGrains) (getD (sharing (linesIn g) .parts) i noPart)
+      → getD (settling g .rows) i blankRow ≡ rowOf (below (linesIn g)) (getD (linesIn g) i blankLine) (getD (grainsIn g) i noGrains) (rampedOfLine g i .hours) (getD (sharing (linesIn g) .parts) i noPart)
   unfolding filledRows
   settled-row i p h =
       let long = length-in in
-      let rows = length-rows (below (linesIn g)) (linesIn g) (grainsIn g) (sharing (linesIn g) .parts) in
+      let rows = length-rows (below (linesIn g)) (linesIn g) (grainsIn g) (g .ramped) (sharing (linesIn g) .parts) in
       ap (λ (s : Statement). getD (s .rows) i blankRow) (p .is) ∙ List·getD-append (rowsSettled g) _ blankRow i (omega arith)
-      ∙ row-at (below (linesIn g)) (linesIn g) (grainsIn g) (sharing (linesIn g) .parts) i blankRow (omega arith)
+      ∙ row-at (below (linesIn g)) (linesIn g) (grainsIn g) (g .ramped) (sharing (linesIn g) .parts) i blankRow (omega arith)
 
   -- the grains of line i, and the fen of them
-  pub grains-at : (i : ℕ) → i < length (g .entries) → getD (grainsIn g) i noGrains ≡ earnedGrains (getD (earnedIn g) i (Refused 0 0))
+  pub grains-at : (i : ℕ) → i < length (g .entries) → getD (grainsIn g) i noGrains ≡ earnedGrains (getD (earnedIn g) i (NotScored 0 0))
   grains-at i h =
-      getD-mapped earnedGrains (earnedIn g) i (Refused 0 0) noGrains (omega (arith, length-earnings (g .entries) (g .book) (g .series) (g .lengths) (g .added)))
+      getD-mapped earnedGrains (earnedIn g) i (NotScored 0 0) noGrains (omega (arith, length-earnings (g .entries) (g .book) (g .series) (g .lengths) (g .ramped)))
 
   pub line-in : (i : ℕ) → i < length (g .entries) → getD (linesIn g) i blankLine ≡ entryLine (getD (g .entries) i blankEntry) (fenOf (getD (grainsIn g) i noGrains))
   unfolding monthLines
@@ -228,4 +229,4 @@ module _ (g : MonthGiven) where
       let long = length-map (earnedIn g) earnedGrains in
       line-at (g .entries) (compensations (grainsIn g)) i blankEntry h
       ∙ ap (entryLine (getD (g .entries) i blankEntry))
-      (getD-mapped fenOf (grainsIn g) i noGrains noFen (omega (arith, length-earnings (g .entries) (g .book) (g .series) (g .lengths) (g .added))))
+      (getD-mapped fenOf (grainsIn g) i noGrains noFen (omega (arith, length-earnings (g .entries) (g .book) (g .series) (g .lengths) (g .ramped))))

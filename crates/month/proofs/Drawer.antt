@@ -21,7 +21,7 @@ use Rattle.month.specs.Lowered.{loweredStatement}
 use Rattle.month.proofs.Promises.{withBook, order-same}
 use Rattle.month.proofs.Withdrawn.{withdrawn-month}
 
--- the statement of a month over what a tree of joins gives: its register, series and additions are those of g
+-- the statement of a month over what a tree of joins gives: its register, series and ramping files are those of g
 abbrev pub statementOver : Plan → MonthGiven → Statement
 statementOver p g = settling (withBook g (written (result p)))
 

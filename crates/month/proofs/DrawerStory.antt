@@ -54,9 +54,10 @@ use Rattle.share.specs.Sharing.{gap, lineIsSound, parts, settled, sharingInTurn
 use Rattle.register.specs.declared.Entry.{Entry}
 use Rattle.register.specs.Register.{entryLine, entryIsSound, firstBadEntry}
 use Rattle.month.specs.declared.Fault.the-variants.{NoFault}
+use Rattle.month.specs.declared.members.MemberEarned.the-variants.{Both}
 use Rattle.month.specs.declared.Row.{Row}
 use Rattle.month.specs.declared.Statement.{Statement}
-use Rattle.month.specs.Settling.{MonthGiven, isListed, isUnlisted, firstUnlisted, earnedWith, earnings, firstRefusedMember, earnedGrains}
+use Rattle.month.specs.Settling.{MonthGiven, isListed, isUnlisted, firstUnlisted, noRamping, earnedWith, earnings, firstRefusedMember, earnedGrains}
 use Rattle.month.specs.Settling.{rowOf, rowsOf, filledRows, sharedMonth, monthLines, earnedMonth, settling}
 use Rattle.month.proofs.Settled.{listed}
 use Rattle.month.proofs.Promises.{withBook}
@@ -116,13 +117,14 @@ quarters = refl
 
 -- both have the outputs s, whatever they are
 abbrev pub given : List ℕ → MonthGiven
-given s = record { entries = register; count = 2; book = []; series = s ++ s; lengths = 2976 ∷ 2976 ∷ []; added = [] }
+given s = record { entries = register; count = 2; book = []; series = s ++ s; lengths = 2976 ∷ 2976 ∷ []; ramped = [] }
 
 -- a line of the statement
 abbrev pub row : ℕ → ℕ → ℕ → ℤ → ℤ → Row
 row number grains compensation share amount =
     record {
       number = number;
+      hours = 0;
       grains = record { 0 = grains };
       compensation = record { 0 = compensation };
       assessment = record { 0 = 0 };
@@ -218,12 +220,12 @@ module _ (s : List ℕ) (long : length s ≡ 2976) (within : ValuesWithin s 2976
 
     -- the month over it, from what its members earn
     settled-one : (x y : ℕ) → isUnlisted register c ≡ false → ofCall (member 3) s c ≡ Accepted (record { 0 = x }) → ofCall (member 5) s c ≡ Accepted (record { 0 = y })
-        → settling (withBook (given s) (one c)) ≡ earnedMonth register (one c) (Accepted (record { 0 = grainsPlus x 0 }) ∷ Accepted (record { 0 = grainsPlus y 0 }) ∷ [])
+        → settling (withBook (given s) (one c)) ≡ earnedMonth register (one c) [] (Both (record { 0 = grainsPlus x 0 }) ∷ Both (record { 0 = grainsPlus y 0 }) ∷ [])
     unfolding callsOf earnings earnedWith
     settled-one x y u e f =
         sym (listed (withBook (given s) (one c)) both-listed (ap (λ (v : Verdict). v .number) (sound-accepted (one c) (one-sound c w)))
         (countAt (one c)) (firstUnlisted register (callsFrom (one c) 0 (countAt (one c)))) refl refl (omega (arith, count-one, none-unlisted)))
-        ∙ ap (earnedMonth register (one c)) (ap₂ (λ (a b : Earned). earnedWith a (record { 0 = 0 }) ∷ earnedWith b (record { 0 = 0 }) ∷ []) first next)
+        ∙ ap (earnedMonth register (one c) []) (ap₂ (λ (a b : Earned). earnedWith a noRamping ∷ earnedWith b noRamping ∷ []) first next)
       where
         first : grainsEarned (member 3) (one c) (take 2976 (s ++ s)) ≡ Accepted (record { 0 = x })
         first = ap (grainsEarned (member 3) (one c)) own-first ∙ earned-one (member 3) line-three ∙ e

@@ -9,7 +9,6 @@ use native.Mathlib.Omega.{arith}
 use borrow.Author.Tests.{eq-eqb, ne-eqb, eqb-false, ltb-true, le-ltb, not-true}
 use lib.Dec.{eqb, ltb}
 use lib.ListN.{length, getD, take, length-take}
-use Rattle.units.specs.declared.Grains.{Grains}
 use Rattle.call.specs.declared.Call.{Call}
 use Rattle.call.specs.Revising.{withdrawn}
 use Rattle.book.specs.declared.Verdict.{Verdict}
@@ -36,16 +35,20 @@ use Rattle.share.proofs.Bounds.{sound-from, sound-to}
 use Rattle.register.specs.declared.Entry.{Entry}
 use Rattle.register.specs.Register.{blankEntry, entryIsSound, firstBadEntry}
 use Rattle.register.proofs.Entries.{bad-le}
-use Rattle.month.specs.declared.Fault.the-variants.{InRegister, OfMember, InSharing}
+use Rattle.month.specs.declared.Fault.the-variants.{InRegister, OfMember, OfRamping, InSharing}
+use Rattle.month.specs.declared.Fault.{Fault}
+use Rattle.month.specs.declared.Ramped.{Ramped}
 use Rattle.month.specs.declared.Statement.{Statement}
+use Rattle.month.specs.declared.members.MemberEarned.{MemberEarned}
+use Rattle.month.specs.declared.members.MemberEarned.the-variants.{Both, NotScored, NotRamped}
 use Rattle.month.specs.Settling.{MonthGiven, isListed, isUnlisted, firstUnlisted, earnedWith, earnedGrains, firstRefusedMember, memberFault, monthRefused}
 use Rattle.month.specs.Settling.{sharedMonth, earnedMonth, settling}
-use Rattle.month.specs.Outcomes.{ownSeries, scoreOfLine, earnedIn, linesIn, sharedIn, statementOf, EntryWithin, AllWithin, FirstBadAt, RegisterWithin}
+use Rattle.month.specs.Outcomes.{ownSeries, scoreOfLine, rampedOfLine, earnedIn, linesIn, sharedIn, statementOf, EntryWithin, AllWithin, FirstBadAt, RegisterWithin}
 use Rattle.month.specs.Outcomes.{RegisterAndBook, Without, Listed, AllListed, Scored, AllScored, MonthOutcome}
-use Rattle.month.specs.Outcomes.{bad-entry, one-more, bad-book, without-line, bad-member, not-shared, settled}
-use Rattle.month.proofs.Walking.{noGrains, length-earnings}
+use Rattle.month.specs.Outcomes.{bad-entry, one-more, bad-book, without-line, bad-member, bad-ramping, not-shared, settled}
+use Rattle.month.proofs.Walking.{isBoth, length-earnings}
 use Rattle.month.proofs.Settled.{in-register, in-book, unlisted, listed, earned-refused}
-use Rattle.month.proofs.Accepted.{earned-at}
+use Rattle.month.proofs.Accepted.{earned-at, both-at, with-both}
 
 -- The register
 
@@ -196,10 +199,6 @@ abbrev numberIn : Earned → ℕ
 numberIn (Accepted y) = 0
 numberIn (Refused number place) = number
 
-abbrev placeIn : Earned → ℕ
-placeIn (Accepted y) = 0
-placeIn (Refused number place) = place
-
 -- a refusal has a number
 abbrev Numbered : Earned → Type 0
 Numbered x = isAccepted x ≡ false → numberIn x ≡ 0 → ⊥
@@ -233,116 +232,135 @@ module _ (m : Member) (b series : List ℕ) where
       go true = after-some (check b) _ (after-some (seriesFault series (quartersOf (headerAt b .year) (headerAt b .month))) _ records-some)
       go false = λ r z. omega arith
 
-in-number : (x : Earned) → inFen x .number ≡ numberIn x
-unfolding inFen
-in-number (Accepted y) = refl
-in-number (Refused number place) = refl
+-- a member's turn, by the numbers told of its score and of its ramping file
+module _ (x : Earned) (r : Ramped) (numbered : Numbered x) where
+  both-of : inFen x .number ≡ 0 → r .number ≡ 0 → isBoth (earnedWith x r) ≡ true
+  unfolding earnedWith inFen
+  both-of = go x numbered
+    where
+      go : (x : Earned) → Numbered x → inFen x .number ≡ 0 → r .number ≡ 0 → isBoth (earnedWith x r) ≡ true
+      go (Accepted y) n z w = rw (eq-eqb (r .number) 0 w) refl
+      go (Refused number place) n z w = absurd (n refl z)
 
-in-place : (x : Earned) → inFen x .place ≡ placeIn x
-unfolding inFen
-in-place (Accepted y) = refl
-in-place (Refused number place) = refl
+  score-fault : (line : ℕ) → (inFen x .number ≡ 0 → ⊥) → memberFault line (earnedWith x r) ≡ OfMember line (inFen x .number) (inFen x .place)
+  unfolding earnedWith memberFault inFen
+  score-fault line = go x
+    where
+      go : (x : Earned) → (inFen x .number ≡ 0 → ⊥) → memberFault line (earnedWith x r) ≡ OfMember line (inFen x .number) (inFen x .place)
+      go (Accepted y) some = absurd (some refl)
+      go (Refused number place) some = refl
 
-with-same : (x : Earned) (a : Grains)
-    → (isAccepted (earnedWith x a) ≡ isAccepted x) × (numberIn (earnedWith x a) ≡ numberIn x) × (placeIn (earnedWith x a) ≡ placeIn x)
-unfolding earnedWith
-with-same (Accepted y) a = (refl, refl, refl)
-with-same (Refused number place) a = (refl, refl, refl)
+  ramping-fault : (line : ℕ) → inFen x .number ≡ 0 → (r .number ≡ 0 → ⊥) → memberFault line (earnedWith x r) ≡ OfRamping line (r .number) (r .place)
+  unfolding earnedWith memberFault inFen
+  ramping-fault line = go x numbered
+    where
+      go : (x : Earned) → Numbered x → inFen x .number ≡ 0 → (r .number ≡ 0 → ⊥) → memberFault line (earnedWith x r) ≡ OfRamping line (r .number) (r .place)
+      go (Accepted y) n z some = rw (ne-eqb (r .number) 0 some) refl
+      go (Refused number place) n z some = absurd (n refl z)
 
-none-number : (x : Earned) → isAccepted x ≡ true → numberIn x ≡ 0
-none-number (Accepted y) e = refl
-none-number (Refused number place) e = absurd (true≢false (sym e))
+of-both : (x : MemberEarned) → isBoth x ≡ true → x ≡ Both (earnedGrains x)
+unfolding earnedGrains
+of-both (Both g) e = refl
+of-both (NotScored number place) e = absurd (true≢false (sym e))
+of-both (NotRamped number place) e = absurd (true≢false (sym e))
 
-fault-is : (line : ℕ) (x : Earned) → isAccepted x ≡ false → memberFault line x ≡ OfMember line (numberIn x) (placeIn x)
-unfolding memberFault
-fault-is line (Accepted y) e = absurd (true≢false e)
-fault-is line (Refused number place) e = refl
-
-refused-before : (es : List Earned) (k : ℕ) (d : Earned) → k < firstRefusedMember es → isAccepted (getD es k d) ≡ true
+refused-before : (es : List MemberEarned) (k : ℕ) (d : MemberEarned) → k < firstRefusedMember es → isBoth (getD es k d) ≡ true
 unfolding firstRefusedMember
 refused-before [] k d h = absurd (omega arith)
-refused-before (Accepted y ∷ es) zero d h = refl
-refused-before (Accepted y ∷ es) (suc k) d h = refused-before es k d (omega arith)
-refused-before (Refused number place ∷ es) k d h = absurd (omega arith)
+refused-before (Both y ∷ es) zero d h = refl
+refused-before (Both y ∷ es) (suc k) d h = refused-before es k d (omega arith)
+refused-before (NotScored number place ∷ es) k d h = absurd (omega arith)
+refused-before (NotRamped number place ∷ es) k d h = absurd (omega arith)
 
-refused-here : (es : List Earned) (d : Earned) → firstRefusedMember es < length es → isAccepted (getD es (firstRefusedMember es) d) ≡ false
+refused-here : (es : List MemberEarned) (d : MemberEarned) → firstRefusedMember es < length es → isBoth (getD es (firstRefusedMember es) d) ≡ false
 unfolding firstRefusedMember
 refused-here [] d h = absurd (omega arith)
-refused-here (Accepted y ∷ es) d h = refused-here es d (omega arith)
-refused-here (Refused number place ∷ es) d h = refl
+refused-here (Both y ∷ es) d h = refused-here es d (omega arith)
+refused-here (NotScored number place ∷ es) d h = refl
+refused-here (NotRamped number place ∷ es) d h = refl
 
-refused-is : (es : List Earned) (p : ℕ) (d : Earned) → p ≤ length es → ((k : ℕ) → k < p → isAccepted (getD es k d) ≡ true)
-    → (p < length es → isAccepted (getD es p d) ≡ false) → firstRefusedMember es ≡ p
+refused-is : (es : List MemberEarned) (p : ℕ) (d : MemberEarned) → p ≤ length es → ((k : ℕ) → k < p → isBoth (getD es k d) ≡ true)
+    → (p < length es → isBoth (getD es p d) ≡ false) → firstRefusedMember es ≡ p
 unfolding firstRefusedMember
 refused-is [] p d h b a = omega arith
-refused-is (Accepted y ∷ es) zero d h b a = absurd (true≢false (a (omega arith)))
-refused-is (Accepted y ∷ es) (suc p) d h b a = ap suc (refused-is es p d (omega arith) (λ k l. b (suc k) (omega arith)) (λ l. a (omega arith)))
-refused-is (Refused number place ∷ es) zero d h b a = refl
-refused-is (Refused number place ∷ es) (suc p) d h b a = absurd (true≢false (sym (b 0 (omega arith))))
+refused-is (Both y ∷ es) zero d h b a = absurd (true≢false (a (omega arith)))
+refused-is (Both y ∷ es) (suc p) d h b a = ap suc (refused-is es p d (omega arith) (λ k l. b (suc k) (omega arith)) (λ l. a (omega arith)))
+refused-is (NotScored number place ∷ es) zero d h b a = refl
+refused-is (NotScored number place ∷ es) (suc p) d h b a = absurd (true≢false (sym (b 0 (omega arith))))
+refused-is (NotRamped number place ∷ es) zero d h b a = refl
+refused-is (NotRamped number place ∷ es) (suc p) d h b a = absurd (true≢false (sym (b 0 (omega arith))))
 
 module _ (g : MonthGiven) where
-  abbrev at : ℕ → Earned
-  at i = getD (earnedIn g) i (Refused 0 0)
+  abbrev at : ℕ → MemberEarned
+  at i = getD (earnedIn g) i (NotScored 0 0)
 
   abbrev ownOf : ℕ → Earned
   ownOf i = grainsEarned (getD (g .entries) i blankEntry .member) (g .book) (ownSeries (g .series) (g .lengths) i)
 
+  -- line i's score and ramping file are good
+  abbrev Good : ℕ → Type 0
+  Good i = (scoreOfLine g i .number ≡ 0) × (rampedOfLine g i .number ≡ 0)
+
   earned-long : length (earnedIn g) ≡ length (g .entries)
-  earned-long = length-earnings (g .entries) (g .book) (g .series) (g .lengths) (g .added)
+  earned-long = length-earnings (g .entries) (g .book) (g .series) (g .lengths) (g .ramped)
 
-  -- what is told of line i's score and of what its member earned is the same
-  pub record SameTold (i : ℕ) : Type 0 where
-    pub number : scoreOfLine g i .number ≡ numberIn (at i)
-    pub place : scoreOfLine g i .place ≡ placeIn (at i)
-    pub numbered : Numbered (at i)
+  score-of : (i : ℕ) → scoreOfLine g i ≡ inFen (ownOf i)
+  score-of i = score-is _ _ _ (ownOf i) refl
 
-  same-told : (i : ℕ) → i < length (g .entries) → SameTold i
-  same-told i h =
-      let e = earned-at (g .entries) (g .book) (g .series) (g .lengths) (g .added) i (Refused 0 0) h in
-      let w = with-same (ownOf i) (getD (g .added) i noGrains) in
-      let s = score-is _ _ _ (ownOf i) refl in
-      record {
-        number = ap (λ (r : Score). r .number) s ∙ in-number (ownOf i) ∙ sym (ap numberIn e ∙ w .1);
-        place = ap (λ (r : Score). r .place) s ∙ in-place (ownOf i) ∙ sym (ap placeIn e ∙ w .2);
-        numbered = λ r z. earned-some _ _ _ (sym (ap isAccepted e ∙ w .0) ∙ r) (sym (ap numberIn e ∙ w .1) ∙ z);
-      }
+  number-of : (i : ℕ) → scoreOfLine g i .number ≡ inFen (ownOf i) .number
+  number-of i = ap (λ (s : Score). s .number) (score-of i)
+
+  turn-of : (i : ℕ) → i < length (g .entries) → at i ≡ earnedWith (ownOf i) (rampedOfLine g i)
+  turn-of i h = earned-at (g .entries) (g .book) (g .series) (g .lengths) (g .ramped) i (NotScored 0 0) h
+
+  good-from : (i : ℕ) → i < length (g .entries) → isBoth (at i) ≡ true → Good i
+  good-from i h e =
+      let w = with-both (ownOf i) (rampedOfLine g i) (earnedGrains (at i)) (sym (turn-of i h) ∙ of-both (at i) e) in
+      (number-of i ∙ w .0, w .1)
+
+  good-to : (i : ℕ) → i < length (g .entries) → Good i → isBoth (at i) ≡ true
+  good-to i h w = ap isBoth (turn-of i h) ∙ both-of (ownOf i) (rampedOfLine g i) (earned-some _ _ _) (sym (number-of i) ∙ w .0) (w .1)
 
   scored-from : (p : ℕ) → p ≤ firstRefusedMember (earnedIn g) → p ≤ length (g .entries) → Scored g p
-  scored-from p h l k j = same-told k (omega arith) .number ∙ none-number (at k) (refused-before (earnedIn g) k (Refused 0 0) (omega arith))
+  scored-from p h l k j = good-from k (omega arith) (refused-before (earnedIn g) k (NotScored 0 0) (omega arith))
 
-  yes-or-no : (t : Bool) → (t ≡ false → ⊥) → t ≡ true
-  yes-or-no true h = refl
-  yes-or-no false h = absurd (h refl)
-
-  first-refused : (p : ℕ) → p ≤ length (g .entries) → Scored g p → (p < length (g .entries) → scoreOfLine g p .number ≡ 0 → ⊥) → firstRefusedMember (earnedIn g) ≡ p
+  first-refused : (p : ℕ) → p ≤ length (g .entries) → Scored g p → (p < length (g .entries) → Good p → ⊥) → firstRefusedMember (earnedIn g) ≡ p
   first-refused p h b a =
       let long = earned-long in
-      refused-is (earnedIn g) p (Refused 0 0) (omega arith)
-      (λ k l. let t = same-told k (omega arith) in yes-or-no (isAccepted (at k)) (λ r. t .numbered r (sym (t .number) ∙ b k l)))
-      (λ l. let m : p < length (g .entries) = omega arith in let t = same-told p m in not-yes (isAccepted (at p)) (λ r. a m (t .number ∙ none-number (at p) r)))
+      refused-is (earnedIn g) p (NotScored 0 0) (omega arith)
+      (λ k l. good-to k (omega arith) (b k l))
+      (λ l. let m : p < length (g .entries) = omega arith in not-yes (isBoth (at p)) (λ e. a m (good-from p m e)))
 
   -- the months that go on to sharing
   abbrev rest : Statement
-  rest = earnedMonth (g .entries) (g .book) (earnedIn g)
+  rest = earnedMonth (g .entries) (g .book) (g .ramped) (earnedIn g)
 
-  at-fault : (i : ℕ) → i < length (g .entries) → firstRefusedMember (earnedIn g) ≡ i → (scoreOfLine g i .number ≡ 0 → ⊥)
+  at-fault : (i : ℕ) (fault : Fault) → i < length (g .entries) → firstRefusedMember (earnedIn g) ≡ i → fault ≡ memberFault i (earnedWith (ownOf i) (rampedOfLine g i))
+      → monthRefused fault ≡ rest
+  at-fault i fault h e is =
+      earned-refused (g .entries) (g .book) (g .ramped) (earnedIn g) fault (omega (arith, earned-long))
+      (is ∙ rw (e, turn-of i h) refl)
+
+  at-score : (i : ℕ) → i < length (g .entries) → firstRefusedMember (earnedIn g) ≡ i → (scoreOfLine g i .number ≡ 0 → ⊥)
       → monthRefused (OfMember i (scoreOfLine g i .number) (scoreOfLine g i .place)) ≡ rest
-  at-fault i h e some =
-      let t = same-told i h in
-      let r : isAccepted (at i) ≡ false = not-yes (isAccepted (at i)) (λ a. some (t .number ∙ none-number (at i) a)) in
-      earned-refused (g .entries) (g .book) (earnedIn g) _ (omega (arith, earned-long))
-      (rw (e, t .number, t .place) (sym (fault-is i (at i) r)))
+  at-score i h e some =
+      at-fault i _ h e
+      (rw (score-of i) (sym (score-fault (ownOf i) (rampedOfLine g i) (earned-some _ _ _) i (λ z. some (number-of i ∙ z)))))
 
-  shared-on : length (g .entries) ≤ firstRefusedMember (earnedIn g) → rest ≡ sharedMonth (g .book) (linesIn g) (map earnedGrains (earnedIn g)) (sharedIn g)
+  at-ramping : (i : ℕ) → i < length (g .entries) → firstRefusedMember (earnedIn g) ≡ i → scoreOfLine g i .number ≡ 0 → (rampedOfLine g i .number ≡ 0 → ⊥)
+      → monthRefused (OfRamping i (rampedOfLine g i .number) (rampedOfLine g i .place)) ≡ rest
+  at-ramping i h e z some = at-fault i _ h e (sym (ramping-fault (ownOf i) (rampedOfLine g i) (earned-some _ _ _) i (sym (number-of i) ∙ z) some))
+
+  shared-on : length (g .entries) ≤ firstRefusedMember (earnedIn g) → rest ≡ sharedMonth (g .book) (linesIn g) (map earnedGrains (earnedIn g)) (g .ramped) (sharedIn g)
   unfolding earnedMonth
   shared-on h = rw (le-ltb (firstRefusedMember (earnedIn g)) (length (earnedIn g)) (omega (arith, earned-long))) refl
 
   shared-no : (sharedIn g .number ≡ 0 → ⊥)
-      → sharedMonth (g .book) (linesIn g) (map earnedGrains (earnedIn g)) (sharedIn g) ≡ monthRefused (InSharing (sharedIn g .number) (sharedIn g .place))
+      → sharedMonth (g .book) (linesIn g) (map earnedGrains (earnedIn g)) (g .ramped) (sharedIn g) ≡ monthRefused (InSharing (sharedIn g .number) (sharedIn g .place))
   unfolding sharedMonth
   shared-no some = rw (ne-eqb (sharedIn g .number) 0 some) refl
 
-  shared-yes : sharedIn g .number ≡ 0 → sharedMonth (g .book) (linesIn g) (map earnedGrains (earnedIn g)) (sharedIn g) ≡ statementOf g
+  shared-yes : sharedIn g .number ≡ 0 → sharedMonth (g .book) (linesIn g) (map earnedGrains (earnedIn g)) (g .ramped) (sharedIn g) ≡ statementOf g
   unfolding sharedMonth
   shared-yes z = rw (eq-eqb (sharedIn g .number) 0 z) refl
 
@@ -373,7 +391,7 @@ module _ (g : MonthGiven) (fits : length (g .entries) ≤ g .count) where
       let e = first-without g (countAt (g .book)) (omega arith) (w .listed) (λ l. absurd (omega arith)) in
       listed g (register-sound (w .front .register)) (book-none (w .front .book)) (countAt (g .book)) call refl call-is (omega arith)
 
-  at-sharing : AllScored g → settling g ≡ sharedMonth (g .book) (linesIn g) (map earnedGrains (earnedIn g)) (sharedIn g)
+  at-sharing : AllScored g → settling g ≡ sharedMonth (g .book) (linesIn g) (map earnedGrains (earnedIn g)) (g .ramped) (sharedIn g)
   at-sharing w =
       let e = first-refused g (length (g .entries)) (omega arith) (w .scored) (λ l. absurd (omega arith)) in
       sym (goes-on (w .front)) ∙ shared-on g (omega arith)
@@ -386,12 +404,15 @@ module _ (g : MonthGiven) (fits : length (g .entries) ≤ g .count) where
       shared w (yes z) = settled (at-sharing w ∙ shared-yes g z) w z
       shared w (no some) = not-shared (at-sharing w ∙ shared-no g some) w some
 
+      refused : AllListed g → first < length (g .entries) → Dec (scoreOfLine g first .number ≡ 0) → MonthOutcome g (settling g)
+      refused w h (no some) = bad-member first (sym (at-score g first h refl some ∙ goes-on w)) w h (scored-from g first (omega arith) (omega arith)) some
+      refused w h (yes z) =
+          let r = refused-here (earnedIn g) (NotScored 0 0) (omega (arith, earned-long g)) in
+          let some : rampedOfLine g first .number ≡ 0 → ⊥ = λ y. true≢false (sym (good-to g first h (z, y)) ∙ r) in
+          bad-ramping first (sym (at-ramping g first h refl z some ∙ goes-on w)) w h (scored-from g first (omega arith) (omega arith)) z some
+
       members : AllListed g → Dec (first < length (g .entries)) → MonthOutcome g (settling g)
-      members w (yes h) =
-          let t = same-told g first h in
-          let r = refused-here (earnedIn g) (Refused 0 0) (omega (arith, earned-long g)) in
-          let some : scoreOfLine g first .number ≡ 0 → ⊥ = λ z. t .numbered r (sym (t .number) ∙ z) in
-          bad-member first (sym (at-fault g first h refl some ∙ goes-on w)) w h (scored-from g first (omega arith) (omega arith)) some
+      members w (yes h) = refused w h (ℕ-discrete (scoreOfLine g first .number) 0)
       members w (no f) =
           let all : AllScored g = record { front = w; scored = scored-from g (length (g .entries)) (omega arith) (omega arith) } in
           shared all (ℕ-discrete (sharedIn g .number) 0)
@@ -432,7 +453,8 @@ module _ (g : MonthGiven) (fits : length (g .entries) ≤ g .count) where
   decides s (without-line i e w h l n) =
       let is = first-without g i (omega arith) l (λ k. n) in
       e ∙ unlisted g (register-sound (w .register)) (book-none (w .book)) (countAt (g .book)) i refl (sym is ∙ call-is) h
-  decides s (bad-member i e w h l n) = e ∙ at-fault g i h (first-refused g i (omega arith) l (λ k. n)) n ∙ goes-on w
+  decides s (bad-member i e w h l n) = e ∙ at-score g i h (first-refused g i (omega arith) l (λ k q. n (q .0))) n ∙ goes-on w
+  decides s (bad-ramping i e w h l z n) = e ∙ at-ramping g i h (first-refused g i (omega arith) l (λ k q. n (q .1))) z n ∙ goes-on w
   decides s (not-shared e w n) = e ∙ sym (at-sharing w ∙ shared-no g n)
   decides s (settled e w z) = e ∙ sym (at-sharing w ∙ shared-yes g z)
 
@@ -441,7 +463,7 @@ module _ (g : MonthGiven) (fits : length (g .entries) ≤ g .count) where
   outcome-exact s = (λ e. rw e outcome, decides s)
 
 -- The same of what `settle` is given: the first lines of an array, no more than it counts.
-pub settle-exact : (entries : List Entry) (count : ℕ) (book series lengths : List ℕ) (added : List Grains) (s : Statement)
-    → let g : MonthGiven = record { entries = take count entries; count = count; book = book; series = series; lengths = lengths; added = added } in
+pub settle-exact : (entries : List Entry) (count : ℕ) (book series lengths : List ℕ) (ramped : List Ramped) (s : Statement)
+    → let g : MonthGiven = record { entries = take count entries; count = count; book = book; series = series; lengths = lengths; ramped = ramped } in
     (s ≡ settling g) ↔ MonthOutcome g s
-settle-exact entries count book series lengths added s = outcome-exact _ (omega (arith, length-take count entries)) s
+settle-exact entries count book series lengths ramped s = outcome-exact _ (omega (arith, length-take count entries)) s

@@ -3,7 +3,6 @@ pub mod Walking
 pub mod Statements
 pub mod Settled
 pub mod Accepted
-pub mod Bounds
 pub mod Promises
 pub mod Exact
 pub mod Withdrawn

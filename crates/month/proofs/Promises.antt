@@ -2,14 +2,13 @@
 use mathlib.Core.Path.{_≡_, refl, sym, ap, ap₂, _∙_}
 use mathlib.Core.Bool.{Bool}
 use mathlib.Core.List.{List, [], _∷_, _++_, map}
-use Prim.Native.Nat.{ℕ, zero, suc, _-_, _*_, _≤_, _<_}
+use Prim.Native.Nat.{ℕ, zero, suc, _+_, _-_, _*_, _≤_, _<_}
 use native.Mathlib.Nat.{add-zero}
 use native.Mathlib.Omega.{arith}
 use lib.IntN.{ℤ, pos, natAbs, _+ℤ_, _-ℤ_}
 use lib.ListN.{length, getD, replicate}
 use Rattle.units.specs.declared.Grains.{Grains}
 use Rattle.units.specs.Money.{grainsToFen, grainsPlus, fenPerThousandth}
-use Rattle.units.proofs.Laws.{plus-sum}
 use Rattle.book.specs.declared.Header.{Header}
 use Rattle.book.specs.Book.{version, mostRecords, headerAt, callsOf}
 use Rattle.book.specs.Sound.{Sound}
@@ -17,12 +16,11 @@ use Rattle.book.proofs.Exact.{one-to-one}
 use Rattle.join.specs.Joining.{keyCount}
 use Rattle.join.specs.Trees.{Plan, written, result, Room, OneMonth, Covers}
 use Rattle.join.proofs.Orders.{same-bytes}
-use Rattle.score.specs.declared.answer.Earned.{Earned}
-use Rattle.score.specs.declared.answer.Earned.the-variants.{Accepted, Refused}
 use Rattle.score.specs.declared.answer.Score.{Score}
-use Rattle.score.specs.Scoring.{inFen, grainsEarned}
+use Rattle.score.specs.Scoring.{grainsEarned}
 use Rattle.score.proofs.Turns.{score-is}
 use Rattle.score.proofs.Exact.{fen-once}
+use Rattle.score.proofs.Most.{mostRamping, hours-fit}
 use Rattle.apportion.specs.Apportion.{apportion}
 use Rattle.share.specs.declared.Line.{Line}
 use Rattle.share.specs.Sharing.{Part, partOf, parts, below, gap, weightOf, weights, SharingOutcome, sharing}
@@ -33,13 +31,14 @@ use Rattle.share.proofs.Promises.{sumℤ, gap-is, adds-to-gap, adds-to-zero}
 use Rattle.register.specs.declared.Entry.{Entry}
 use Rattle.register.specs.Register.{blankEntry, entryLine}
 use Rattle.month.specs.declared.Fault.the-variants.{NoFault}
+use Rattle.month.specs.declared.Ramped.{Ramped}
 use Rattle.month.specs.declared.Row.{Row}
 use Rattle.month.specs.declared.Statement.{Statement}
+use Rattle.month.specs.declared.members.MemberEarned.the-variants.{NotScored}
 use Rattle.month.specs.Settling.{MonthGiven, earnedGrains, rowOf, rowsOf, blankRow, filledRows, settling}
 use Rattle.month.proofs.Walking.{noGrains, length-earnings}
-use Rattle.month.specs.Outcomes.{ownSeries, scoreOfLine, earnedIn, linesIn, grainsIn}
-use Rattle.month.proofs.Accepted.{rowsSettled, passed, accepted-at, earned-at, with-accepted, noPart, length-in, settled-row, grains-at, line-in}
-use Rattle.month.proofs.Bounds.{score-most}
+use Rattle.month.specs.Outcomes.{ownSeries, scoreOfLine, rampedOfLine, earnedIn, linesIn, grainsIn}
+use Rattle.month.proofs.Accepted.{rowsSettled, passed, both-at, earned-at, with-both, noPart, length-in, settled-row, grains-at, line-in}
 
 -- Two statements that the contract of `settle` allows are one.
 pub settle-determined : (g : MonthGiven) (r s : Statement) → r ≡ settling g → s ≡ settling g → r ≡ s
@@ -55,44 +54,45 @@ rowOfLine g i = getD (settling g .rows) i blankRow
 abbrev pub entryOfLine : MonthGiven → ℕ → Entry
 entryOfLine g i = getD (g .entries) i blankEntry
 
--- what is added to line i
-abbrev pub addedTo : MonthGiven → ℕ → Grains
-addedTo g i = getD (g .added) i noGrains
-
-score-accepted : (x : Earned) (y : Grains) (s : Score) → x ≡ Accepted y → s ≡ inFen x → (s .number ≡ 0) × (s .grains ≡ y)
-unfolding inFen
-score-accepted x y s e h =
-    let is = h ∙ ap inFen e in
-    (ap (λ (r : Score). r .number) is, ap (λ (r : Score). r .grains) is)
-
 module _ (g : MonthGiven) (none : settling g .fault ≡ NoFault) where
-  -- In a statement each line's member has a score over the book and its own part of the series; the line's grains are that score's, with what
-  -- is added; and its compensation is the fen of them, rounded once.
+  -- In a statement each line's member has a score over the book and its own part of the series, and its ramping file is good; the line's grains are
+  -- the score's and the hours' together; and its compensation is the fen of them, rounded once.
   pub compensation-is : (i : ℕ) → i < length (g .entries)
       → (scoreOfLine g i .number ≡ 0)
-      × (rowOfLine g i .grains .0 ≡ grainsPlus (scoreOfLine g i .grains .0) (addedTo g i .0))
+      × (rampedOfLine g i .number ≡ 0)
+      × (rowOfLine g i .grains .0 ≡ grainsPlus (scoreOfLine g i .grains .0) (rampedOfLine g i .grains .0))
       × (rowOfLine g i .compensation .0 ≡ grainsToFen (rowOfLine g i .grains .0))
   unfolding rowOf entryLine
   compensation-is i h =
       let p = passed g none in
-      let long = length-earnings (g .entries) (g .book) (g .series) (g .lengths) (g .added) in
+      let long = length-earnings (g .entries) (g .book) (g .series) (g .lengths) (g .ramped) in
       let own = grainsEarned (getD (g .entries) i blankEntry .member) (g .book) (ownSeries (g .series) (g .lengths) i) in
-      let e = earned-at (g .entries) (g .book) (g .series) (g .lengths) (g .added) i (Refused 0 0) h in
-      let a = accepted-at (earnedIn g) i (Refused 0 0) (p .members) (omega arith) in
-      let w = with-accepted own (addedTo g i) (earnedGrains (getD (earnedIn g) i (Refused 0 0))) (sym e ∙ a) in
-      let s = score-accepted own (earnedGrains own) (scoreOfLine g i) (w .0) (score-is _ _ _ own refl) in
+      let e = earned-at (g .entries) (g .book) (g .series) (g .lengths) (g .ramped) i (NotScored 0 0) h in
+      let a = both-at (earnedIn g) i (NotScored 0 0) (p .members) (omega arith) in
+      let w = with-both own (rampedOfLine g i) (earnedGrains (getD (earnedIn g) i (NotScored 0 0))) (sym e ∙ a) in
+      let s = score-is _ _ _ own refl in
       let row = settled-row g i p h in
       let gs : rowOfLine g i .grains ≡ getD (grainsIn g) i noGrains = ap (λ (r : Row). r .grains) row in
       let fen : rowOfLine g i .compensation .0 ≡ grainsToFen (getD (grainsIn g) i noGrains .0) =
       ap (λ (r : Row). r .compensation .0) row ∙ ap (λ (l : Line). l .compensation .0) (line-in g i h) in (
-        s .0,
-        ap (λ (x : Grains). x .0) (gs ∙ grains-at g i h) ∙ w .1 ∙ sym (ap (λ (x : Grains). grainsPlus (x .0) (addedTo g i .0)) (s .1)),
+        ap (λ (x : Score). x .number) s ∙ w .0,
+        w .1,
+        ap (λ (x : Grains). x .0) (gs ∙ grains-at g i h) ∙ w .2 ∙ sym (ap (λ (x : Score). grainsPlus (x .grains .0) (rampedOfLine g i .grains .0)) s),
         fen ∙ sym (ap (λ (x : Grains). grainsToFen (x .0)) gs),
       )
 
-  -- EACH ROW IS ITS OWN ENTRY'S: its number, its energy, its assessment, and the weight of that energy and status with the compensation told.
+  -- A MONTH'S HOURS AND A SCORE NEVER REACH THE TOP: where the hours' grains are at most those of 744 hours, the line's are the sum, nothing held.
+  pub never-held : (i : ℕ) → i < length (g .entries) → rampedOfLine g i .grains .0 ≤ mostRamping
+      → rowOfLine g i .grains .0 ≡ scoreOfLine g i .grains .0 + rampedOfLine g i .grains .0
+  never-held i h l =
+      let c = compensation-is i h in
+      c .2 ∙ hours-fit (entryOfLine g i .member) (g .book) (ownSeries (g .series) (g .lengths) i) (c .0) (rampedOfLine g i .grains .0) l
+
+  -- EACH ROW IS ITS OWN ENTRY'S: its number, its ramping hours, its energy, its assessment, and the weight of that energy and status with the
+  -- compensation told.
   pub line-is : (i : ℕ) → i < length (g .entries)
       → (rowOfLine g i .number ≡ entryOfLine g i .member .number)
+      × (rowOfLine g i .hours ≡ rampedOfLine g i .hours)
       × (rowOfLine g i .energy ≡ entryOfLine g i .energy)
       × (rowOfLine g i .assessment ≡ entryOfLine g i .assessment)
       × (rowOfLine g i .weight ≡ weightOf (below (linesIn g)) (entryLine (entryOfLine g i) (rowOfLine g i .compensation)))
@@ -100,8 +100,9 @@ module _ (g : MonthGiven) (none : settling g .fault ≡ NoFault) where
   line-is i h =
       let row =
       settled-row g i (passed g none) h
-      ∙ ap (λ (l : Line). rowOf (below (linesIn g)) l (getD (grainsIn g) i noGrains) (getD (sharing (linesIn g) .parts) i noPart)) (line-in g i h) in (
+      ∙ ap (λ (l : Line). rowOf (below (linesIn g)) l (getD (grainsIn g) i noGrains) (rampedOfLine g i .hours) (getD (sharing (linesIn g) .parts) i noPart)) (line-in g i h) in (
         ap (λ (r : Row). r .number) row,
+        ap (λ (r : Row). r .hours) row,
         ap (λ (r : Row). r .energy) row,
         ap (λ (r : Row). r .assessment) row,
         ap (λ (r : Row). r .weight) row,
@@ -111,17 +112,15 @@ module _ (g : MonthGiven) (none : settling g .fault ≡ NoFault) where
   pub line-count : settling g .count ≡ length (g .entries)
   line-count = ap (λ (s : Statement). s .count) (passed g none .is) ∙ length-in g
 
-  -- Where nothing is added, they are the score's own grains and fen.
-  pub compensation-alone : (i : ℕ) → i < length (g .entries) → addedTo g i .0 ≡ 0
+  -- Where the hours pay nothing, as where there is no file, they are the score's own grains and fen.
+  pub compensation-alone : (i : ℕ) → i < length (g .entries) → rampedOfLine g i .grains .0 ≡ 0
       → (rowOfLine g i .grains ≡ scoreOfLine g i .grains) × (rowOfLine g i .compensation ≡ scoreOfLine g i .fen)
   compensation-alone i h z =
       let c = compensation-is i h in
-      let m = getD (g .entries) i blankEntry .member in
-      let own = ownSeries (g .series) (g .lengths) i in
-      let top = score-most m (g .book) own (c .0) in
       let same : rowOfLine g i .grains .0 ≡ scoreOfLine g i .grains .0 =
-      c .1 ∙ ap (grainsPlus (scoreOfLine g i .grains .0)) z ∙ plus-sum (scoreOfLine g i .grains .0) 0 (omega arith) ∙ add-zero _ in
-      let fen : rowOfLine g i .compensation .0 ≡ scoreOfLine g i .fen .0 = c .2 ∙ ap grainsToFen same ∙ sym (fen-once m (g .book) own) in
+      never-held i h (omega arith) ∙ ap (λ (n : ℕ). scoreOfLine g i .grains .0 + n) z ∙ add-zero _ in
+      let fen : rowOfLine g i .compensation .0 ≡ scoreOfLine g i .fen .0 =
+      c .3 ∙ ap grainsToFen same ∙ sym (fen-once (entryOfLine g i .member) (g .book) (ownSeries (g .series) (g .lengths) i)) in
       (ap (λ (n : ℕ). record { 0 = n }) same, ap (λ (n : ℕ). record { 0 = n }) fen)
 
   -- Each amount is made of its own line: compensation less assessment, and the share.
@@ -135,8 +134,8 @@ module _ (g : MonthGiven) (none : settling g .fault ≡ NoFault) where
       let given : getD (sharing ls .parts) i noPart ≡ partOf (below ls) (getD ls i blankLine) (getD ss i 0) =
       ap (λ (o : SharingOutcome). getD (o .parts) i noPart) (taken-list ls (p .shared) .is)
       ∙ part-at (below ls) ls ss i blankLine noPart (long-shares ls) (omega (arith, length-in g)) in
-      let row : rowOfLine g i ≡ rowOf (below ls) (getD ls i blankLine) (getD (grainsIn g) i noGrains) (partOf (below ls) (getD ls i blankLine) (getD ss i 0)) =
-      settled-row g i p h ∙ ap (rowOf (below ls) (getD ls i blankLine) (getD (grainsIn g) i noGrains)) given in
+      let row : rowOfLine g i ≡ rowOf (below ls) (getD ls i blankLine) (getD (grainsIn g) i noGrains) (rampedOfLine g i .hours) (partOf (below ls) (getD ls i blankLine) (getD ss i 0)) =
+      settled-row g i p h ∙ ap (rowOf (below ls) (getD ls i blankLine) (getD (grainsIn g) i noGrains) (rampedOfLine g i .hours)) given in
       rw row refl
 
 -- What all get
@@ -146,17 +145,17 @@ blank-none f e zero = refl
 blank-none f e (suc k) = ap₂ _+ℤ_ e (blank-none f e k)
 
 -- a column of the rows, and the same of the parts
-sum-rows : (f : Row → ℤ) (h : Part → ℤ) (isBelow : Bool) → ((l : Line) (x : Grains) (p : Part) → f (rowOf isBelow l x p) ≡ h p)
-    → (ls : List Line) (gs : List Grains) (ps : List Part) (zs : List Row) → length ps ≡ length ls → sumℤ (map f zs) ≡ pos 0
-    → sumℤ (map f (rowsOf isBelow ls gs ps ++ zs)) ≡ sumℤ (map h ps)
+sum-rows : (f : Row → ℤ) (h : Part → ℤ) (isBelow : Bool) → ((l : Line) (x : Grains) (n : ℕ) (p : Part) → f (rowOf isBelow l x n p) ≡ h p)
+    → (ls : List Line) (gs : List Grains) (rs : List Ramped) (ps : List Part) (zs : List Row) → length ps ≡ length ls → sumℤ (map f zs) ≡ pos 0
+    → sumℤ (map f (rowsOf isBelow ls gs rs ps ++ zs)) ≡ sumℤ (map h ps)
 unfolding rowsOf
-sum-rows f h isBelow same [] gs [] zs e z = z
-sum-rows f h isBelow same [] gs (p ∷ ps) zs e z = absurd (omega arith)
-sum-rows f h isBelow same (l ∷ ls) gs [] zs e z = absurd (omega arith)
-sum-rows f h isBelow same (l ∷ ls) gs (p ∷ ps) zs e z = ap₂ _+ℤ_ (same l _ p) (sum-rows f h isBelow same ls _ ps zs (omega arith) z)
+sum-rows f h isBelow same [] gs rs [] zs e z = z
+sum-rows f h isBelow same [] gs rs (p ∷ ps) zs e z = absurd (omega arith)
+sum-rows f h isBelow same (l ∷ ls) gs rs [] zs e z = absurd (omega arith)
+sum-rows f h isBelow same (l ∷ ls) gs rs (p ∷ ps) zs e z = ap₂ _+ℤ_ (same l _ _ p) (sum-rows f h isBelow same ls _ _ ps zs (omega arith) z)
 
 module _ (g : MonthGiven) (none : settling g .fault ≡ NoFault) where
-  column : (f : Row → ℤ) (h : Part → ℤ) → f blankRow ≡ pos 0 → ((l : Line) (x : Grains) (p : Part) → f (rowOf (below (linesIn g)) l x p) ≡ h p)
+  column : (f : Row → ℤ) (h : Part → ℤ) → f blankRow ≡ pos 0 → ((l : Line) (x : Grains) (n : ℕ) (p : Part) → f (rowOf (below (linesIn g)) l x n p) ≡ h p)
       → sumℤ (map f (settling g .rows)) ≡ sumℤ (map h (sharing (linesIn g) .parts))
   unfolding filledRows
   column f h blank same =
@@ -164,26 +163,26 @@ module _ (g : MonthGiven) (none : settling g .fault ≡ NoFault) where
       let ls = linesIn g in
       let each = each-given _ (length ls) ls (taken-list ls (p .shared)) in
       ap (λ (s : Statement). sumℤ (map f (s .rows))) (p .is)
-      ∙ sum-rows f h (below ls) same ls (grainsIn g) (sharing ls .parts) _ each (blank-none f blank (64 - length (rowsSettled g)))
+      ∙ sum-rows f h (below ls) same ls (grainsIn g) (g .ramped) (sharing ls .parts) _ each (blank-none f blank (64 - length (rowsSettled g)))
 
   -- The amounts of a statement add up to zero.
   pub amounts-zero : sumℤ (map (λ r. r .amount .0) (settling g .rows)) ≡ pos 0
   unfolding blankRow rowOf
-  amounts-zero = column (λ r. r .amount .0) (λ p. p .amount) refl (λ l x p. refl) ∙ adds-to-zero (linesIn g) (passed g none .shared)
+  amounts-zero = column (λ r. r .amount .0) (λ p. p .amount) refl (λ l x n p. refl) ∙ adds-to-zero (linesIn g) (passed g none .shared)
 
   -- Its shares add up to R.
   pub shares-gap : sumℤ (map (λ r. r .share .0) (settling g .rows)) ≡ settling g .gap .0
   unfolding blankRow rowOf
   shares-gap =
       let p = passed g none in
-      column (λ r. r .share .0) (λ q. q .share) refl (λ l x q. refl) ∙ adds-to-gap (linesIn g) (p .shared)
+      column (λ r. r .share .0) (λ q. q .share) refl (λ l x n q. refl) ∙ adds-to-gap (linesIn g) (p .shared)
       ∙ sym (ap (λ (s : Statement). s .gap .0) (p .is) ∙ gap-is (linesIn g) (p .shared))
 
 -- What the book decides
 
 -- the same month from another book
 abbrev pub withBook : MonthGiven → List ℕ → MonthGiven
-withBook g b = record { entries = g .entries; count = g .count; book = b; series = g .series; lengths = g .lengths; added = g .added }
+withBook g b = record { entries = g .entries; count = g .count; book = b; series = g .series; lengths = g .lengths; ramped = g .ramped }
 
 -- A book counts by its header and its calls alone: two sound books that have them in common give one statement.
 pub book-alone : (g : MonthGiven) (b b′ : List ℕ) → Sound b → Sound b′ → headerAt b ≡ headerAt b′ → callsOf b ≡ callsOf b′

@@ -18,8 +18,6 @@ use Rattle.book.specs.declared.Header.{Header}
 use Rattle.book.specs.declared.Verdict.{Verdict}
 use Rattle.book.specs.Book.{headerAt, countAt, callsFrom, callsOf}
 use Rattle.book.specs.Check.{check}
-use Rattle.score.specs.declared.answer.Earned.{Earned}
-use Rattle.score.specs.declared.answer.Earned.the-variants.{Refused}
 use Rattle.share.specs.declared.Line.{Line}
 use Rattle.share.specs.declared.Shared.{Shared}
 use Rattle.share.specs.Sharing.{Part, below, gap, assessed, compensated, firstBadLine, sharing, mostNumber}
@@ -33,8 +31,11 @@ use Rattle.share.proofs.Bounds.{all-within}
 use Rattle.share.proofs.Signs.{diff-up, diff-down}
 use Rattle.share.proofs.Outcomes.{Taken, taken-list, each-given}
 use Rattle.share.proofs.Promises.{gap-is}
+use Rattle.month.specs.declared.Ramped.{Ramped}
 use Rattle.month.specs.declared.Row.{Row}
 use Rattle.month.specs.declared.Statement.{Statement}
+use Rattle.month.specs.declared.members.MemberEarned.{MemberEarned}
+use Rattle.month.specs.declared.members.MemberEarned.the-variants.{NotScored}
 use Rattle.register.specs.declared.Entry.{Entry}
 use Rattle.register.specs.Register.{firstBadEntry, linesFor}
 use Rattle.register.proofs.Entries.{bad-le, take-lines}
@@ -81,7 +82,7 @@ within-filled ps ls e w i d h =
     subst LineWithin (sym is) (record { energy = k .energy; compensation = k .compensation; assessment = k .assessment })
 
 -- The sharing of the first lines of an array
-module _ (book : List ℕ) (lines : List Line) (grains : List Grains) (count : ℕ) (h : count ≤ 64) (long : length lines ≡ 64)
+module _ (book : List ℕ) (lines : List Line) (grains : List Grains) (ramped : List Ramped) (count : ℕ) (h : count ≤ 64) (long : length lines ≡ 64)
     (s : Shared) (is : s ≡ sharedArray lines count) where
   abbrev ls : List Line
   ls = take count lines
@@ -96,7 +97,7 @@ module _ (book : List ℕ) (lines : List Line) (grains : List Grains) (count : �
   number-is : s .number ≡ sharing ls .number
   number-is = ap (λ (x : Shared). x .number) array-is
 
-  pub shared-refused : (s .number ≡ 0 → ⊥) → monthRefused (InSharing (s .number) (s .place)) ≡ sharedMonth book ls (take count grains) (sharing ls)
+  pub shared-refused : (s .number ≡ 0 → ⊥) → monthRefused (InSharing (s .number) (s .place)) ≡ sharedMonth book ls (take count grains) ramped (sharing ls)
   unfolding sharedMonth
   shared-refused some =
       rw (number-is, ap (λ (x : Shared). x .place) array-is, ne-eqb (sharing ls .number) 0 (λ e. some (number-is ∙ e))) refl
@@ -130,12 +131,12 @@ module _ (book : List ℕ) (lines : List Line) (grains : List Grains) (count : �
     below-told = ap (λ (z : ℤ). ltZ z (pos 0)) gap-told ∙ below-is (assessed ls) (compensated ls)
 
     pub shared-is : (header : Header) (calls : ℕ) (negative : Bool) (rows : List Row) → header ≡ headerAt book → calls ≡ countAt book
-        → negative ≡ ltZ (s .gap .0) (pos 0) → rows ≡ filledRows (rowsIn negative (take count (s .lines)) (take count grains))
-        → _≡_ {A = Statement} (record { fault = NoFault; header = header; calls = calls; gap = s .gap; count = count; rows = rows }) (sharedMonth book ls (take count grains) (sharing ls))
+        → negative ≡ ltZ (s .gap .0) (pos 0) → rows ≡ filledRows (rowsIn negative (take count (s .lines)) (take count grains) ramped)
+        → _≡_ {A = Statement} (record { fault = NoFault; header = header; calls = calls; gap = s .gap; count = count; rows = rows }) (sharedMonth book ls (take count grains) ramped (sharing ls))
     unfolding sharedMonth
     shared-is header calls negative rows eh ec en er =
-        let all : rows ≡ filledRows (rowsOf (below ls) ls (take count grains) (sharing ls .parts)) =
-        er ∙ rw (en, below-told, lines-are) (ap filledRows (rows-filled (below ls) ls (take count grains) (sharing ls .parts) each)) in
+        let all : rows ≡ filledRows (rowsOf (below ls) ls (take count grains) ramped (sharing ls .parts)) =
+        er ∙ rw (en, below-told, lines-are) (ap filledRows (rows-filled (below ls) ls (take count grains) ramped (sharing ls .parts) each)) in
         let g : s .gap .0 ≡ sharing ls .gap = ap (λ (x : Shared). x .gap .0) array-is in
         rw (eq-eqb (sharing ls .number) 0 none-told)
         (λ i. record { fault = NoFault; header = eh i; calls = ec i; gap = record { 0 = g i }; count = sym length-ls i; rows = all i })
@@ -148,16 +149,16 @@ module _ {A B : Type 0} (f : A → B) where
   take-map (suc n) [] = refl
   take-map (suc n) (x ∷ xs) = ap (λ (ys : List B). f x ∷ ys) (take-map n xs)
 
-pub earned-refused : (es : List Entry) (book : List ℕ) (earned : List Earned) (fault : Fault) → firstRefusedMember earned < length earned
-    → fault ≡ memberFault (firstRefusedMember earned) (getD earned (firstRefusedMember earned) (Refused 0 0)) → monthRefused fault ≡ earnedMonth es book earned
+pub earned-refused : (es : List Entry) (book : List ℕ) (ramped : List Ramped) (earned : List MemberEarned) (fault : Fault) → firstRefusedMember earned < length earned
+    → fault ≡ memberFault (firstRefusedMember earned) (getD earned (firstRefusedMember earned) (NotScored 0 0)) → monthRefused fault ≡ earnedMonth es book ramped earned
 unfolding earnedMonth
-earned-refused es book earned fault h e = rw (lt-ltb _ _ h, e) refl
+earned-refused es book ramped earned fault h e = rw (lt-ltb _ _ h, e) refl
 
-pub earned-shared : (entries : List Entry) (book : List ℕ) (earned : List Earned) (count : ℕ) (grains : List Grains) (fens : List Fen) (lines : List Line)
+pub earned-shared : (entries : List Entry) (book : List ℕ) (ramped : List Ramped) (earned : List MemberEarned) (count : ℕ) (grains : List Grains) (fens : List Fen) (lines : List Line)
     → firstRefusedMember earned ≡ length earned → take count grains ≡ map earnedGrains earned → fens ≡ compensations grains → lines ≡ linesFor entries fens
-    → sharedMonth book (take count lines) (take count grains) (sharing (take count lines)) ≡ earnedMonth (take count entries) book earned
+    → sharedMonth book (take count lines) (take count grains) ramped (sharing (take count lines)) ≡ earnedMonth (take count entries) book ramped earned
 unfolding earnedMonth monthLines
-earned-shared entries book earned count grains fens lines none eg ef el =
+earned-shared entries book ramped earned count grains fens lines none eg ef el =
     let all : take count lines ≡ linesFor (take count entries) (compensations (map earnedGrains earned)) =
     ap (take count) el ∙ take-lines count entries fens
     ∙ ap (linesFor (take count entries)) (ap (take count) ef ∙ take-map fenOf count grains ∙ ap compensations eg) in
@@ -200,7 +201,7 @@ module _ (g : MonthGiven) where
           rw (le-ltb bad (g .count) sound, none, ← is, ← en, lt-ltb i n h) refl
 
       pub listed : (n i : ℕ) → n ≡ countAt (g .book) → i ≡ firstUnlisted (g .entries) (callsFrom (g .book) 0 n) → n ≤ i
-          → earnedMonth (g .entries) (g .book) (earnings (g .entries) (g .book) (g .series) (g .lengths) (g .added)) ≡ settling g
+          → earnedMonth (g .entries) (g .book) (g .ramped) (earnings (g .entries) (g .book) (g .series) (g .lengths) (g .ramped)) ≡ settling g
       unfolding settling callsOf
       listed n i en ei h =
           let is : i ≡ firstUnlisted (g .entries) (callsFrom (g .book) 0 (countAt (g .book))) = ei ∙ ap (λ (k : ℕ). firstUnlisted (g .entries) (callsFrom (g .book) 0 k)) en in

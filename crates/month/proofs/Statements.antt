@@ -12,25 +12,30 @@ use Rattle.share.specs.declared.Line.{Line}
 use Rattle.share.specs.Sharing.{Part}
 use Rattle.share.specs.Forms.{blankLine, fillIn, clear}
 use Rattle.apportion.proofs.Loops.{over}
+use Rattle.month.specs.declared.Ramped.{Ramped}
 use Rattle.month.specs.declared.Row.{Row}
 use Rattle.month.specs.declared.Fault.{Fault}
 use Rattle.month.specs.declared.Statement.{Statement}
-use Rattle.month.specs.Settling.{rowOf, rowsOf, blankRow, filledRows, monthRefused}
+use Rattle.month.specs.Settling.{noRamping, rowOf, rowsOf, blankRow, filledRows, monthRefused}
 use Rattle.month.specs.Inner.{rowIn, rowsIn}
 use Rattle.month.proofs.Walking.{noGrains}
 
-pub length-rows : (isBelow : Bool) (ls : List Line) (gs : List Grains) → length (rowsIn isBelow ls gs) ≡ length ls
+pub length-rows : (isBelow : Bool) (ls : List Line) (gs : List Grains) (rs : List Ramped) → length (rowsIn isBelow ls gs rs) ≡ length ls
 unfolding rowsIn
-length-rows isBelow [] gs = refl
-length-rows isBelow (l ∷ ls) gs = ap suc (length-rows isBelow ls (drop 1 gs))
+length-rows isBelow [] gs rs = refl
+length-rows isBelow (l ∷ ls) gs rs = ap suc (length-rows isBelow ls (drop 1 gs) (drop 1 rs))
 
-pub row-at : (isBelow : Bool) (ls : List Line) (gs : List Grains) (i : ℕ) (d : Row) → i < length ls → getD (rowsIn isBelow ls gs) i d ≡ rowIn isBelow (getD ls i blankLine) (getD gs i noGrains)
+-- an element behind the first
+pub next-of : {A : Type 0} (xs : List A) (i : ℕ) (z : A) → getD (drop 1 xs) i z ≡ getD xs (suc i) z
+next-of [] i z = refl
+next-of (x ∷ xs) i z = refl
+
+pub row-at : (isBelow : Bool) (ls : List Line) (gs : List Grains) (rs : List Ramped) (i : ℕ) (d : Row) → i < length ls
+    → getD (rowsIn isBelow ls gs rs) i d ≡ rowIn isBelow (getD ls i blankLine) (getD gs i noGrains) (getD rs i noRamping .hours)
 unfolding rowsIn
-row-at isBelow [] gs i d h = absurd (omega arith)
-row-at isBelow (l ∷ ls) gs zero d h = refl
-row-at isBelow (l ∷ ls) gs (suc i) d h =
-    let one : getD (drop 1 gs) i noGrains ≡ getD gs (suc i) noGrains = rw getD-drop (ap (λ (n : ℕ). getD gs n noGrains) (omega arith)) in
-    row-at isBelow ls (drop 1 gs) i d (omega arith) ∙ ap (rowIn isBelow (getD ls i blankLine)) one
+row-at isBelow [] gs rs i d h = absurd (omega arith)
+row-at isBelow (l ∷ ls) gs rs zero d h = refl
+row-at isBelow (l ∷ ls) gs rs (suc i) d h = row-at isBelow ls (drop 1 gs) (drop 1 rs) i d (omega arith) ∙ rw (next-of gs i noGrains, next-of rs i noRamping) refl
 
 drop-blank : (i n : ℕ) (r : Row) → drop i (replicate n r) ≡ replicate (n - i) r
 drop-blank zero n r =
@@ -43,17 +48,17 @@ drop-blank (suc i) (suc n) r =
     let e : suc n - suc i ≡ n - i = omega arith in
     rw e (drop-blank i n r)
 
-module _ (isBelow : Bool) (lines : List Line) (grains : List Grains) (count : ℕ) (h : count ≤ length lines) where
+module _ (isBelow : Bool) (lines : List Line) (grains : List Grains) (ramped : List Ramped) (count : ℕ) (h : count ≤ length lines) where
   abbrev rows : List Row
-  rows = rowsIn isBelow (take count lines) (take count grains)
+  rows = rowsIn isBelow (take count lines) (take count grains) ramped
 
   pub length-counted : length rows ≡ count
-  length-counted = length-rows isBelow (take count lines) (take count grains) ∙ length-take-le count lines h
+  length-counted = length-rows isBelow (take count lines) (take count grains) ramped ∙ length-take-le count lines h
 
-  pub row-counted : (i : ℕ) (d : Row) → i < count → getD rows i d ≡ rowIn isBelow (getD lines i blankLine) (getD grains i noGrains)
+  pub row-counted : (i : ℕ) (d : Row) → i < count → getD rows i d ≡ rowIn isBelow (getD lines i blankLine) (getD grains i noGrains) (getD ramped i noRamping .hours)
   row-counted i d l =
       let long = length-take-le count lines h in
-      row-at isBelow (take count lines) (take count grains) i d (omega arith) ∙ rw (getD-take count lines i blankLine l, getD-take count grains i noGrains l) refl
+      row-at isBelow (take count lines) (take count grains) ramped i d (omega arith) ∙ rw (getD-take count lines i blankLine l, getD-take count grains i noGrains l) refl
 
   -- all are written over blank ones
   pub rows-done : (out : List Row) (i : ℕ) → i ≡ count → out ≡ over (replicate 64 blankRow) rows i → out ≡ filledRows rows
@@ -69,11 +74,11 @@ unfolding monthRefused filledRows
 refused-is fault rows e = rw e refl
 
 -- the rows of lines and their parts are those of the lines filled in
-pub rows-filled : (isBelow : Bool) (ls : List Line) (gs : List Grains) (ps : List Part) → length ps ≡ length ls
-    → rowsIn isBelow (fillIn ps (clear ls)) gs ≡ rowsOf isBelow ls gs ps
+pub rows-filled : (isBelow : Bool) (ls : List Line) (gs : List Grains) (rs : List Ramped) (ps : List Part) → length ps ≡ length ls
+    → rowsIn isBelow (fillIn ps (clear ls)) gs rs ≡ rowsOf isBelow ls gs rs ps
 unfolding rowsIn rowsOf rowIn rowOf
-rows-filled isBelow [] gs [] h = refl
-rows-filled isBelow [] gs (p ∷ ps) h = absurd (omega arith)
-rows-filled isBelow (l ∷ ls) gs [] h = absurd (omega arith)
-rows-filled isBelow (l ∷ ls) gs (p ∷ ps) h =
-    ap (λ (rs : List Row). rowOf isBelow l (getD gs 0 noGrains) p ∷ rs) (rows-filled isBelow ls (drop 1 gs) ps (omega arith))
+rows-filled isBelow [] gs rs [] h = refl
+rows-filled isBelow [] gs rs (p ∷ ps) h = absurd (omega arith)
+rows-filled isBelow (l ∷ ls) gs rs [] h = absurd (omega arith)
+rows-filled isBelow (l ∷ ls) gs rs (p ∷ ps) h =
+    ap (λ (xs : List Row). rowOf isBelow l (getD gs 0 noGrains) (getD rs 0 noRamping .hours) p ∷ xs) (rows-filled isBelow ls (drop 1 gs) (drop 1 rs) ps (omega arith))

@@ -1,15 +1,16 @@
 -- A withdrawn record of the joined book counts for nobody: the statement is that of the book without it. Assumes nothing.
 use mathlib.Core.Path.{_≡_, refl, sym, _∙_, ap, ap₂}
-use mathlib.Core.Bool.{Bool, true, false}
+use mathlib.Core.Bool.{Bool, true, false, cond}
 use mathlib.Core.List.{List, [], _∷_, map}
 use Prim.Native.Nat.{ℕ, zero, suc, _-_, _≤_, _<_}
 use native.Mathlib.Nat.{not-suc-le-zero}
 use native.Mathlib.Decide.{decLt, ℕ-discrete}
 use native.Mathlib.Omega.{arith}
-use lib.Dec.{ltb}
+use lib.Dec.{eqb, ltb}
 use lib.ListN.{length, getD, take, drop, length-map}
 use borrow.Author.Tests.{eq-eqb, ne-eqb, lt-ltb, le-ltb}
 use Rattle.units.specs.declared.Grains.{Grains}
+use Rattle.units.specs.Money.{grainsPlus}
 use Rattle.call.specs.declared.Call.{Call}
 use Rattle.call.specs.Key.{callKey}
 use Rattle.call.specs.Revising.{withdrawn}
@@ -30,9 +31,12 @@ use Rattle.share.specs.declared.Line.{Line}
 use Rattle.share.specs.Sharing.{SharingOutcome, sharing}
 use Rattle.register.specs.declared.Entry.{Entry}
 use Rattle.register.specs.Register.{firstBadEntry}
+use Rattle.month.specs.declared.Ramped.{Ramped}
+use Rattle.month.specs.declared.members.MemberEarned.{MemberEarned}
+use Rattle.month.specs.declared.members.MemberEarned.the-variants.{Both, NotScored, NotRamped}
 use Rattle.month.specs.declared.Fault.{Fault}
 use Rattle.month.specs.declared.Fault.the-variants.{InRegister, Unlisted}
-use Rattle.month.specs.Settling.{MonthGiven, isUnlisted, firstUnlisted, earnedWith, earnings, firstRefusedMember, memberFault, earnedGrains}
+use Rattle.month.specs.Settling.{MonthGiven, isUnlisted, firstUnlisted, noRamping, earnedWith, earnings, firstRefusedMember, memberFault, earnedGrains}
 use Rattle.month.specs.Settling.{monthRefused, sharedMonth, monthLines, earnedMonth, settling}
 use Rattle.month.specs.Lowered.{loweredFault, loweredStatement}
 use Rattle.month.proofs.Promises.{withBook}
@@ -123,37 +127,53 @@ module _ (es : List Entry) where
 
 -- The members
 
+-- the places of records in a member's turn are one lower behind record j; a ramping file's place is none of them
+unfoldable loweredTurn : ℕ → MemberEarned → MemberEarned
+loweredTurn j (Both g) = Both g
+loweredTurn j (NotScored number place) = NotScored number (cond (isOfRecord number) (lowerPlace j place) place)
+loweredTurn j (NotRamped number place) = NotRamped number place
+
 module _ (j : ℕ) where
-  with-lowered : (e : Earned) (added : Grains) → earnedWith (loweredEarned j e) added ≡ loweredEarned j (earnedWith e added)
-  unfolding earnedWith loweredEarned
-  with-lowered (Accepted g) added = refl
-  with-lowered (Refused number place) added = refl
+  with-lowered : (e : Earned) (r : Ramped) → earnedWith (loweredEarned j e) r ≡ loweredTurn j (earnedWith e r)
+  unfolding earnedWith loweredEarned loweredTurn
+  with-lowered (Accepted g) r = go (eqb (r .number) 0)
+    where
+      both : MemberEarned
+      both = Both (record { 0 = grainsPlus (g .0) (r .grains .0) })
 
-  first-same : (es : List Earned) → firstRefusedMember (map (loweredEarned j) es) ≡ firstRefusedMember es
-  unfolding firstRefusedMember loweredEarned
+      go : (t : Bool) → cond t both (NotRamped (r .number) (r .place)) ≡ loweredTurn j (cond t both (NotRamped (r .number) (r .place)))
+      go true = refl
+      go false = refl
+  with-lowered (Refused number place) r = refl
+
+  first-same : (es : List MemberEarned) → firstRefusedMember (map (loweredTurn j) es) ≡ firstRefusedMember es
+  unfolding firstRefusedMember loweredTurn
   first-same [] = refl
-  first-same (Accepted g ∷ es) = ap suc (first-same es)
-  first-same (Refused number place ∷ es) = refl
+  first-same (Both g ∷ es) = ap suc (first-same es)
+  first-same (NotScored number place ∷ es) = refl
+  first-same (NotRamped number place ∷ es) = refl
 
-  grains-same : (es : List Earned) → map earnedGrains (map (loweredEarned j) es) ≡ map earnedGrains es
-  unfolding earnedGrains loweredEarned
+  grains-same : (es : List MemberEarned) → map earnedGrains (map (loweredTurn j) es) ≡ map earnedGrains es
+  unfolding earnedGrains loweredTurn
   grains-same [] = refl
-  grains-same (Accepted g ∷ es) = ap (λ (gs : List Grains). g ∷ gs) (grains-same es)
-  grains-same (Refused number place ∷ es) = ap (λ (gs : List Grains). record { 0 = 0 } ∷ gs) (grains-same es)
+  grains-same (Both g ∷ es) = ap (λ (gs : List Grains). g ∷ gs) (grains-same es)
+  grains-same (NotScored number place ∷ es) = ap (λ (gs : List Grains). record { 0 = 0 } ∷ gs) (grains-same es)
+  grains-same (NotRamped number place ∷ es) = ap (λ (gs : List Grains). record { 0 = 0 } ∷ gs) (grains-same es)
 
-  none-lowered : loweredEarned j (Refused 0 0) ≡ Refused 0 0
-  unfolding loweredEarned isOfRecord
+  none-lowered : loweredTurn j (NotScored 0 0) ≡ NotScored 0 0
+  unfolding loweredTurn isOfRecord
   none-lowered = refl
 
-  one-lowered : (es : List Earned) (i : ℕ) → getD (map (loweredEarned j) es) i (Refused 0 0) ≡ loweredEarned j (getD es i (Refused 0 0))
+  one-lowered : (es : List MemberEarned) (i : ℕ) → getD (map (loweredTurn j) es) i (NotScored 0 0) ≡ loweredTurn j (getD es i (NotScored 0 0))
   one-lowered [] i = sym none-lowered
   one-lowered (e ∷ es) zero = refl
   one-lowered (e ∷ es) (suc i) = one-lowered es i
 
-  fault-lowered : (line : ℕ) (e : Earned) → memberFault line (loweredEarned j e) ≡ loweredFault j (memberFault line e)
-  unfolding memberFault loweredEarned loweredFault
-  fault-lowered line (Accepted g) = refl
-  fault-lowered line (Refused number place) = refl
+  fault-lowered : (line : ℕ) (e : MemberEarned) → memberFault line (loweredTurn j e) ≡ loweredFault j (memberFault line e)
+  unfolding memberFault loweredTurn loweredFault
+  fault-lowered line (Both g) = refl
+  fault-lowered line (NotScored number place) = refl
+  fault-lowered line (NotRamped number place) = refl
 
   line-lowered : (line : ℕ) → InRegister line ≡ loweredFault j (InRegister line)
   unfolding loweredFault
@@ -168,28 +188,28 @@ module _ (j : ℕ) where
   refused-lowered f = refl
 
   module _ (b b′ : List ℕ) (header : headerAt b′ ≡ headerAt b) (count : countAt b′ ≡ countAt b - 1) where
-    shared-lowered : (ls : List Line) (gs : List Grains) (o : SharingOutcome) → sharedMonth b′ ls gs o ≡ loweredStatement j (sharedMonth b ls gs o)
+    shared-lowered : (ls : List Line) (gs : List Grains) (rs : List Ramped) (o : SharingOutcome) → sharedMonth b′ ls gs rs o ≡ loweredStatement j (sharedMonth b ls gs rs o)
     unfolding sharedMonth loweredStatement loweredFault monthRefused
-    shared-lowered ls gs o = go (ℕ-discrete (o .number) 0)
+    shared-lowered ls gs rs o = go (ℕ-discrete (o .number) 0)
       where
-        go : Dec (o .number ≡ 0) → sharedMonth b′ ls gs o ≡ loweredStatement j (sharedMonth b ls gs o)
+        go : Dec (o .number ≡ 0) → sharedMonth b′ ls gs rs o ≡ loweredStatement j (sharedMonth b ls gs rs o)
         go (yes e) = rw (eq-eqb (o .number) 0 e, header, count) refl
         go (no e) = rw (ne-eqb (o .number) 0 e) refl
 
-    month-lowered : (es : List Entry) (earned : List Earned) → earnedMonth es b′ (map (loweredEarned j) earned) ≡ loweredStatement j (earnedMonth es b earned)
+    month-lowered : (es : List Entry) (rs : List Ramped) (earned : List MemberEarned) → earnedMonth es b′ rs (map (loweredTurn j) earned) ≡ loweredStatement j (earnedMonth es b rs earned)
     unfolding earnedMonth monthLines
-    month-lowered es earned = go (decLt (firstRefusedMember earned) (length earned))
+    month-lowered es rs earned = go (decLt (firstRefusedMember earned) (length earned))
       where
         f : ℕ
         f = firstRefusedMember earned
 
-        go : Dec (f < length earned) → earnedMonth es b′ (map (loweredEarned j) earned) ≡ loweredStatement j (earnedMonth es b earned)
+        go : Dec (f < length earned) → earnedMonth es b′ rs (map (loweredTurn j) earned) ≡ loweredStatement j (earnedMonth es b rs earned)
         go (yes l) =
-            rw (first-same earned, length-map earned (loweredEarned j), one-lowered earned f, lt-ltb f (length earned) l)
-            (ap monthRefused (fault-lowered f (getD earned f (Refused 0 0))) ∙ refused-lowered (memberFault f (getD earned f (Refused 0 0))))
+            rw (first-same earned, length-map earned (loweredTurn j), one-lowered earned f, lt-ltb f (length earned) l)
+            (ap monthRefused (fault-lowered f (getD earned f (NotScored 0 0))) ∙ refused-lowered (memberFault f (getD earned f (NotScored 0 0))))
         go (no l) =
-            rw (first-same earned, length-map earned (loweredEarned j), grains-same earned, le-ltb f (length earned) (omega arith))
-            (shared-lowered (monthLines es earned) (map earnedGrains earned) (sharing (monthLines es earned)))
+            rw (first-same earned, length-map earned (loweredTurn j), grains-same earned, le-ltb f (length earned) (omega arith))
+            (shared-lowered (monthLines es earned) (map earnedGrains earned) rs (sharing (monthLines es earned)))
 
 -- The month
 
@@ -203,15 +223,15 @@ module _ (b : List ℕ) (sound : Sound b) (j : ℕ) (l : j < countAt b) (gone : 
   one-fewer : countAt b ≡ suc (countAt less)
   one-fewer = records-left b sound j l .fewer
 
-  earnings-lowered : (es : List Entry) (series lengths : List ℕ) (added : List Grains)
-      → earnings es less series lengths added ≡ map (loweredEarned j) (earnings es b series lengths added)
+  earnings-lowered : (es : List Entry) (series lengths : List ℕ) (ramped : List Ramped)
+      → earnings es less series lengths ramped ≡ map (loweredTurn j) (earnings es b series lengths ramped)
   unfolding earnings
-  earnings-lowered [] series lengths added = refl
-  earnings-lowered (e ∷ es) series lengths added =
-      ap₂ (λ (x : Earned) (xs : List Earned). x ∷ xs)
-      (ap (λ (x : Earned). earnedWith x (getD added 0 (record { 0 = 0 }))) (withdrawn-nobody b sound j l gone (e .member) (take (getD lengths 0 0) series))
-      ∙ with-lowered j (grainsEarned (e .member) b (take (getD lengths 0 0) series)) (getD added 0 (record { 0 = 0 })))
-      (earnings-lowered es (drop (getD lengths 0 0) series) (drop 1 lengths) (drop 1 added))
+  earnings-lowered [] series lengths ramped = refl
+  earnings-lowered (e ∷ es) series lengths ramped =
+      ap₂ (λ (x : MemberEarned) (xs : List MemberEarned). x ∷ xs)
+      (ap (λ (x : Earned). earnedWith x (getD ramped 0 noRamping)) (withdrawn-nobody b sound j l gone (e .member) (take (getD lengths 0 0) series))
+      ∙ with-lowered j (grainsEarned (e .member) b (take (getD lengths 0 0) series)) (getD ramped 0 noRamping))
+      (earnings-lowered es (drop (getD lengths 0 0) series) (drop 1 lengths) (drop 1 ramped))
 
   rising : Rises 0 (callsOf b)
   rising = rw (sound-reads b sound .1) (sound .rising)
@@ -251,11 +271,11 @@ module _ (b : List ℕ) (sound : Sound b) (j : ℕ) (l : j < countAt b) (gone : 
       first : ℕ
       first = firstUnlisted (g .entries) (callsOf b)
 
-      in-turn : earnedMonth (g .entries) less (earnings (g .entries) less (g .series) (g .lengths) (g .added))
-          ≡ loweredStatement j (earnedMonth (g .entries) b (earnings (g .entries) b (g .series) (g .lengths) (g .added)))
+      in-turn : earnedMonth (g .entries) less (g .ramped) (earnings (g .entries) less (g .series) (g .lengths) (g .ramped))
+          ≡ loweredStatement j (earnedMonth (g .entries) b (g .ramped) (earnings (g .entries) b (g .series) (g .lengths) (g .ramped)))
       in-turn =
-          ap (earnedMonth (g .entries) less) (earnings-lowered (g .entries) (g .series) (g .lengths) (g .added))
-          ∙ month-lowered j b less (without-reads key b sound .0) (omega (arith, one-fewer)) (g .entries) (earnings (g .entries) b (g .series) (g .lengths) (g .added))
+          ap (earnedMonth (g .entries) less (g .ramped)) (earnings-lowered (g .entries) (g .series) (g .lengths) (g .ramped))
+          ∙ month-lowered j b less (without-reads key b sound .0) (omega (arith, one-fewer)) (g .entries) (g .ramped) (earnings (g .entries) b (g .series) (g .lengths) (g .ramped))
 
       go : Dec (bad < g .count) → Dec (first < countAt b) → settling (withBook g less) ≡ loweredStatement j (settling (withBook g b))
       go (yes h) t = rw (lt-ltb bad (g .count) h) (ap monthRefused (line-lowered j bad) ∙ refused-lowered j (InRegister bad))

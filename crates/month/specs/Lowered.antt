@@ -3,7 +3,7 @@ use mathlib.Core.Bool.{cond}
 use Prim.Native.Nat.{ℕ, _-_}
 use Rattle.score.specs.Lowered.{lowerPlace, isOfRecord}
 use Rattle.month.specs.declared.Fault.{Fault}
-use Rattle.month.specs.declared.Fault.the-variants.{NoFault, InRegister, InBook, Unlisted, OfMember, InSharing}
+use Rattle.month.specs.declared.Fault.the-variants.{NoFault, InRegister, InBook, Unlisted, OfMember, OfRamping, InSharing}
 use Rattle.month.specs.declared.Statement.{Statement}
 
 -- the places of records, of a call without a line and of 12 to 14, are one lower behind record j
@@ -13,6 +13,7 @@ loweredFault j (InRegister line) = InRegister line
 loweredFault j (InBook number place) = InBook number place
 loweredFault j (Unlisted call) = Unlisted (lowerPlace j call)
 loweredFault j (OfMember line number place) = OfMember line number (cond (isOfRecord number) (lowerPlace j place) place)
+loweredFault j (OfRamping line number place) = OfRamping line number place
 loweredFault j (InSharing number place) = InSharing number place
 
 -- header, R and every line are the same, and there is one call fewer

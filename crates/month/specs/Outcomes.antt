@@ -7,7 +7,6 @@ use Rattle.units.specs.declared.Grains.{Grains}
 use Rattle.call.specs.Revising.{withdrawn}
 use Rattle.book.specs.Book.{headerAt, countAt, recordAt}
 use Rattle.book.specs.Check.{accepted, check}
-use Rattle.score.specs.declared.answer.Earned.{Earned}
 use Rattle.score.specs.declared.answer.Score.{Score}
 use Rattle.score.specs.Scoring.{scoring}
 use Rattle.pay.specs.Member.{MemberWithin}
@@ -17,9 +16,11 @@ use Rattle.share.specs.Sharing.{below, SharingOutcome, sharing}
 use Rattle.share.specs.Verdict.{SoundLine}
 use Rattle.register.specs.declared.Entry.{Entry}
 use Rattle.register.specs.Register.{blankEntry, entryLine}
-use Rattle.month.specs.declared.Fault.the-variants.{NoFault, InRegister, InBook, Unlisted, OfMember, InSharing}
+use Rattle.month.specs.declared.Fault.the-variants.{NoFault, InRegister, InBook, Unlisted, OfMember, OfRamping, InSharing}
+use Rattle.month.specs.declared.Ramped.{Ramped}
 use Rattle.month.specs.declared.Statement.{Statement}
-use Rattle.month.specs.Settling.{MonthGiven, earnings, earnedGrains, rowsOf, filledRows, monthRefused, monthLines}
+use Rattle.month.specs.declared.members.MemberEarned.{MemberEarned}
+use Rattle.month.specs.Settling.{MonthGiven, noRamping, earnings, earnedGrains, rowsOf, filledRows, monthRefused, monthLines}
 
 -- The parts of a month
 
@@ -31,9 +32,13 @@ ownSeries series lengths i = take (getD lengths i 0) (drop (total (take i length
 abbrev pub scoreOfLine : MonthGiven → ℕ → Score
 scoreOfLine g i = scoring (getD (g .entries) i blankEntry .member) (g .book) (ownSeries (g .series) (g .lengths) i)
 
+-- line i's ramping file
+abbrev pub rampedOfLine : MonthGiven → ℕ → Ramped
+rampedOfLine g i = getD (g .ramped) i noRamping
+
 -- what the members earn, and the lines that are shared
-abbrev pub earnedIn : MonthGiven → List Earned
-earnedIn g = earnings (g .entries) (g .book) (g .series) (g .lengths) (g .added)
+abbrev pub earnedIn : MonthGiven → List MemberEarned
+earnedIn g = earnings (g .entries) (g .book) (g .series) (g .lengths) (g .ramped)
 
 abbrev pub linesIn : MonthGiven → List Line
 linesIn g = monthLines (g .entries) (earnedIn g)
@@ -53,7 +58,7 @@ statementOf g =
       calls = countAt (g .book);
       gap = record { 0 = sharedIn g .gap };
       count = length (linesIn g);
-      rows = filledRows (rowsOf (below (linesIn g)) (linesIn g) (grainsIn g) (sharedIn g .parts));
+      rows = filledRows (rowsOf (below (linesIn g)) (linesIn g) (grainsIn g) (g .ramped) (sharedIn g .parts));
     }
 
 -- Conditions
@@ -98,9 +103,9 @@ pub record AllListed (g : MonthGiven) : Type 0 where
   pub front : RegisterAndBook g
   pub listed : Listed g (countAt (g .book))
 
--- the members of the lines before line i have a score
+-- the members of the lines before line i have a score, and their ramping files are good
 abbrev pub Scored : MonthGiven → ℕ → Type 0
-Scored g i = (k : ℕ) → k < i → scoreOfLine g k .number ≡ 0
+Scored g i = (k : ℕ) → k < i → (scoreOfLine g k .number ≡ 0) × (rampedOfLine g k .number ≡ 0)
 
 -- register, book, calls and members are good
 pub record AllScored (g : MonthGiven) : Type 0 where
@@ -116,5 +121,7 @@ pub data MonthOutcome (g : MonthGiven) (s : Statement) : Type 0 where
   without-line : (i : ℕ) → s ≡ monthRefused (Unlisted i) → RegisterAndBook g → i < countAt (g .book) → Listed g i → Without g i → MonthOutcome g s
   bad-member : (i : ℕ) → s ≡ monthRefused (OfMember i (scoreOfLine g i .number) (scoreOfLine g i .place)) → AllListed g → i < length (g .entries)
       → Scored g i → (scoreOfLine g i .number ≡ 0 → ⊥) → MonthOutcome g s
+  bad-ramping : (i : ℕ) → s ≡ monthRefused (OfRamping i (rampedOfLine g i .number) (rampedOfLine g i .place)) → AllListed g → i < length (g .entries)
+      → Scored g i → scoreOfLine g i .number ≡ 0 → (rampedOfLine g i .number ≡ 0 → ⊥) → MonthOutcome g s
   not-shared : s ≡ monthRefused (InSharing (sharedIn g .number) (sharedIn g .place)) → AllScored g → (sharedIn g .number ≡ 0 → ⊥) → MonthOutcome g s
   settled : s ≡ statementOf g → AllScored g → sharedIn g .number ≡ 0 → MonthOutcome g s

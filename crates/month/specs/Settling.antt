@@ -1,4 +1,5 @@
--- The month: each register line's member is scored over the joined book and its own series; the fen is its compensation; the lines are shared. Assumes nothing.
+-- The month: each register line's member is scored over the joined book and its own series; what its ramping hours pay is added; the fen of both is
+-- its compensation; the lines are shared. Assumes nothing.
 use mathlib.Core.Bool.{Bool, false, cond, not, _&&_, _||_}
 use mathlib.Core.List.{List, [], _∷_, _++_, map}
 use Prim.Native.Nat.{ℕ, suc, _-_}
@@ -20,19 +21,22 @@ use Rattle.share.specs.Sharing.{Part, weightOf, below, mostNumber, SharingOutco
 use Rattle.register.specs.declared.Entry.{Entry}
 use Rattle.register.specs.Register.{firstBadEntry, linesFor}
 use Rattle.month.specs.declared.Fault.{Fault}
-use Rattle.month.specs.declared.Fault.the-variants.{NoFault, InRegister, InBook, Unlisted, OfMember, InSharing}
+use Rattle.month.specs.declared.Fault.the-variants.{NoFault, InRegister, InBook, Unlisted, OfMember, OfRamping, InSharing}
+use Rattle.month.specs.declared.Ramped.{Ramped}
 use Rattle.month.specs.declared.Row.{Row}
 use Rattle.month.specs.declared.Statement.{Statement}
+use Rattle.month.specs.declared.members.MemberEarned.{MemberEarned}
+use Rattle.month.specs.declared.members.MemberEarned.the-variants.{Both, NotScored, NotRamped}
 
 -- What a month is settled from: the register's lines, the joined book, the members' series one after another with each one's length, and what
--- is added to each member's grains
+-- each member's ramping file gives
 pub record MonthGiven : Type 0 where
   pub entries : List Entry
   pub count : ℕ
   pub book : List ℕ
   pub series : List ℕ
   pub lengths : List ℕ
-  pub added : List Grains
+  pub ramped : List Ramped
 
 -- Calls of members that the register does not have
 
@@ -52,44 +56,55 @@ firstUnlisted es (c ∷ cs) = cond (isUnlisted es c) 0 (suc (firstUnlisted es cs
 
 -- What the members earn
 
--- grains, and what is added to them; a refusal stays
-unfoldable pub earnedWith : Earned → Grains → Earned
-earnedWith (Accepted g) added = Accepted (record { 0 = grainsPlus (g .0) (added .0) })
-earnedWith (Refused number place) added = Refused number place
+-- no ramping file: no hours, no grains
+abbrev pub noRamping : Ramped
+noRamping = record { number = 0; place = 0; hours = 0; grains = record { 0 = 0 } }
 
--- each line's member over the book and its own series, the next so many values
-unfoldable pub earnings : List Entry → List ℕ → List ℕ → List ℕ → List Grains → List Earned
-earnings [] book series lengths added = []
-earnings (e ∷ es) book series lengths added =
-    earnedWith (grainsEarned (e .member) book (take (getD lengths 0 0) series)) (getD added 0 (record { 0 = 0 }))
-    ∷ earnings es book (drop (getD lengths 0 0) series) (drop 1 lengths) (drop 1 added)
+-- a member's turn: a refused score stands; of an accepted one the ramping file's refusal, or the grains of score and hours together
+unfoldable pub earnedWith : Earned → Ramped → MemberEarned
+earnedWith (Refused number place) ramped = NotScored number place
+earnedWith (Accepted g) ramped =
+    cond (eqb (ramped .number) 0)
+    (Both (record { 0 = grainsPlus (g .0) (ramped .grains .0) }))
+    (NotRamped (ramped .number) (ramped .place))
+
+-- each line's member over the book and its own series, the next so many values, with its own ramping file
+unfoldable pub earnings : List Entry → List ℕ → List ℕ → List ℕ → List Ramped → List MemberEarned
+earnings [] book series lengths ramped = []
+earnings (e ∷ es) book series lengths ramped =
+    earnedWith (grainsEarned (e .member) book (take (getD lengths 0 0) series)) (getD ramped 0 noRamping)
+    ∷ earnings es book (drop (getD lengths 0 0) series) (drop 1 lengths) (drop 1 ramped)
 
 -- the first line whose member is refused, or the number of lines where none is
-unfoldable pub firstRefusedMember : List Earned → ℕ
+unfoldable pub firstRefusedMember : List MemberEarned → ℕ
 firstRefusedMember [] = 0
-firstRefusedMember (Accepted g ∷ es) = suc (firstRefusedMember es)
-firstRefusedMember (Refused number place ∷ es) = 0
+firstRefusedMember (Both g ∷ es) = suc (firstRefusedMember es)
+firstRefusedMember (NotScored number place ∷ es) = 0
+firstRefusedMember (NotRamped number place ∷ es) = 0
 
--- its refusal
-unfoldable pub memberFault : ℕ → Earned → Fault
-memberFault line (Accepted g) = NoFault
-memberFault line (Refused number place) = OfMember line number place
+-- its refusal: of the member, or of its ramping file
+unfoldable pub memberFault : ℕ → MemberEarned → Fault
+memberFault line (Both g) = NoFault
+memberFault line (NotScored number place) = OfMember line number place
+memberFault line (NotRamped number place) = OfRamping line number place
 
 -- the grains, and the fen of them, once: the compensation
-unfoldable pub earnedGrains : Earned → Grains
-earnedGrains (Accepted g) = g
-earnedGrains (Refused number place) = record { 0 = 0 }
+unfoldable pub earnedGrains : MemberEarned → Grains
+earnedGrains (Both g) = g
+earnedGrains (NotScored number place) = record { 0 = 0 }
+earnedGrains (NotRamped number place) = record { 0 = 0 }
 
 abbrev pub compensations : List Grains → List Fen
 compensations gs = map (λ g. record { 0 = grainsToFen (g .0) }) gs
 
 -- The statement
 
--- a member's line: what it earned, what its amount is made of, and its weight
-unfoldable pub rowOf : Bool → Line → Grains → Part → Row
-rowOf isBelow l grains part =
+-- a member's line: how many ramping hours it has, what it earned, what its amount is made of, and its weight
+unfoldable pub rowOf : Bool → Line → Grains → ℕ → Part → Row
+rowOf isBelow l grains hours part =
     record {
       number = l .number;
+      hours = hours;
       grains = grains;
       compensation = l .compensation;
       assessment = l .assessment;
@@ -100,16 +115,18 @@ rowOf isBelow l grains part =
     }
 
 -- the members' lines, in the register's order
-unfoldable pub rowsOf : Bool → List Line → List Grains → List Part → List Row
-rowsOf isBelow [] gs ps = []
-rowsOf isBelow (l ∷ ls) gs ps =
-    rowOf isBelow l (getD gs 0 (record { 0 = 0 })) (getD ps 0 (record { share = pos 0; amount = pos 0 })) ∷ rowsOf isBelow ls (drop 1 gs) (drop 1 ps)
+unfoldable pub rowsOf : Bool → List Line → List Grains → List Ramped → List Part → List Row
+rowsOf isBelow [] gs rs ps = []
+rowsOf isBelow (l ∷ ls) gs rs ps =
+    rowOf isBelow l (getD gs 0 (record { 0 = 0 })) (getD rs 0 noRamping .hours) (getD ps 0 (record { share = pos 0; amount = pos 0 }))
+    ∷ rowsOf isBelow ls (drop 1 gs) (drop 1 rs) (drop 1 ps)
 
 -- a line of zeros stands behind the members' lines
 unfoldable pub blankRow : Row
 blankRow =
     record {
       number = 0;
+      hours = 0;
       grains = record { 0 = 0 };
       compensation = record { 0 = 0 };
       assessment = record { 0 = 0 };
@@ -135,8 +152,8 @@ monthRefused fault =
     }
 
 -- the lines shared, or sharing's refusal: 10 (a compensation above its limit), 15, 16
-unfoldable pub sharedMonth : List ℕ → List Line → List Grains → SharingOutcome → Statement
-sharedMonth book ls gs o =
+unfoldable pub sharedMonth : List ℕ → List Line → List Grains → List Ramped → SharingOutcome → Statement
+sharedMonth book ls gs rs o =
     cond (eqb (o .number) 0)
     (record {
       fault = NoFault;
@@ -144,20 +161,20 @@ sharedMonth book ls gs o =
       calls = countAt book;
       gap = record { 0 = o .gap };
       count = length ls;
-      rows = filledRows (rowsOf (below ls) ls gs (o .parts));
+      rows = filledRows (rowsOf (below ls) ls gs rs (o .parts));
     })
     (monthRefused (InSharing (o .number) (o .place)))
 
 -- the lines that are shared
-unfoldable pub monthLines : List Entry → List Earned → List Line
+unfoldable pub monthLines : List Entry → List MemberEarned → List Line
 monthLines es earned = linesFor es (compensations (map earnedGrains earned))
 
 -- the members in turn, then sharing
-unfoldable pub earnedMonth : List Entry → List ℕ → List Earned → Statement
-earnedMonth es book earned =
+unfoldable pub earnedMonth : List Entry → List ℕ → List Ramped → List MemberEarned → Statement
+earnedMonth es book rs earned =
     cond (ltb (firstRefusedMember earned) (length earned))
-    (monthRefused (memberFault (firstRefusedMember earned) (getD earned (firstRefusedMember earned) (Refused 0 0))))
-    (sharedMonth book (monthLines es earned) (map earnedGrains earned) (sharing (monthLines es earned)))
+    (monthRefused (memberFault (firstRefusedMember earned) (getD earned (firstRefusedMember earned) (NotScored 0 0))))
+    (sharedMonth book (monthLines es earned) (map earnedGrains earned) rs (sharing (monthLines es earned)))
 
 -- THE MONTH IS SETTLED: the register (10, a 65th line included), the book, a call of a member without a line, the members in turn, sharing
 unfoldable pub settling : MonthGiven → Statement
@@ -165,4 +182,4 @@ settling g =
     cond (ltb (firstBadEntry 0 (g .entries)) (g .count)) (monthRefused (InRegister (firstBadEntry 0 (g .entries))))
     (cond (not (eqb (check (g .book) .number) 0)) (monthRefused (InBook (check (g .book) .number) (check (g .book) .place)))
     (cond (ltb (firstUnlisted (g .entries) (callsOf (g .book))) (countAt (g .book))) (monthRefused (Unlisted (firstUnlisted (g .entries) (callsOf (g .book)))))
-    (earnedMonth (g .entries) (g .book) (earnings (g .entries) (g .book) (g .series) (g .lengths) (g .added)))))
+    (earnedMonth (g .entries) (g .book) (g .ramped) (earnings (g .entries) (g .book) (g .series) (g .lengths) (g .ramped)))))

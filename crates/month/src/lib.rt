@@ -1,4 +1,4 @@
-// The month as one operation: the register, the joined book and the members' series in, the month's statement out.
+// The month as one operation: the register, the joined book, the members' series and ramping files in, the month's statement out.
 use book::Header;
 use book::check;
 use book::count_at;
@@ -35,14 +35,24 @@ use rows::filled_rows;
 use rows::is_below;
 
 // Why a month is not settled: a register's line; a book's refusal, by number and place; the call of a member without a line; a line whose
-// member is refused, by number and place; sharing's refusal, by number and place.
+// member is refused, by number and place; a line whose ramping file is refused, by number and place; sharing's refusal, by number and place.
 pub enum Fault {
     NoFault,
     InRegister(usize),
     InBook(u32, usize),
     Unlisted(usize),
     OfMember(usize, u32, usize),
+    OfRamping(usize, u32, usize),
     InSharing(u32, usize),
+}
+
+// What a member's ramping file gives: a refusal's number and place, or zeros; how many hours it has, and their grains together. All zeros
+// where there is no file.
+pub struct Ramped {
+    pub grains: Grains,
+    pub place: usize,
+    pub number: u32,
+    pub hours: u16,
 }
 
 // A member's line of the statement. The short fields come last, so that no gap stands between the others.
@@ -55,6 +65,7 @@ pub struct Row {
     pub assessment: Thousandths,
     pub energy: Mwh,
     pub number: u16,
+    pub hours: u16,
 }
 
 // The statement: why there is none, and zeros; or the book's header and its calls, R, and a line for each member.
@@ -91,11 +102,12 @@ fn shared_month(
     book: &[u8],
     lines: [Line; MOST_ENTRIES],
     grains: [Grains; MOST_ENTRIES],
+    ramped: [Ramped; MOST_ENTRIES],
     count: usize,
 ) -> Statement
     requires { ⌜ HasHeader (now book) ⌝ }
     requires { ⌜ count ≤ mostEntries ⌝ }
-    ensures { λ r. ⌜ r ≡ sharedMonth (now (book .entry)) (take count lines) (take count grains) (sharing (take count lines)) ⌝ }
+    ensures { λ r. ⌜ r ≡ sharedMonth (now (book .entry)) (take count lines) (take count grains) ramped (sharing (take count lines)) ⌝ }
 {
     let shared = share_front(lines, count);
     let number = shared.number;
@@ -105,7 +117,7 @@ fn shared_month(
     let gap = shared.gap;
     let filled = shared.lines;
     let negative = is_below(gap);
-    let rows = filled_rows(filled, grains, count, negative);
+    let rows = filled_rows(filled, grains, ramped, count, negative);
     let header = header_at(book);
     let calls = count_at(book);
     Statement {
@@ -125,13 +137,13 @@ fn earned_month(
     book: &[u8],
     series: &[u32],
     lengths: [usize; MOST_ENTRIES],
-    added: [Grains; MOST_ENTRIES],
+    ramped: [Ramped; MOST_ENTRIES],
 ) -> Statement
     requires { ⌜ HasHeader (now book) ⌝ }
     requires { ⌜ count ≤ mostEntries ⌝ }
-    ensures { λ r. ⌜ r ≡ earnedMonth (take count entries) (now (book .entry)) (earnings (take count entries) (now (book .entry)) (now (series .entry)) lengths added) ⌝ }
+    ensures { λ r. ⌜ r ≡ earnedMonth (take count entries) (now (book .entry)) ramped (earnings (take count entries) (now (book .entry)) (now (series .entry)) lengths ramped) ⌝ }
 {
-    let earned = members_earned(entries, count, book, series, lengths, added);
+    let earned = members_earned(entries, count, book, series, lengths, ramped);
     if earned.refused {
         let fault = earned.fault;
         return month_refused(fault);
@@ -139,7 +151,7 @@ fn earned_month(
     let grains = earned.grains;
     let fens = compensations(grains);
     let lines = lines_for(entries, fens);
-    shared_month(book, lines, grains, count)
+    shared_month(book, lines, grains, ramped, count)
 }
 
 // The month: the register, the book, calls of members without a line, the members in turn, sharing. The first of them that is at fault is told.
@@ -149,9 +161,9 @@ pub fn settle(
     book: &[u8],
     series: &[u32],
     lengths: [usize; MOST_ENTRIES],
-    added: [Grains; MOST_ENTRIES],
+    ramped: [Ramped; MOST_ENTRIES],
 ) -> Statement
-    ensures { λ r. ⌜ r ≡ settling (record { entries = take count entries; count = count; book = now (book .entry); series = now (series .entry); lengths = lengths; added = added }) ⌝ }
+    ensures { λ r. ⌜ r ≡ settling (record { entries = take count entries; count = count; book = now (book .entry); series = now (series .entry); lengths = lengths; ramped = ramped }) ⌝ }
 {
     let bad = first_bad_entry(entries, seen(count));
     if bad < count {
@@ -167,5 +179,5 @@ pub fn settle(
     if call < n {
         return month_refused(Fault::Unlisted(call));
     }
-    earned_month(entries, count, book, series, lengths, added)
+    earned_month(entries, count, book, series, lengths, ramped)
 }

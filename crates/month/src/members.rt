@@ -1,5 +1,6 @@
-// The members in turn: each one's grains over the book and its own part of the series.
+// The members in turn: each one's grains over the book and its own part of the series, and those of its ramping file.
 use crate::Fault;
+use crate::Ramped;
 use pay::Member;
 use register::Entry;
 use register::MOST_ENTRIES;
@@ -10,10 +11,18 @@ use units::Grains;
 ghost use mathlib.Core.Path.{_≡_};
 ghost use Prim.Native.Nat.{_+_, _-_, _≤_, min};
 ghost use lib.ListN.{length, take};
+ghost use Rattle.score.specs.declared.answer.Earned.the-variants.{Accepted};
 ghost use Rattle.score.specs.Scoring.{grainsEarned};
 ghost use Rattle.register.specs.Register.{mostEntries};
-ghost use Rattle.month.specs.Settling.{earnedWith, earnings, compensations};
+ghost use Rattle.month.specs.Settling.{earnedWith, memberFault, earnings, compensations};
 ghost use Rattle.month.specs.Inner.{MembersEarned};
+
+// What a member's turn gives: the grains of its score and of its ramping file together; the score's refusal; the file's.
+pub enum MemberEarned {
+    Both(Grains),
+    NotScored(u32, usize),
+    NotRamped(u32, usize),
+}
 
 // What the members earned: whether one is refused, and its refusal; else the grains of each.
 pub struct Members {
@@ -43,17 +52,38 @@ fn part_end(at: usize, values: usize, all: usize) -> usize
     if values < left { at + values } else { all }
 }
 
-// What a member earns over its series, and what is added to it; a refusal stays.
-fn member_earned(member: Member, book: &[u8], series: &[u32], added: Grains) -> Earned
-    ensures { λ r. ⌜ r ≡ earnedWith (grainsEarned member (now (book .entry)) (now (series .entry))) added ⌝ }
+// The grains of a score and of a ramping file together; or the file's refusal.
+fn with_ramping(score: Grains, ramped: Ramped) -> MemberEarned
+    ensures { λ r. ⌜ r ≡ earnedWith (Accepted score) ramped ⌝ }
+{
+    let number = ramped.number;
+    if number != 0 {
+        return MemberEarned::NotRamped(number, ramped.place);
+    }
+    let hours = ramped.grains;
+    let sum = score.plus(hours);
+    MemberEarned::Both(sum)
+}
+
+// A member's turn: its score's refusal, then its ramping file's, then the grains of both.
+fn member_earned(member: Member, book: &[u8], series: &[u32], ramped: Ramped) -> MemberEarned
+    ensures { λ r. ⌜ r ≡ earnedWith (grainsEarned member (now (book .entry)) (now (series .entry))) ramped ⌝ }
 {
     let earned = grains_earned(member, book, series);
     match earned {
-        Earned::Accepted(g) => {
-            let sum = g.plus(added);
-            Earned::Accepted(sum)
-        }
-        Earned::Refused(number, place) => Earned::Refused(number, place),
+        Earned::Accepted(g) => with_ramping(g, ramped),
+        Earned::Refused(number, place) => MemberEarned::NotScored(number, place),
+    }
+}
+
+// What is told of a member that is refused.
+fn member_fault(line: usize, earned: MemberEarned) -> Fault
+    ensures { λ r. ⌜ r ≡ memberFault line earned ⌝ }
+{
+    match earned {
+        MemberEarned::Both(_) => Fault::NoFault,
+        MemberEarned::NotScored(number, place) => Fault::OfMember(line, number, place),
+        MemberEarned::NotRamped(number, place) => Fault::OfRamping(line, number, place),
     }
 }
 
@@ -64,10 +94,10 @@ pub fn members_earned(
     book: &[u8],
     series: &[u32],
     lengths: [usize; MOST_ENTRIES],
-    added: [Grains; MOST_ENTRIES],
+    ramped: [Ramped; MOST_ENTRIES],
 ) -> Members
     requires { ⌜ count ≤ mostEntries ⌝ }
-    ensures { λ r. ⌜ MembersEarned (earnings (take count entries) (now (book .entry)) (now (series .entry)) lengths added) count r ⌝ }
+    ensures { λ r. ⌜ MembersEarned (earnings (take count entries) (now (book .entry)) (now (series .entry)) lengths ramped) count r ⌝ }
 {
     let mut grains = no_grains();
     let mut at: usize = 0;
@@ -75,19 +105,17 @@ pub fn members_earned(
     while i < count {
         let end = part_end(at, lengths[i], series.len());
         let e = entries[i];
-        let earned = member_earned(e.member, book, &series[at..end], added[i]);
-        match earned {
-            Earned::Accepted(g) => {
-                grains[i] = g;
-            }
-            Earned::Refused(number, place) => {
-                return Members {
-                    grains,
-                    fault: Fault::OfMember(i, number, place),
-                    refused: true,
-                };
-            }
-        }
+        let x = ramped[i];
+        let earned = member_earned(e.member, book, &series[at..end], x);
+        let MemberEarned::Both(g) = earned else {
+            let fault = member_fault(i, earned);
+            return Members {
+                grains,
+                fault,
+                refused: true,
+            };
+        };
+        grains[i] = g;
         at = end;
         i += 1;
     }

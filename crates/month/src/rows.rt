@@ -1,4 +1,5 @@
 // The members' lines of the statement.
+use crate::Ramped;
 use crate::Row;
 use register::MOST_ENTRIES;
 use share::Line;
@@ -31,6 +32,7 @@ fn blank_row() -> Row
         assessment: Thousandths(0),
         energy: Mwh(0),
         number: 0,
+        hours: 0,
     }
 }
 
@@ -49,9 +51,9 @@ pub fn is_below(gap: SignedFen) -> bool
 }
 
 // The row of a line that is filled in; `negative` says that R is below zero.
-fn row_in(negative: bool, l: Line, grains: Grains) -> Row
+fn row_in(negative: bool, l: Line, grains: Grains, hours: u16) -> Row
     requires { ⌜ l .energy .0 ≤ mostEnergy ⌝ }
-    ensures { λ r. ⌜ r ≡ rowIn negative l grains ⌝ }
+    ensures { λ r. ⌜ r ≡ rowIn negative l grains hours ⌝ }
 {
     let weight = weight_of(l, negative);
     let compensation = l.compensation;
@@ -68,6 +70,7 @@ fn row_in(negative: bool, l: Line, grains: Grains) -> Row
         assessment,
         energy,
         number: l.number,
+        hours,
     }
 }
 
@@ -75,18 +78,20 @@ fn row_in(negative: bool, l: Line, grains: Grains) -> Row
 pub fn filled_rows(
     lines: [Line; MOST_ENTRIES],
     grains: [Grains; MOST_ENTRIES],
+    ramped: [Ramped; MOST_ENTRIES],
     count: usize,
     negative: bool,
 ) -> [Row; MOST_ENTRIES]
     requires { ⌜ CountedWithin lines count ⌝ }
-    ensures { λ r. ⌜ r ≡ filledRows (rowsIn negative (take count lines) (take count grains)) ⌝ }
+    ensures { λ r. ⌜ r ≡ filledRows (rowsIn negative (take count lines) (take count grains) ramped) ⌝ }
 {
     let mut rows = blank_rows();
     let mut i: usize = 0;
     while i < count {
         let l = lines[i];
         let g = grains[i];
-        rows[i] = row_in(negative, l, g);
+        let x = ramped[i];
+        rows[i] = row_in(negative, l, g, x.hours);
         i += 1;
     }
     rows

@@ -3,17 +3,31 @@ use Prim.Native.Nat.{_-_, _≤_}
 use native.Mathlib.Omega.{arith}
 use lib.ListN.{length, take, length-set}
 use lib.Seq.{length-take-le}
-use mathlib.Core.Bool.{true≢false}
-use Rattle.month.proofs.Walking.{Walk, walk-start, walk-on, walk-stop, walk-end, turn-is, cut-take}
+use mathlib.Core.Bool.{true≢false, false}
+use mathlib.Core.List.{[], _∷_}
+use mathlib.Core.Logic.{inl, inr}
+use denote.Enum.Declared.{tagOf}
+use types.Run.{OneOf}
+use Rattle.month.specs.declared.members.MemberEarned.{MemberEarned}
+use Rattle.month.specs.declared.members.MemberEarned.the-variants.{Both, NotScored, NotRamped}
+use Rattle.month.proofs.Walking.{Walk, turnOf, walk-start, walk-on, walk-stop, walk-end, isBoth, turn-is, cut-take}
 use borrow.Author.Needs.{needs}
+use Rattle.month.proofs.members.MemberEarned.{the-type}
 use Rattle.month.proofs.members.members_earned.Statement.{statement}
 use Rattle.month.proofs.members.members_earned.Tie as tie
 
+-- a turn that is not the grains of both is refused
+other : (x : MemberEarned) → OneOf (1 ∷ 2 ∷ []) (tagOf the-type x) → isBoth x ≡ false
+other (Both g) (inl e) = absurd (omega arith)
+other (Both g) (inr e) = absurd (omega arith)
+other (NotScored number place) e = refl
+other (NotRamped number place) e = refl
+
 abbrev Inv-loop : tie.InvT-loop
-Inv-loop count book series entries lengths added grains₀ at₀ i₀ grains at i = (i ≤ count) × (length grains ≡ 64) × Walk (take count entries) book series lengths added grains at i
+Inv-loop count book series entries lengths ramped grains₀ at₀ i₀ grains at i = (i ≤ count) × (length grains ≡ 64) × Walk (take count entries) book series lengths ramped grains at i
 
 abbrev μ-loop : tie.MeasureT-loop
-μ-loop count book series entries lengths added grains₀ at₀ i₀ grains at i = count - i
+μ-loop count book series entries lengths ramped grains₀ at₀ i₀ grains at i = count - i
 
 no-grains-requires : tie.Need-no-grains-requires Inv-loop μ-loop
 no-grains-requires c κs = search needs
@@ -36,6 +50,12 @@ mul-e c = omega arith
 array-copy-out-e : tie.Need-array-copy-out-e Inv-loop μ-loop
 array-copy-out-e c = omega arith
 
+mul-x : tie.Need-mul-x Inv-loop μ-loop
+mul-x c = omega arith
+
+array-copy-out-x : tie.Need-array-copy-out-x Inv-loop μ-loop
+array-copy-out-x c = omega arith
+
 mul-member-earned : tie.Need-mul-member-earned Inv-loop μ-loop
 mul-member-earned c = search needs
 
@@ -48,43 +68,43 @@ part-member-earned-start c = search needs
 part-member-earned-end : tie.Need-part-member-earned-end Inv-loop μ-loop
 part-member-earned-end c = search needs
 
-mul-member-earned-2 : tie.Need-mul-member-earned-2 Inv-loop μ-loop
-mul-member-earned-2 c = omega arith
-
-array-copy-out-member-earned : tie.Need-array-copy-out-member-earned Inv-loop μ-loop
-array-copy-out-member-earned c = omega arith
-
 member-earned-requires : tie.Need-member-earned-requires Inv-loop μ-loop
 member-earned-requires c κs = search needs
 
 enum-known-earned : tie.Need-enum-known-earned Inv-loop μ-loop
 enum-known-earned c = search needs
 
+member-fault-requires : tie.Need-member-fault-requires Inv-loop μ-loop
+member-fault-requires c κs = search needs
+
+-- the turn of line i, over the member's own part of the series
+turned : (c : tie.After-member-earned Inv-loop μ-loop)
+    → let a = c .before .before .before .before .before .before .before .before .before .before .args in let l = c .before .before .before .before .before .before .loop in
+    turnOf (take (a .count) (a .t1)) (a .book .now) (a .series .now) (a .t5) (a .t6) (l .at) (l .i) ≡ c .member-earned .result
+turned c =
+    let a = c .before .before .before .before .before .before .before .before .before .before .args in
+    let l = c .before .before .before .before .before .before .loop in
+    let end = c .before .before .before .before .part-end in
+    turn-is (take (a .count) (a .t1)) (a .book .now) (a .series .now) (a .t5) (a .t6) (a .t1) (a .count) (l .at) (l .i) _ (c .member-earned .result) refl
+    (omega arith) (cut-take (a .series .now) (l .at) _ (end .result) (l .inv .2 .within) (end .ensures .0)) (c .member-earned .ensures)
+
+returns : tie.Need-returns Inv-loop μ-loop
+returns c =
+    let l = c .before .before .before .before .before .before .before .before .loop in
+    let a = c .before .before .before .before .before .before .before .before .before .before .before .before .args in
+    let all : length (a .t1) ≡ 64 = search needs in
+    let long = length-take-le (a .count) (a .t1) (omega arith) in
+    let x = c .before .before .member-earned .result in
+    let stop =
+    walk-stop (take (a .count) (a .t1)) (a .book .now) (a .series .now) (a .t5) (a .t6) (l .grains) (l .at) (l .i) (l .inv .2) (omega arith) x
+    (turned (c .before .before)) (other x (c .before .match .keys2)) in
+    record { refusal = λ e. (stop .0, c .member-fault .ensures ∙ stop .1); each = λ e. absurd (true≢false e) }
+
 mul-grains : tie.Need-mul-grains Inv-loop μ-loop
 mul-grains c = omega arith
 
 array-set-from-grains : tie.Need-array-set-from-grains Inv-loop μ-loop
 array-set-from-grains c = omega arith
-
-enum-known-earned-2 : tie.Need-enum-known-earned-2 Inv-loop μ-loop
-enum-known-earned-2 c = search needs
-
-returns : tie.Need-returns Inv-loop μ-loop
-returns c =
-    let l = c .before .before .before .before .before .before .before .before .before .loop in
-    let a = c .before .before .before .before .before .before .before .before .before .before .before .before .before .args in
-    let all : length (a .t1) ≡ 64 = search needs in
-    let long = length-take-le (a .count) (a .t1) (omega arith) in
-    let turned = c .before .before .before in
-    let end = c .before .before .before .before .before .before .before .part-end in
-    let own = cut-take (a .series .now) (l .at) _ (end .result) (l .inv .2 .within) (end .ensures .0) in
-    let t =
-    turn-is (take (a .count) (a .t1)) (a .book .now) (a .series .now) (a .t5) (a .t6) (a .t1) (a .count) (l .at) (l .i) _ (turned .member-earned .result) refl
-    (omega arith) own (turned .member-earned .ensures) in
-    let stop =
-    walk-stop (take (a .count) (a .t1)) (a .book .now) (a .series .now) (a .t5) (a .t6) (l .grains) (l .at) (l .i) (l .inv .2) (omega arith) _ _
-    (t ∙ c .before .earned2 .given .1) in
-    record { refusal = λ e. stop; each = λ e. absurd (true≢false e) }
 
 add-i : tie.Need-add-i Inv-loop μ-loop
 add-i c = omega arith
@@ -98,15 +118,10 @@ loop-again c =
     let a = c .before .before .before .before .before .before .before .before .before .before .before .before .before .args in
     let all : length (a .t1) ≡ 64 = search needs in
     let long = length-take-le (a .count) (a .t1) (omega arith) in
-    let turned = c .before .before .before in
     let end = c .before .before .before .before .before .before .before .part-end in
-    let own = cut-take (a .series .now) (l .at) _ (end .result) (l .inv .2 .within) (end .ensures .0) in
-    let t =
-    turn-is (take (a .count) (a .t1)) (a .book .now) (a .series .now) (a .t5) (a .t6) (a .t1) (a .count) (l .at) (l .i) _ (turned .member-earned .result) refl
-    (omega arith) own (turned .member-earned .ensures) in
     let on =
     walk-on (take (a .count) (a .t1)) (a .book .now) (a .series .now) (a .t5) (a .t6) (l .grains) (l .at) (l .i) (l .inv .2) (omega arith) _ (end .result) _ refl
-    (end .ensures .0) (end .ensures .2) (omega (arith, l .inv .1)) (t ∙ c .before .earned .given .1) in
+    (end .ensures .0) (end .ensures .2) (omega (arith, l .inv .1)) (turned (c .before .before .before) ∙ c .before .earned .given .1) in
     (omega arith, simp length-set (l .inv .1), on)
 
 returns-2 : tie.Need-returns-2 Inv-loop μ-loop
@@ -131,18 +146,18 @@ members-earned-spec =
     part-end-requires
     mul-e
     array-copy-out-e
+    mul-x
+    array-copy-out-x
     mul-member-earned
     sub-member-earned
     part-member-earned-start
     part-member-earned-end
-    mul-member-earned-2
-    array-copy-out-member-earned
     member-earned-requires
     enum-known-earned
+    member-fault-requires
+    returns
     mul-grains
     array-set-from-grains
-    enum-known-earned-2
-    returns
     add-i
     loop-less
     loop-again

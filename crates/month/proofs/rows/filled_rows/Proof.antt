@@ -13,10 +13,11 @@ use Rattle.month.proofs.rows.filled_rows.Statement.{statement}
 use Rattle.month.proofs.rows.filled_rows.Tie as tie
 
 abbrev Inv-loop : tie.InvT-loop
-Inv-loop count negative lines grains rows₀ i₀ rows i = (i ≤ count) × (length rows ≡ 64) × (rows ≡ over rows₀ (rowsIn negative (take count lines) (take count grains)) i)
+Inv-loop count negative lines grains ramped rows₀ i₀ rows i =
+    (i ≤ count) × (length rows ≡ 64) × (rows ≡ over rows₀ (rowsIn negative (take count lines) (take count grains) ramped) i)
 
 abbrev μ-loop : tie.MeasureT-loop
-μ-loop count negative lines grains rows₀ i₀ rows i = count - i
+μ-loop count negative lines grains ramped rows₀ i₀ rows i = count - i
 
 blank-rows-requires : tie.Need-blank-rows-requires Inv-loop μ-loop
 blank-rows-requires c κs = search needs
@@ -36,10 +37,16 @@ mul-g c = omega arith
 array-copy-out-g : tie.Need-array-copy-out-g Inv-loop μ-loop
 array-copy-out-g c = omega arith
 
+mul-x : tie.Need-mul-x Inv-loop μ-loop
+mul-x c = omega arith
+
+array-copy-out-x : tie.Need-array-copy-out-x Inv-loop μ-loop
+array-copy-out-x c = omega arith
+
 row-in-requires : tie.Need-row-in-requires Inv-loop μ-loop
 row-in-requires c κs =
-    let s = c .before .before .before .before .before in
-    let l = c .before .before .before .loop in
+    let s = c .before .before .before .before .before .before in
+    let l = c .before .before .before .before .loop in
     let long : length (s .args .t1) ≡ 64 = search needs in
     within-at (s .args .t1) (s .args .count) (l .i) blankLine (s .pre .1) (omega arith) (omega arith) .energy
 
@@ -57,14 +64,14 @@ loop-less c = omega arith
 
 loop-again : tie.Need-loop-again Inv-loop μ-loop
 loop-again c =
-    let s = c .before .before .before .before .before .before in
-    let l = c .before .before .before .before .loop in
+    let s = c .before .before .before .before .before .before .before in
+    let l = c .before .before .before .before .before .loop in
     let long : length (s .args .t1) ≡ 64 = search needs in
-    let rows = rowsIn (s .args .negative) (take (s .args .count) (s .args .t1)) (take (s .args .count) (s .args .t2)) in
-    let blank = c .before .before .before .before .before .blank-rows .result in
-    let long₂ : length blank ≡ 64 = rw (c .before .before .before .before .before .blank-rows .ensures) (length-replicate 64 blankRow) in
-    let long₃ = length-counted (s .args .negative) (s .args .t1) (s .args .t2) (s .args .count) (omega arith) in
-    let v = row-counted (s .args .negative) (s .args .t1) (s .args .t2) (s .args .count) (omega arith) (l .i) blankRow (omega arith) ∙ sym (c .row-in .ensures) in
+    let rows = rowsIn (s .args .negative) (take (s .args .count) (s .args .t1)) (take (s .args .count) (s .args .t2)) (s .args .t3) in
+    let blank = c .before .before .before .before .before .before .blank-rows .result in
+    let long₂ : length blank ≡ 64 = rw (c .before .before .before .before .before .before .blank-rows .ensures) (length-replicate 64 blankRow) in
+    let long₃ = length-counted (s .args .negative) (s .args .t1) (s .args .t2) (s .args .t3) (s .args .count) (omega arith) in
+    let v = row-counted (s .args .negative) (s .args .t1) (s .args .t2) (s .args .t3) (s .args .count) (omega arith) (l .i) blankRow (omega arith) ∙ sym (c .row-in .ensures) in
     (omega arith, simp length-set (l .inv .1), over-step blank rows (l .rows) (l .i) blankRow (c .row-in .result) (l .inv .2) (omega arith) (omega arith) v)
 
 returns : tie.Need-returns Inv-loop μ-loop
@@ -73,7 +80,7 @@ returns c =
     let l = c .before .loop in
     let long : length (s .args .t1) ≡ 64 = search needs in
     let e : l .i ≡ s .args .count = omega arith in
-    rows-done (s .args .negative) (s .args .t1) (s .args .t2) (s .args .count) (omega arith) (l .rows) (l .i) e (rw (c .before .before .blank-rows .ensures) at (l .inv .2))
+    rows-done (s .args .negative) (s .args .t1) (s .args .t2) (s .args .t3) (s .args .count) (omega arith) (l .rows) (l .i) e (rw (c .before .before .blank-rows .ensures) at (l .inv .2))
 
 pub filled-rows-spec : {M : Type 1} → statement M
 filled-rows-spec =
@@ -87,6 +94,8 @@ filled-rows-spec =
     array-copy-out-l
     mul-g
     array-copy-out-g
+    mul-x
+    array-copy-out-x
     row-in-requires
     mul-rows
     array-set-from-rows
