@@ -56,8 +56,8 @@ money-same name y z a b e f cut = sign-same y z a b e f (behind-name name (signe
 five : (a b c d e f : List ℕ) → ((((a ++ b) ++ c) ++ d) ++ e) ++ f ≡ a ++ (b ++ (c ++ (d ++ (e ++ f))))
 five a b c d e f = simp append-assoc
 
-nine : (a b c d e f g h i j : List ℕ) → ((((a ++ b) ++ c) ++ d) ++ ((((e ++ f) ++ g) ++ h) ++ i)) ++ j ≡ a ++ (b ++ (c ++ (d ++ (e ++ (f ++ (g ++ (h ++ (i ++ j))))))))
-nine a b c d e f g h i j = simp append-assoc
+ten : (a b c d e f g h i j k : List ℕ) → (((((a ++ b) ++ c) ++ d) ++ e) ++ ((((f ++ g) ++ h) ++ i) ++ j)) ++ k ≡ a ++ (b ++ (c ++ (d ++ (e ++ (f ++ (g ++ (h ++ (i ++ (j ++ k)))))))))
+ten a b c d e f g h i j k = simp append-assoc
 
 pub head-same : (g h : Header) (m n : ℕ) (x y : List ℕ) → headText g m ++ x ≡ headText h n ++ y → (g ≡ h) × (m ≡ n) × (x ≡ y)
 unfolding headText startsDigit
@@ -74,13 +74,14 @@ pub row-same : (r s : Row) (x y : List ℕ) → rowText r ++ x ≡ rowText s ++ 
 unfolding rowText earnedText carriedText startsDigit
 row-same r s x y cut =
     let whole =
-    sym (nine (field "member " (r .number)) (field " grains " (r .grains .0)) (field " compensation " (r .compensation .0)) (field " assessment " (r .assessment .0))
+    sym (ten (field "member " (r .number)) (field " hours " (r .hours)) (field " grains " (r .grains .0)) (field " compensation " (r .compensation .0)) (field " assessment " (r .assessment .0))
     (field " energy " (r .energy .0)) (field " weight " (r .weight)) (signedField " share " (r .share .0)) (signedField " amount " (r .amount .0)) (word "\n") x)
     ∙ cut
-    ∙ nine (field "member " (s .number)) (field " grains " (s .grains .0)) (field " compensation " (s .compensation .0)) (field " assessment " (s .assessment .0))
+    ∙ ten (field "member " (s .number)) (field " hours " (s .hours)) (field " grains " (s .grains .0)) (field " compensation " (s .compensation .0)) (field " assessment " (s .assessment .0))
     (field " energy " (s .energy .0)) (field " weight " (s .weight)) (signedField " share " (s .share .0)) (signedField " amount " (s .amount .0)) (word "\n") y in
     let a = field-same (word "member ") (r .number) (s .number) _ _ refl refl whole in
-    let b = field-same (word " grains ") (r .grains .0) (s .grains .0) _ _ refl refl (a .1) in
+    let o = field-same (word " hours ") (r .hours) (s .hours) _ _ refl refl (a .1) in
+    let b = field-same (word " grains ") (r .grains .0) (s .grains .0) _ _ refl refl (o .1) in
     let c = field-same (word " compensation ") (r .compensation .0) (s .compensation .0) _ _ refl refl (b .1) in
     let d = field-same (word " assessment ") (r .assessment .0) (s .assessment .0) _ _ refl refl (c .1) in
     let e = field-same (word " energy ") (r .energy .0) (s .energy .0) _ _ refl refl (d .1) in
@@ -90,6 +91,7 @@ row-same r s x y cut =
       λ i.
           record {
             number = a .0 i;
+            hours = o .0 i;
             grains = record { 0 = b .0 i };
             compensation = record { 0 = c .0 i };
             assessment = record { 0 = d .0 i };

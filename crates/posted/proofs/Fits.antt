@@ -30,11 +30,15 @@ use Rattle.month.specs.declared.Fault.the-variants.{NoFault}
 use Rattle.month.specs.declared.Row.{Row}
 use Rattle.month.specs.declared.Statement.{Statement}
 use Rattle.month.specs.Settling.{MonthGiven, rowOf, blankRow, settling}
-use Rattle.month.specs.Outcomes.{scoreOfLine, linesIn, grainsIn}
+use Rattle.month.specs.Outcomes.{scoreOfLine, rampedOfLine, linesIn, grainsIn}
 use Rattle.month.proofs.Walking.{noGrains}
 use Rattle.month.proofs.Accepted.{rowsSettled, noPart, row-at, length-rows, length-in, settled-row, passed}
-use Rattle.month.proofs.Promises.{rowOfLine, addedTo, compensation-is}
+use Rattle.month.proofs.Promises.{rowOfLine, compensation-is}
 use Rattle.posted.specs.Reading.{HeadFits, RowFits, RowsFit, none, more}
+
+-- what the ramping files say of their hours is a number of 16 bits, as `settle` is given it
+abbrev pub HoursCounted : MonthGiven → Type 0
+HoursCounted g = (i : ℕ) → rampedOfLine g i .hours < 2 ^ 16
 
 -- rows fit where the row at each place does
 pub rows-fit : (rs : List Row) → ((i : ℕ) → i < length rs → RowFits (getD rs i blankRow)) → RowsFit rs
@@ -58,12 +62,13 @@ head-fits b e =
     }
 
 -- a row of a sound line
-row-fits : (isBelow : Bool) (before : ℕ) (l : Line) (gs : Grains) (p : Part) → SoundLine before l → gs .0 < 2 ^ 64
-    → natAbs (p .share) ≤ 100000000000 → natAbs (p .amount) ≤ 200000000000 → RowFits (rowOf isBelow l gs p)
+row-fits : (isBelow : Bool) (before : ℕ) (l : Line) (gs : Grains) (hours : ℕ) (p : Part) → SoundLine before l → gs .0 < 2 ^ 64 → hours < 2 ^ 16
+    → natAbs (p .share) ≤ 100000000000 → natAbs (p .amount) ≤ 200000000000 → RowFits (rowOf isBelow l gs hours p)
 unfolding rowOf
-row-fits isBelow before l gs p s g h k =
+row-fits isBelow before l gs hours p s g n h k =
     record {
       number = omega (arith, s .number);
+      hours = n;
       grains = g;
       compensation = omega (arith, s .compensation);
       assessment = omega (arith, s .assessment);
@@ -73,7 +78,7 @@ row-fits isBelow before l gs p s g h k =
       amount = small-fits (p .amount) 200000000000 k (omega arith);
     }
 
-module _ (g : MonthGiven) (settled : settling g .fault ≡ NoFault) where
+module _ (g : MonthGiven) (settled : settling g .fault ≡ NoFault) (counted : HoursCounted g) where
   abbrev ls : List Line
   ls = linesIn g
 
@@ -99,17 +104,17 @@ module _ (g : MonthGiven) (settled : settling g .fault ≡ NoFault) where
   grains-fit i h =
       let c = compensation-is g settled i h in
       let same : rowOfLine g i .grains .0 ≡ getD (grainsIn g) i noGrains .0 = ap (λ (r : Row). r .grains .0) (settled-row g i (passed g settled) h) in
-      omega (arith, c .1, same, held-fits (scoreOfLine g i .grains .0) (addedTo g i .0))
+      omega (arith, c .2, same, held-fits (scoreOfLine g i .grains .0) (rampedOfLine g i .grains .0))
 
   month-row : (i : ℕ) → i < length (rowsSettled g) → RowFits (getD (rowsSettled g) i blankRow)
   month-row i l =
       let p = passed g settled in
       let long = length-in g in
-      let rows = length-rows (below ls) ls (grainsIn g) (sharing ls .parts) in
+      let rows = length-rows (below ls) ls (grainsIn g) (g .ramped) (sharing ls .parts) in
       let w = part-within ls (p .shared) i noPart (omega arith) in
-      rw (row-at (below ls) ls (grainsIn g) (sharing ls .parts) i blankRow (omega arith))
-      (row-fits (below ls) (numberBefore 0 ls i) (getD ls i blankLine) (getD (grainsIn g) i noGrains) (getD (sharing ls .parts) i noPart)
-      (sound i (omega arith)) (grains-fit i (omega arith)) (w .0) (w .1))
+      rw (row-at (below ls) ls (grainsIn g) (g .ramped) (sharing ls .parts) i blankRow (omega arith))
+      (row-fits (below ls) (numberBefore 0 ls i) (getD ls i blankLine) (getD (grainsIn g) i noGrains) (rampedOfLine g i .hours) (getD (sharing ls .parts) i noPart)
+      (sound i (omega arith)) (grains-fit i (omega arith)) (counted i) (w .0) (w .1))
 
   pub month-rows : RowsFit (rowsSettled g)
   month-rows = rows-fit (rowsSettled g) month-row

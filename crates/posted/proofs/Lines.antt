@@ -25,30 +25,29 @@ use Rattle.posted.specs.Inner.{startsDigit, Behind, FieldIs, SignedField
 use Rattle.posted.specs.Inner.{HeadAt, RowAt, TotalAt}
 use Rattle.posted.proofs.Signing.{through}
 
-four : (a b c d e : List ℕ) → (((a ++ b) ++ c) ++ d) ++ e ≡ a ++ (b ++ (c ++ (d ++ e)))
-four a b c d e = simp append-assoc
-
 five : (a b c d e f : List ℕ) → ((((a ++ b) ++ c) ++ d) ++ e) ++ f ≡ a ++ (b ++ (c ++ (d ++ (e ++ f))))
 five a b c d e f = simp append-assoc
 
 module _ (t : List ℕ) (at : ℕ) where
-  pub earned-reads : (a b c d : Number) → FieldIs 7 t at a → FieldIs 8 t (a .next) b → FieldIs 14 t (b .next) c → FieldIs 12 t (c .next) d
-      → EarnedIs t at (record { number = a .value; grains = b .value; compensation = c .value; assessment = d .value; next = d .next })
+  pub earned-reads : (a b c d e : Number) → FieldIs 7 t at a → FieldIs 7 t (a .next) b → FieldIs 8 t (b .next) c → FieldIs 14 t (c .next) d → FieldIs 12 t (d .next) e
+      → EarnedIs t at (record { number = a .value; hours = b .value; grains = c .value; compensation = d .value; assessment = e .value; next = e .next })
   unfolding earnedText startsDigit
-  earned-reads a b c d f g h i =
+  earned-reads a b c d e f g h i j =
       record {
-        within = i .within;
+        within = j .within;
         reads =
-            λ r rest fits e cut.
+            λ r rest fits n cut.
+            let hours = field " hours " (r .hours) in
             let grains = field " grains " (r .grains .0) in
             let money = field " compensation " (r .compensation .0) in
             let points = field " assessment " (r .assessment .0) in
-            let one = f .reads (word "member ") (r .number) (grains ++ (money ++ (points ++ rest))) refl (omega (arith, fits .number)) refl
-            (cut ∙ four (field "member " (r .number)) grains money points rest) in
-            let two = g .reads (word " grains ") (r .grains .0) (money ++ (points ++ rest)) refl (fits .grains) refl (one .1) in
-            let three = h .reads (word " compensation ") (r .compensation .0) (points ++ rest) refl (fits .compensation) refl (two .1) in
-            let last = i .reads (word " assessment ") (r .assessment .0) rest refl (omega (arith, fits .assessment)) e (three .1) in
-            (record { number = one .0; grains = two .0; compensation = three .0; assessment = last .0 }, last .1);
+            let one = f .reads (word "member ") (r .number) (hours ++ (grains ++ (money ++ (points ++ rest)))) refl (omega (arith, fits .number)) refl
+            (cut ∙ five (field "member " (r .number)) hours grains money points rest) in
+            let two = g .reads (word " hours ") (r .hours) (grains ++ (money ++ (points ++ rest))) refl (omega (arith, fits .hours)) refl (one .1) in
+            let three = h .reads (word " grains ") (r .grains .0) (money ++ (points ++ rest)) refl (fits .grains) refl (two .1) in
+            let four = i .reads (word " compensation ") (r .compensation .0) (points ++ rest) refl (fits .compensation) refl (three .1) in
+            let last = j .reads (word " assessment ") (r .assessment .0) rest refl (omega (arith, fits .assessment)) n (four .1) in
+            (record { number = one .0; hours = two .0; grains = three .0; compensation = four .0; assessment = last .0 }, last .1);
       }
 
   pub carried-reads : (a b : Number) (c d : SignedNumber) → FieldIs 8 t at a → FieldIs 8 t (a .next) b → SignedFieldIs 7 t (b .next) c → SignedFieldIs 8 t (c .next) d
@@ -100,8 +99,8 @@ same-header g p q r = λ i. record { area = p i; year = q i; month = r i }
 
 module _ (t : List ℕ) (at : ℕ) where
   -- the two halves of a member's line
-  pub row-reads : (e : Earned) (k : Carried) (number assessment energy : ℕ) → EarnedIs t at e → CarriedIs t (e .next) k
-      → (e .number < 2 ^ 16 → number ≡ e .number) → (e .assessment < 2 ^ 32 → assessment ≡ e .assessment) → (k .energy < 2 ^ 32 → energy ≡ k .energy)
+  pub row-reads : (e : Earned) (k : Carried) (number hours assessment energy : ℕ) → EarnedIs t at e → CarriedIs t (e .next) k
+      → (e .number < 2 ^ 16 → number ≡ e .number) → (e .hours < 2 ^ 16 → hours ≡ e .hours) → (e .assessment < 2 ^ 32 → assessment ≡ e .assessment) → (k .energy < 2 ^ 32 → energy ≡ k .energy)
       → (r : Row) (rest : List ℕ) → RowFits r → drop at t ≡ rowText r ++ rest
       → _≡_ {A = Row}
       (record {
@@ -113,14 +112,16 @@ module _ (t : List ℕ) (at : ℕ) where
         assessment = record { 0 = assessment };
         energy = record { 0 = energy };
         number = number;
+        hours = hours;
       })
       r
   unfolding rowText carriedText startsDigit
-  row-reads e k number assessment energy f g u v w r rest fits cut =
+  row-reads e k number hours assessment energy f g u o v w r rest fits cut =
       let one = f .reads r (carriedText r ++ rest) fits refl (cut ∙ append-assoc (earnedText r) (carriedText r) rest) in
       let p = one .0 in
       let q = g .reads r rest fits (one .1) in
       let n : number ≡ r .number = u (omega (arith, p .number, fits .number)) ∙ p .number in
+      let h : hours ≡ r .hours = o (omega (arith, p .hours, fits .hours)) ∙ p .hours in
       let s : assessment ≡ r .assessment .0 = v (omega (arith, p .assessment, fits .assessment)) ∙ p .assessment in
       let y : energy ≡ r .energy .0 = w (omega (arith, q .energy, fits .energy)) ∙ q .energy in
       let x : toZ w64 (ofZ w64 (k .share)) ≡ r .share .0 = through _ _ (fits .share) (q .share) in
@@ -135,6 +136,7 @@ module _ (t : List ℕ) (at : ℕ) where
         assessment = record { 0 = s i };
         energy = record { 0 = y i };
         number = n i;
+        hours = h i;
       }
 
   -- a word that stands there, and the place behind it

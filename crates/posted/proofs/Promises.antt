@@ -23,7 +23,7 @@ use Rattle.posted.specs.declared.Reading.the-variants.{Whole, BadLine}
 use Rattle.posted.specs.Posted.{headText, rowsText, totalText, isSettled, postedText, mostPosted}
 use Rattle.posted.specs.Reading.{HeadFits, RowsFit, Settled, Taken, statementWith, readWhole, badLine, ReadPosted, no-head, no-line, no-end, whole}
 use Rattle.posted.proofs.Posting.{settled-text}
-use Rattle.posted.proofs.Fits.{few-entries, month-head, month-rows, month-gap}
+use Rattle.posted.proofs.Fits.{HoursCounted, few-entries, month-head, month-rows, month-gap}
 use Rattle.posted.proofs.Determined.{posted-determined}
 
 front-rows : (rs : List Row) → take (length rs) (filledRows rs) ≡ rs
@@ -93,32 +93,32 @@ posted-only (no-end h c rs z x e p k l) w = not-bad (2 + length rs) e w
 posted-only (whole h c rs z e p k) w = rw e (settled-of h c rs z (p .head) (p .few) (p .fit) k, p .is ∙ text-of h c rs z)
 
 -- A MONTH THAT WAS SETTLED HAS SUCH A STATEMENT: a row for each member, 64 at most, and every number fits its bits.
-pub month-settled : (g : MonthGiven) → settling g .fault ≡ NoFault → Settled (settling g)
-month-settled g e =
+pub month-settled : (g : MonthGiven) → HoursCounted g → settling g .fault ≡ NoFault → Settled (settling g)
+month-settled g n e =
     let p = passed g e in
     let rs = rowsSettled g in
     let w : settling g .rows ≡ filledRows rs = ap (λ (s : Statement). s .rows) (p .is) in
-    let m : settling g .count ≡ length rs = ap (λ (s : Statement). s .count) (p .is) ∙ sym (length-rows _ _ _ _) in
-    let n : settling g .count ≡ length (g .entries) = ap (λ (s : Statement). s .count) (p .is) ∙ length-in g in
-    let few = few-entries g e in
+    let m : settling g .count ≡ length rs = ap (λ (s : Statement). s .count) (p .is) ∙ sym (length-rows _ _ _ _ _) in
+    let many : settling g .count ≡ length (g .entries) = ap (λ (s : Statement). s .count) (p .is) ∙ length-in g in
+    let few = few-entries g e n in
     let front : take (settling g .count) (settling g .rows) ≡ rs = (λ i. take (m i) (w i)) ∙ front-rows rs in
     record {
       fault = e;
       few = omega arith;
       long = ap length w ∙ filled-long rs (omega arith);
       filled = w ∙ ap (λ (us : List Row). filledRows us) (sym front);
-      head = month-head g e;
-      fit = rw front (month-rows g e);
-      gap = month-gap g e;
+      head = month-head g e n;
+      fit = rw front (month-rows g e n);
+      gap = month-gap g e n;
     }
 
 -- SETTLED, WRITTEN, READ: whatever month is settled, its statement's text reads back as that statement, and as nothing else;
-pub month-posted-back : (g : MonthGiven) → settling g .fault ≡ NoFault → {r : Posted} → ReadPosted (postedText (settling g)) r
+pub month-posted-back : (g : MonthGiven) → HoursCounted g → settling g .fault ≡ NoFault → {r : Posted} → ReadPosted (postedText (settling g)) r
     → r ≡ record { reading = Whole; statement = settling g }
-month-posted-back g e = posted-back (settling g) (month-settled g e)
+month-posted-back g n e = posted-back (settling g) (month-settled g n e)
 
 -- so does what `posted_text` leaves of it at the front of a buffer with room.
-pub month-written-back : (g : MonthGiven) → settling g .fault ≡ NoFault → {before after : List ℕ} {n : ℕ} → mostPosted ≤ length before
+pub month-written-back : (g : MonthGiven) → HoursCounted g → settling g .fault ≡ NoFault → {before after : List ℕ} {n : ℕ} → mostPosted ≤ length before
     → Renders mostPosted (postedText (settling g)) before after n → Counts n after → {r : Posted} → ReadPosted (take n after) r
     → r ≡ record { reading = Whole; statement = settling g }
-month-written-back g e = written-back (settling g) (month-settled g e)
+month-written-back g n e = written-back (settling g) (month-settled g n e)

@@ -35,6 +35,12 @@ dateText h = field "area " (h .area) ++ field " year " (h .year) ++ field " mont
 abbrev pub mostDate : ℕ
 mostDate = 18 + 3 * mostDecimal
 
+abbrev pub whoText : Row → List ℕ
+whoText r = field "member " (r .number) ++ field " hours " (r .hours)
+
+abbrev pub mostWho : ℕ
+mostWho = 14 + 2 * mostDecimal
+
 abbrev pub loadText : Row → List ℕ
 loadText r = field " energy " (r .energy .0) ++ field " weight " (r .weight)
 
@@ -95,6 +101,7 @@ pub record Begins (text : List ℕ) (at : ℕ) (w : List ℕ) (r : Bool) : Type 
 -- the numbers of half a line are those of a row
 pub record EarnedSame (e : Earned) (r : Row) : Type 0 where
   pub number : e .number ≡ r .number
+  pub hours : e .hours ≡ r .hours
   pub grains : e .grains ≡ r .grains .0
   pub compensation : e .compensation ≡ r .compensation .0
   pub assessment : e .assessment ≡ r .assessment .0

@@ -6,7 +6,7 @@ use lib.IntN.{ℤ}
 use lib.ListN.{take}
 use Rattle.book.specs.declared.Header.{Header}
 use Rattle.month.specs.declared.Fault.{Fault}
-use Rattle.month.specs.declared.Fault.the-variants.{NoFault, InRegister, InBook, Unlisted, OfMember, InSharing}
+use Rattle.month.specs.declared.Fault.the-variants.{NoFault, InRegister, InBook, Unlisted, OfMember, OfRamping, InSharing}
 use Rattle.month.specs.declared.Row.{Row}
 use Rattle.month.specs.declared.Statement.{Statement}
 use Rattle.render.specs.Decimal.{word, field, signedField}
@@ -16,10 +16,11 @@ use Rattle.render.specs.Room.{mostDecimal}
 unfoldable pub headText : Header → ℕ → List ℕ
 headText h calls = field "area " (h .area) ++ field " year " (h .year) ++ field " month " (h .month) ++ field " calls " calls ++ word "\n"
 
--- what a member earned and is charged: fen, and thousandths of a point
+-- a member, how many ramping hours its file has, and what it earned and is charged: fen, and thousandths of a point
 unfoldable pub earnedText : Row → List ℕ
 earnedText r =
-    field "member " (r .number) ++ field " grains " (r .grains .0) ++ field " compensation " (r .compensation .0) ++ field " assessment " (r .assessment .0)
+    field "member " (r .number) ++ field " hours " (r .hours)
+    ++ field " grains " (r .grains .0) ++ field " compensation " (r .compensation .0) ++ field " assessment " (r .assessment .0)
 
 -- what it carries and gets: MWh, its weight, fen
 unfoldable pub carriedText : Row → List ℕ
@@ -46,6 +47,7 @@ isSettled (InRegister line) = false
 isSettled (InBook number place) = false
 isSettled (Unlisted place) = false
 isSettled (OfMember line number place) = false
+isSettled (OfRamping line number place) = false
 isSettled (InSharing number place) = false
 
 -- THE STATEMENT AS A TEXT: its first line, a line for each member, R; no text of a month that was not settled
@@ -58,7 +60,7 @@ abbrev pub mostHead : ℕ
 mostHead = 26 + 4 * mostDecimal
 
 abbrev pub mostEarned : ℕ
-mostEarned = 41 + 4 * mostDecimal
+mostEarned = 48 + 5 * mostDecimal
 
 abbrev pub mostCarried : ℕ
 mostCarried = 32 + 4 * mostDecimal

@@ -27,6 +27,7 @@ pub record HeadFits (h : Header) (n : ℕ) : Type 0 where
 
 pub record RowFits (r : Row) : Type 0 where
   pub number : r .number < 2 ^ 16
+  pub hours : r .hours < 2 ^ 16
   pub grains : r .grains .0 < 2 ^ 64
   pub compensation : r .compensation .0 < 2 ^ 64
   pub assessment : r .assessment .0 < 2 ^ 32

@@ -31,8 +31,8 @@ pub struct Posted {
     pub reading: Reading,
 }
 
-// The most bytes: 106 of the first line, 27 of R, and 233 for each of 64 members.
-pub const MOST_POSTED: usize = 15045;
+// The most bytes: 106 of the first line, 27 of R, and 260 for each of 64 members.
+pub const MOST_POSTED: usize = 16773;
 
 fn is_settled(fault: Fault) -> bool
     ensures { λ r. ⌜ r ≡ isSettled fault ⌝ }
@@ -43,6 +43,7 @@ fn is_settled(fault: Fault) -> bool
         Fault::InBook(number, place) => false,
         Fault::Unlisted(place) => false,
         Fault::OfMember(line, number, place) => false,
+        Fault::OfRamping(line, number, place) => false,
         Fault::InSharing(number, place) => false,
     }
 }

@@ -29,6 +29,7 @@ pub struct Heads {
 // The numbers of the two halves of a member's line.
 pub struct Earned {
     pub number: u64,
+    pub hours: u64,
     pub grains: u64,
     pub compensation: u64,
     pub assessment: u64,
@@ -111,15 +112,17 @@ fn earned_at(text: &[u8], at: usize) -> Earned
     ensures { λ r. ⌜ EarnedIs (now (text .entry)) at r ⌝ }
 {
     let a = field_at(text, at, 7);
-    let b = field_at(text, a.next, 8);
-    let c = field_at(text, b.next, 14);
-    let d = field_at(text, c.next, 12);
+    let b = field_at(text, a.next, 7);
+    let c = field_at(text, b.next, 8);
+    let d = field_at(text, c.next, 14);
+    let e = field_at(text, d.next, 12);
     Earned {
         number: a.value,
-        grains: b.value,
-        compensation: c.value,
-        assessment: d.value,
-        next: d.next,
+        hours: b.value,
+        grains: c.value,
+        compensation: d.value,
+        assessment: e.value,
+        next: e.next,
     }
 }
 
@@ -154,6 +157,7 @@ fn numbers_at(text: &[u8], at: usize) -> Row
         assessment: Thousandths(in_32(e.assessment)),
         energy: Mwh(in_32(c.energy)),
         number: in_16(e.number),
+        hours: in_16(e.hours),
     }
 }
 
@@ -180,7 +184,7 @@ pub fn row_at(text: &[u8], at: usize) -> RowLine
     ensures { λ r. ⌜ RowAt (now (text .entry)) at r ⌝ }
 {
     let row = numbers_at(text, at);
-    let mut line = [0u8; 233];
+    let mut line = [0u8; 260];
     let k = put_row(&mut line, 0, row);
     let is = begins(text, at, &line[..k]);
     let next = behind(text, at, k);

@@ -13,7 +13,7 @@ ghost use lib.ListN.{length, take};
 ghost use Rattle.register.specs.Register.{mostEntries};
 ghost use Rattle.render.specs.Inner.{Puts};
 ghost use Rattle.posted.specs.Posted.{headText, earnedText, carriedText, rowText, rowsText, totalText};
-ghost use Rattle.posted.specs.Inner.{dateText, mostDate, loadText, mostLoad};
+ghost use Rattle.posted.specs.Inner.{dateText, mostDate, whoText, mostWho, loadText, mostLoad};
 ghost use Rattle.posted.specs.Posted.{mostHead, mostEarned, mostCarried, mostRow, mostTotal, mostPosted};
 
 fn put_date(out: &mut [u8], at: usize, h: Header) -> usize
@@ -34,6 +34,14 @@ pub fn put_head(out: &mut [u8], at: usize, h: Header, calls: usize) -> usize
     put_word(out, b, b"\n")
 }
 
+fn put_who(out: &mut [u8], at: usize, r: Row) -> usize
+    requires { ⌜ at + mostWho ≤ length (now out) ⌝ }
+    ensures { λ next. ⌜ Puts mostWho (now (out .entry)) at (whoText r) (now (out .exit)) next ⌝ }
+{
+    let a = put_field(out, at, b"member ", r.number as u64);
+    put_field(out, a, b" hours ", r.hours as u64)
+}
+
 fn put_earned(out: &mut [u8], at: usize, r: Row) -> usize
     requires { ⌜ at + mostEarned ≤ length (now out) ⌝ }
     ensures { λ next. ⌜ Puts mostEarned (now (out .entry)) at (earnedText r) (now (out .exit)) next ⌝ }
@@ -41,7 +49,7 @@ fn put_earned(out: &mut [u8], at: usize, r: Row) -> usize
     let grains = r.grains;
     let compensation = r.compensation;
     let assessment = r.assessment;
-    let a = put_field(out, at, b"member ", r.number as u64);
+    let a = put_who(out, at, r);
     let b = put_field(out, a, b" grains ", grains.0);
     let c = put_field(out, b, b" compensation ", compensation.0);
     put_field(out, c, b" assessment ", assessment.0 as u64)

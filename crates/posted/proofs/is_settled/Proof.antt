@@ -22,6 +22,9 @@ enum-known-fault-4 c = search needs
 enum-known-fault-5 : tie.Need-enum-known-fault-5
 enum-known-fault-5 c = search needs
 
+enum-known-fault-6 : tie.Need-enum-known-fault-6
+enum-known-fault-6 c = search needs
+
 returns : tie.Need-returns
 unfolding isSettled
 returns c = sym (ap isSettled (c .enum-told .given .1))
@@ -46,6 +49,10 @@ returns-6 : tie.Need-returns-6
 unfolding isSettled
 returns-6 c = sym (ap isSettled (c .before .fault5 .given .1))
 
+returns-7 : tie.Need-returns-7
+unfolding isSettled
+returns-7 c = sym (ap isSettled (c .before .fault6 .given .1))
+
 pub is-settled-spec : {M : Type 1} → statement M
 is-settled-spec =
     tie.close
@@ -56,9 +63,11 @@ is-settled-spec =
     enum-known-fault-3
     enum-known-fault-4
     enum-known-fault-5
+    enum-known-fault-6
     returns
     returns-2
     returns-3
     returns-4
     returns-5
-    returns-6)
+    returns-6
+    returns-7)

@@ -15,8 +15,13 @@ field-at-requires-3 c κs = search needs
 field-at-requires-4 : tie.Need-field-at-requires-4
 field-at-requires-4 c κs = search needs
 
+field-at-requires-5 : tie.Need-field-at-requires-5
+field-at-requires-5 c κs = search needs
+
 returns : tie.Need-returns
-returns c = earned-reads _ _ _ _ _ _ (c .before .before .before .field-at .ensures) (c .before .before .field-at2 .ensures) (c .before .field-at3 .ensures) (c .field-at4 .ensures)
+returns c =
+    earned-reads _ _ _ _ _ _ _ (c .before .before .before .before .field-at .ensures) (c .before .before .before .field-at2 .ensures) (c .before .before .field-at3 .ensures)
+    (c .before .field-at4 .ensures) (c .field-at5 .ensures)
 
 pub earned-at-spec : {M : Type 1} → statement M
 earned-at-spec =
@@ -26,4 +31,5 @@ earned-at-spec =
     field-at-requires-2
     field-at-requires-3
     field-at-requires-4
+    field-at-requires-5
     returns)

@@ -18,14 +18,18 @@ in-32-requires-2 c κs = search needs
 in-16-requires : tie.Need-in-16-requires
 in-16-requires c κs = search needs
 
+in-16-requires-2 : tie.Need-in-16-requires-2
+in-16-requires-2 c κs = search needs
+
 returns : tie.Need-returns
 returns c =
-    let e = c .before .before .before .before .before .before .earned-at .result in
-    let k = c .before .before .before .before .before .carried-at .result in
+    let e = c .before .before .before .before .before .before .before .earned-at .result in
+    let k = c .before .before .before .before .before .before .carried-at .result in
     record {
       fits =
           record {
             number = search needs;
+            hours = search needs;
             grains = search needs;
             compensation = search needs;
             assessment = search needs;
@@ -34,8 +38,8 @@ returns c =
             share = search needs;
             amount = search needs;
           };
-      reads = row-reads _ _ e k _ _ _ (c .before .before .before .before .before .before .earned-at .ensures) (c .before .before .before .before .before .carried-at .ensures) (c .in-16 .ensures)
-          (c .before .before .in-32 .ensures) (c .before .in-322 .ensures);
+      reads = row-reads _ _ e k _ _ _ _ (c .before .before .before .before .before .before .before .earned-at .ensures) (c .before .before .before .before .before .before .carried-at .ensures) (c .before .in-16 .ensures)
+          (c .in-162 .ensures) (c .before .before .before .in-32 .ensures) (c .before .before .in-322 .ensures);
     }
 
 pub numbers-at-spec : {M : Type 1} → statement M
@@ -47,4 +51,5 @@ numbers-at-spec =
     in-32-requires
     in-32-requires-2
     in-16-requires
+    in-16-requires-2
     returns)
