@@ -347,7 +347,7 @@ static void worked_sums(void)
     series[0] = 209999;
     PAY_1(1, 300000, reserve, 4725052500);
     series[0] = 210000;
-    PAY_1(1, 300000, reserve, 0);
+    PAY_1(1, 300000, reserve, 945000000); /* request 1 */
     series[0] = 210001;
     PAY_1(1, 300000, reserve, 944989500);
 
@@ -413,6 +413,13 @@ static void pay_by_service(void)
     PAY_1(1, 300001, live(1, 1, 1, 2, 15, 15, 300001, 0, 0), (3000010ull - 2100010) * 15 * 70);
     PAY_1(1, 300000, live(1, 1, 1, 2, 0, 15, 300000, 0, 0), 0); /* P = 0 is below half */
     PAY_1(1, 1, live(1, 1, 1, 2, 0, 15, 1, 0, 0), 0);
+    /* 2, coal at exactly 70% (request 1): the upper band, still below a. */
+    series[1] = 210000;
+    PAY_1(1, 300000, live(1, 1, 1, 2, 15, 15, 210000, 0, 0), 0);
+    PAY_1(1, 300000, live(1, 1, 1, 2, 15, 15, 210001, 0, 0), 10 * 15 * 70);
+    series[1] = 7;
+    PAY_1(1, 10, live(1, 1, 1, 2, 15, 15, 10, 0, 0), 30 * 15 * 70);
+    series[1] = 210001;
     /* 2, gas and hydro: 10P < 7N. */
     PAY_1(2, 300000, live(1, 1, 1, 2, 0, 15, 0, 0, 0), 2100000ull * 150);
     PAY_1(3, 300001, live(1, 1, 1, 2, 0, 30, 0, 0, 0), 2100007ull * 150); /* 210,001 in the second quarter hour pays nothing */

@@ -415,7 +415,7 @@ static uint64_t window_pay(const uint8_t *r, uint32_t kind, uint32_t rated, cons
             sum += 10 * p < 5 * rated ? 5 * rated - 10 * p : 0;
         else if (kind != COAL)
             sum += 10 * p < 7 * rated ? 7 * rated - 10 * p : 0;
-        else if (5 * rated < 10 * p && p < a && 10 * p != 7 * rated)
+        else if (5 * rated < 10 * p && p < a)
             sum += (uint64_t)(10 * a - 10 * p) * (10 * p < 7 * rated ? 350 : 70);
     }
     return sum * 15 * (r[2] == 1 ? 3000 : kind == COAL ? 1 : 10);

@@ -44,7 +44,7 @@ lacking-most level p = cond-most (ltb (10 * p) level) (omega arith) (omega arith
 
 pub band-most : (N p : ℕ) → coalBand N p ≤ 350
 unfolding coalBand
-band-most N p = cond-most (ltb (10 * p) (7 * N)) (omega arith) (cond-most (ltb (7 * N) (10 * p)) (omega arith) (omega arith))
+band-most N p = cond-most (ltb (10 * p) (7 * N)) (omega arith) (omega arith)
 
 -- the pay of a minute is at most linear in the rating and the called power
 pub minute-most : (m : Member) (s a p : ℕ) → minutePay m s a p ≤ 15000 * (m .rated .0) + 3500 * a

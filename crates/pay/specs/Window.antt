@@ -21,9 +21,9 @@ deepPeakMinute kind N p =
     cond (eqb kind coal) (lacking (5 * N) p * 3000)
     unpaid
 
--- 2, coal: 0.35 of a point below 70% of N, 0.07 above; at exactly 70% the text names neither band
+-- 2, coal: 0.35 of a point below 70% of N, else 0.07; exactly 70% belongs to the upper band (request 1)
 unfoldable pub coalBand : ℕ → ℕ → ℕ
-coalBand N p = cond (ltb (10 * p) (7 * N)) 350 (cond (ltb (7 * N) (10 * p)) 70 0)
+coalBand N p = cond (ltb (10 * p) (7 * N)) 350 70
 
 -- 2, coal: above half of N, what the output lacks up to the called power a
 unfoldable pub coalMinute : ℕ → ℕ → ℕ → ℕ

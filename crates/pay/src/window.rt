@@ -62,10 +62,7 @@ fn coal_band(rated: Kw, p: Kw) -> PerTenth
     if at < edge {
         return PerTenth(350);
     }
-    if edge < at {
-        return PerTenth(70);
-    }
-    PerTenth(0)
+    PerTenth(70)
 }
 
 fn coal_minute(rated: Kw, top: Kw, p: Kw) -> Grains

@@ -78,7 +78,7 @@ everyServiceAndKind =
     ∷ Scores solarThermalPlant deepPeak 45 (pos 0) 0 0 notOpen
     ∷ Scores pumpedStoragePlant deepPeak 45 (pos 0) 0 0 notOpen
     ∷ Scores newStoragePlant deepPeak 45 (pos 0) 0 0 notOpen
-    -- 2, reserve, kind 1, a from 1 to N: where 5N < 10P and P < a, (10a − 10P) × 15 × rate: 350 if 10P < 7N, 70 if 10P > 7N;
+    -- 2, reserve, kind 1, a from 1 to N: where 5N < 10P and P < a, (10a − 10P) × 15 × rate: 350 if 10P < 7N, else 70 (request 1);
     -- kinds 2, 3, a = 0: where 10P < 7N, (7N − 10P) × 15 × 10
     ∷ Scores coalPlant reserve 45 (pos 290003) 0 0 (pays 6404412000 106740)
     ∷ Scores gasPlant reserve 45 (pos 0) 0 0 (pays 24810450 414)
@@ -174,8 +174,11 @@ bothSides =
     ∷ Scores (plant coal 246917) reserve 15 (pos 200000) 0 0 (pays 4018402500 66973)
     -- 2, kind 1: output below 70% of N, exactly there, and above it
     ∷ Scores (plant coal 176371) reserve 15 (pos 150000) 0 0 (pays 1393402500 23223)
-    ∷ Scores (plant coal 176370) reserve 15 (pos 150000) 0 0 (pays 0 0)
+    ∷ Scores (plant coal 176370) reserve 15 (pos 150000) 0 0 (pays 278680500 4645)
     ∷ Scores (plant coal 176369) reserve 15 (pos 150000) 0 0 (pays 278680500 4645)
+    -- 2, kind 1: output exactly at 70% of N and at the called power, and below that
+    ∷ Scores (plant coal 176370) reserve 15 (pos 123459) 0 0 (pays 0 0)
+    ∷ Scores (plant coal 176370) reserve 15 (pos 123460) 0 0 (pays 10500 0)
     -- 2, kind 1: output at the called power, and below it
     ∷ Scores (plant coal 170001) reserve 15 (pos 123459) 0 0 (pays 0 0)
     ∷ Scores (plant coal 170001) reserve 15 (pos 123460) 0 0 (pays 10500 0)

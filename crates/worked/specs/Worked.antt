@@ -101,9 +101,9 @@ abbrev pub sums : List Sum
 sums =
     -- coal, N 300,001, P 150,000 in one quarter hour of service 1: 225,000 grains, 4 fen
     Scoring (rowCoal 300001) 150000 (alone rowDeepPeak) 225000 4
-    -- coal, N = a = 300,000: P 209,999 gives 4,725,052,500, 210,000 gives 0, 210,001 gives 944,989,500
+    -- coal, N = a = 300,000: P 209,999 gives 4,725,052,500, 210,000 gives 945,000,000 (request 1), 210,001 gives 944,989,500
     ∷ Scoring (rowCoal 300000) 209999 (alone (rowReserve 300000)) 4725052500 78751
-    ∷ Scoring (rowCoal 300000) 210000 (alone (rowReserve 300000)) 0 0
+    ∷ Scoring (rowCoal 300000) 210000 (alone (rowReserve 300000)) 945000000 15750
     ∷ Scoring (rowCoal 300000) 210001 (alone (rowReserve 300000)) 944989500 15750
     -- coal 300,000, start-stop 4,320 minutes: 3,600,000,000,000 grains; 4,321: 0
     ∷ Scoring (rowCoal 300000) 0 (alone (rowStartStop 4320)) 3600000000000 60000000

@@ -1,3 +1,5 @@
+use mathlib.Core.Path.{_≡_}
+use Prim.Native.Nat.{ℕ, _*_, _≤_}
 use borrow.Author.Tests.{lt-ltb, le-ltb}
 use Rattle.pay.specs.Window.{coalBand}
 use borrow.Author.Needs.{needs}
@@ -20,13 +22,13 @@ returns : tie.Need-returns
 unfolding coalBand
 returns c = simp (lt-ltb _ _ (c .if1 .taken))
 
-returns-2 : tie.Need-returns-2
+-- from 70% on, and at 70%
+upper : (N p : ℕ) → 7 * N ≤ 10 * p → 70 ≡ coalBand N p
 unfolding coalBand
-returns-2 c = simp (le-ltb _ _ (c .before .if1 .left), lt-ltb _ _ (c .if2 .taken))
+upper N p h = simp (le-ltb (10 * p) (7 * N) h)
 
-returns-3 : tie.Need-returns-3
-unfolding coalBand
-returns-3 c = simp (le-ltb _ _ (c .before .if1 .left), le-ltb _ _ (c .if2 .left))
+returns-2 : tie.Need-returns-2
+returns-2 c = upper _ _ (c .if1 .left)
 
 pub coal-band-spec : {M : Type 1} → statement M
-coal-band-spec = tie.close (tie.spec cast-edge mul-edge cast-at mul-at returns returns-2 returns-3)
+coal-band-spec = tie.close (tie.spec cast-edge mul-edge cast-at mul-at returns returns-2)
