@@ -452,18 +452,22 @@ static void pay_by_service(void)
     PAY_1(1, 1500001, live(1, 1, 1, 5, 0, 0, 0, 0, 0), 1800000000000);
     PAY_1(7, 2999999, live(1, 1, 1, 5, 0, 0, 0, 0, 0), 1799999400000);
 
-    /* 6: whole percent above 98; 7: straight, or whole percent above 90 */
-    static const uint32_t rate6[][2] = {{0, 0}, {9799, 0}, {9800, 0}, {9899, 0}, {9900, 1}, {9999, 1}, {10000, 2}};
-    static const uint32_t rate7[][2] = {{0, 0}, {8999, 0}, {9000, 0}, {9099, 0}, {9100, 1}, {9999, 9}, {10000, 10}};
+    /* 6: hundredths of a percent above 98 (request 4); 7: straight, or whole percent above 90 */
+    static const uint32_t rate6[][2] = {{0, 0}, {9799, 0}, {9800, 0}, {9801, 1}, {9899, 99}, {9900, 100}, {9999, 199}, {10000, 200}};
+    static const uint32_t rate7[][2] = {{0, 0}, {8999, 0}, {9000, 0}, {9099, 0}, {9100, 1}, {9199, 1}, {9999, 9}, {10000, 10}};
     for (uint8_t kind = 1; kind <= 8; kind++)
         for (size_t i = 0; i < ROWS(rate6); i++) {
             row = kind * 10 + (int)i;
             if (kind != 4 && kind != 5)
-                PAY_1(kind, 7, live(1, 1, 1, 6, 0, 0, 0, rate6[i][0], 0), 7ull * 600000 * rate6[i][1]);
+                PAY_1(kind, 7, live(1, 1, 1, 6, 0, 0, 0, rate6[i][0], 0), 7ull * 6000 * rate6[i][1]);
             uint64_t straight = (kind == 3 || kind == 7 ? 30 : 180) * rate7[i][0];
             PAY_1(kind, 7, live(1, 1, 1, 7, 0, 0, 0, rate7[i][0], 0), 7 * (kind == 4 || kind == 5 ? 120000ull * rate7[i][1] : straight));
         }
     row = -1;
+    PAY(1, 10000, (struct call[]){live(1, 1, 1, 6, 0, 0, 0, 9801, 0)}, 1, 60000000, 1000);
+    PAY(1, 10000, (struct call[]){live(1, 1, 1, 6, 0, 0, 0, 9899, 0)}, 1, 5940000000, 99000);
+    PAY(1, 10000, (struct call[]){live(1, 1, 1, 6, 0, 0, 0, 9900, 0)}, 1, 6000000000, 100000);
+    PAY(4, 10000, (struct call[]){live(1, 1, 1, 7, 0, 0, 0, 9199, 0)}, 1, 1200000000, 20000);
 
     /* 8, wind and photovoltaic */
     for (uint8_t kind = 4; kind <= 5; kind++) {

@@ -437,7 +437,7 @@ static uint64_t pay(const uint8_t *r, uint32_t kind, uint32_t rated, const uint3
         n *= kind == HYDRO || kind == PUMPED ? 600000 : 1200000;
         return n < 1800000000000 ? n : 1800000000000;
     case 6:
-        return b > 9800 ? n * 600000 * ((b - 9800) / 100) : 0;
+        return b > 9800 ? n * 6000 * (b - 9800) : 0;
     case 7:
         if (kind == WIND || kind == PHOTOVOLTAIC)
             return b > 9000 ? n * 120000 * ((b - 9000) / 100) : 0;

@@ -98,7 +98,7 @@ black-start-most kind =
     (cond-most (eqb kind coal || eqb kind gas || eqb kind wind || eqb kind photovoltaic || eqb kind solarThermal || eqb kind newStorage) (omega arith) (omega arith))
 
 availability-most : (kind b : ℕ) → b ≤ 10000 → availabilityRate kind b ≤ 12000000
-unfolding availabilityRate percentsAbove
+unfolding availabilityRate
 availability-most kind b h = cond-most (hasAvailability kind) (omega arith) (omega arith)
 
 contribution-most : (kind b : ℕ) → b ≤ 10000 → contributionRate kind b ≤ 12000000

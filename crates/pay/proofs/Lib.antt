@@ -5,3 +5,4 @@ pub mod Bounds
 pub mod Cases
 pub mod Ceiling
 pub mod Within
+pub mod Percents

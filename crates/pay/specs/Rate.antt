@@ -38,10 +38,10 @@ blackStartRate kind =
 abbrev pub mostBlackStart : ℕ
 mostBlackStart = 1800000000000
 
--- 6, AGC availability (article 15 (1)): all but wind and photovoltaic a point for each whole percent above 98%
+-- 6, AGC availability (article 15 (1)): all but wind and photovoltaic a point for each percent above 98%, in proportion: 0.01 for each hundredth (request 4)
 unfoldable pub availabilityRate : ℕ → ℕ → ℕ
 availabilityRate kind b =
-    cond (hasAvailability kind) (percentsAbove 9800 b * 600000)
+    cond (hasAvailability kind) ((b - 9800) * 6000)
     unpaid
 
 -- 7, AGC contribution (article 15 (2) and (3)): coal, gas, solar thermal and new storage 3 points times the rate, hydro and pumped storage

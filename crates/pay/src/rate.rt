@@ -94,9 +94,8 @@ fn black_start_rate(kind: u8) -> PerKw
 fn availability_rate(kind: u8, b: u32) -> PerKw
     ensures { λ r. ⌜ r .0 ≡ availabilityRate kind b ⌝ }
 {
-    if has_availability(kind) {
-        let percents = percents_above(9800, b);
-        return PerKw((percents as u64) * 600_000);
+    if has_availability(kind) & (9800 < b) {
+        return PerKw(((b - 9800) as u64) * 6_000);
     }
     PerKw(0)
 }

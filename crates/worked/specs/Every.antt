@@ -115,15 +115,15 @@ everyServiceAndKind =
     ∷ Scores solarThermalPlant blackStart 0 (pos 0) 0 0 (pays 93332400000 1555540)
     ∷ Scores pumpedStoragePlant blackStart 0 (pos 0) 0 0 (pays 720004200000 12000070)
     ∷ Scores newStoragePlant blackStart 0 (pos 0) 0 0 (pays 14814000000 246900)
-    -- 6, AGC availability, kinds 1, 2, 3, 6, 7, 8: 600,000 per kW for each whole percent of b above 98%
+    -- 6, AGC availability, kinds 1, 2, 3, 6, 7, 8: 6,000 per kW for each hundredth of a percent of b above 98% (request 4)
     ∷ Scores coalPlant agcAvailability 0 (pos 0) 10000 0 (pays 360001200000 6000020)
-    ∷ Scores gasPlant agcAvailability 0 (pos 0) 9999 0 (pays 119999400000 1999990)
+    ∷ Scores gasPlant agcAvailability 0 (pos 0) 9999 0 (pays 238798806000 3979980)
     ∷ Scores hydroPlant agcAvailability 0 (pos 0) 9900 0 (pays 150001800000 2500030)
     ∷ Scores windPlant agcAvailability 0 (pos 0) 10000 0 notOpen
     ∷ Scores photovoltaicPlant agcAvailability 0 (pos 0) 10000 0 notOpen
     ∷ Scores solarThermalPlant agcAvailability 0 (pos 0) 10000 0 (pays 93332400000 1555540)
-    ∷ Scores pumpedStoragePlant agcAvailability 0 (pos 0) 9950 0 (pays 720004200000 12000070)
-    ∷ Scores newStoragePlant agcAvailability 0 (pos 0) 9901 0 (pays 7407000000 123450)
+    ∷ Scores pumpedStoragePlant agcAvailability 0 (pos 0) 9950 0 (pays 1080006300000 18000105)
+    ∷ Scores newStoragePlant agcAvailability 0 (pos 0) 9901 0 (pays 7481070000 124685)
     -- 7, AGC contribution, per kW: kinds 1, 2, 6, 8 180 × b; kinds 3, 7 30 × b; kinds 4, 5 120,000 for each whole percent above 90%
     ∷ Scores coalPlant agcContribution 0 (pos 0) 9777 0 (pays 527959759860 8799329)
     ∷ Scores gasPlant agcContribution 0 (pos 0) 10000 0 (pays 359998200000 5999970)
@@ -205,16 +205,19 @@ bothSides =
     ∷ Scores (plant coal 1500001) blackStart 0 (pos 0) 0 0 (pays 1800000000000 30000000)
     ∷ Scores (plant pumpedStorage 2999999) blackStart 0 (pos 0) 0 0 (pays 1799999400000 29999990)
     ∷ Scores (plant pumpedStorage 3000001) blackStart 0 (pos 0) 0 0 (pays 1800000000000 30000000)
-    -- 6: no whole percent above 98%, one, two
+    -- 6: no hundredth of a percent above 98%, one; on both sides of a whole percent, and of two
     ∷ Scores (plant newStorage 12345) agcAvailability 0 (pos 0) 9799 0 (pays 0 0)
-    ∷ Scores (plant newStorage 12345) agcAvailability 0 (pos 0) 9899 0 (pays 0 0)
+    ∷ Scores (plant newStorage 12345) agcAvailability 0 (pos 0) 9800 0 (pays 0 0)
+    ∷ Scores (plant newStorage 12345) agcAvailability 0 (pos 0) 9801 0 (pays 74070000 1235)
+    ∷ Scores (plant newStorage 12345) agcAvailability 0 (pos 0) 9899 0 (pays 7332930000 122216)
     ∷ Scores (plant newStorage 12345) agcAvailability 0 (pos 0) 9900 0 (pays 7407000000 123450)
-    ∷ Scores (plant newStorage 12345) agcAvailability 0 (pos 0) 9999 0 (pays 7407000000 123450)
+    ∷ Scores (plant newStorage 12345) agcAvailability 0 (pos 0) 9999 0 (pays 14739930000 245666)
     ∷ Scores (plant newStorage 12345) agcAvailability 0 (pos 0) 10000 0 (pays 14814000000 246900)
-    -- 7, kinds 4, 5: no whole percent above 90%, one
+    -- 7, kinds 4, 5: no whole percent above 90%, one; a part of a percent more is still one (request 4 leaves them)
     ∷ Scores (plant wind 100003) agcContribution 0 (pos 0) 8999 0 (pays 0 0)
     ∷ Scores (plant wind 100003) agcContribution 0 (pos 0) 9099 0 (pays 0 0)
     ∷ Scores (plant photovoltaic 54321) agcContribution 0 (pos 0) 9100 0 (pays 6518520000 108642)
+    ∷ Scores (plant photovoltaic 54321) agcContribution 0 (pos 0) 9199 0 (pays 6518520000 108642)
     -- 8, kinds 4, 5: 80%, 90%, c = 1; a = 0 and b at most 10,000
     ∷ Scores (plant wind 100003) frequencyEvent 0 (pos 0) 7999 0 (pays 0 0)
     ∷ Scores (plant wind 100003) frequencyEvent 0 (pos 0) 8000 0 (pays 300009000000 5000150)

@@ -1,30 +1,52 @@
-use mathlib.Core.Path.{sym, _∙_}
+use mathlib.Core.Path.{_≡_, refl, sym, _∙_, ap}
+use mathlib.Core.Bool.{Bool, true, false, cond, _&&_}
+use mathlib.Core.List.{[], _∷_}
+use Prim.Native.Nat.{ℕ, _-_, _*_}
+use native.Mathlib.Omega.{arith}
+use lib.Dec.{ltb}
+use borrow.Author.Tests.{ltb-true, ltb-false}
+use Rattle.le.proofs.Tests.{each}
+use Rattle.pay.specs.Member.{hasAvailability}
 use Rattle.pay.specs.Rate.{availabilityRate}
 use borrow.Author.Needs.{needs}
 use Rattle.pay.proofs.rate.availability_rate.Statement.{statement}
 use Rattle.pay.proofs.rate.availability_rate.Tie as tie
 
+some : (kind b : ℕ) → (hasAvailability kind && ltb 9800 b) ≡ true → (b - 9800) * 6000 ≡ availabilityRate kind b
+unfolding availabilityRate
+some kind b h = simp (each (hasAvailability kind) (ltb 9800 b ∷ []) h .0)
+
+none : (kind b : ℕ) → (hasAvailability kind && ltb 9800 b) ≡ false → 0 ≡ availabilityRate kind b
+unfolding availabilityRate
+none kind b h = go (hasAvailability kind) h
+  where
+    go : (t : Bool) → (t && ltb 9800 b) ≡ false → 0 ≡ cond t ((b - 9800) * 6000) 0
+    go true h = omega (arith, ltb-false 9800 b h)
+    go false h = refl
+
 has-availability-requires : tie.Need-has-availability-requires
 has-availability-requires c κs = search needs
 
-percents-above-requires : tie.Need-percents-above-requires
-percents-above-requires c κs = search needs
+sub-t6 : tie.Need-sub-t6
+sub-t6 c =
+    let b = c .before .before .args .b in
+    omega (arith, ltb-true 9800 b (each (c .before .has-availability .result) (ltb 9800 b ∷ []) (c .if1 .taken) .1 .0))
 
-cast-t5 : tie.Need-cast-t5
-cast-t5 c = search needs
+cast-t7 : tie.Need-cast-t7
+cast-t7 c = search needs
 
-mul-t6 : tie.Need-mul-t6
-mul-t6 c = search needs
+mul-t8 : tie.Need-mul-t8
+mul-t8 c = search needs
 
 returns : tie.Need-returns
-unfolding availabilityRate
-returns c = simp (sym (c .before .before .has-availability .ensures) ∙ c .before .if1 .taken, c .percents-above .ensures)
+returns c =
+    let e = c .before .has-availability .ensures in
+    some _ _ (ap (λ (t : Bool). t && ltb 9800 (c .before .before .args .b)) (sym e) ∙ c .if1 .taken)
 
 returns-2 : tie.Need-returns-2
-unfolding availabilityRate
-returns-2 c = simp (sym (c .before .has-availability .ensures) ∙ c .if1 .left)
+returns-2 c =
+    let e = c .before .has-availability .ensures in
+    none _ _ (ap (λ (t : Bool). t && ltb 9800 (c .before .before .args .b)) (sym e) ∙ c .if1 .left)
 
 pub availability-rate-spec : {M : Type 1} → statement M
-availability-rate-spec =
-    tie.close
-    (tie.spec has-availability-requires percents-above-requires cast-t5 mul-t6 returns returns-2)
+availability-rate-spec = tie.close (tie.spec has-availability-requires sub-t6 cast-t7 mul-t8 returns returns-2)
