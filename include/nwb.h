@@ -62,6 +62,7 @@ uint32_t nwb_find(const uint8_t *first, size_t first_len, const uint8_t *second,
  * in kW, 0 to 5,000,000, for each quarter hour of the book's month.
  * In this order: 10 (place 0); the book, 1 to 6; 11, the length first (place 65,535), then the lowest bad index; then that member's
  * records in turn, in each 14, 12, 13 (the place counts in the whole book). Others' and withdrawn records are skipped.
+ * From January 2027 on a live black start (service 5) is 12 for every kind; checking, joining and finding take it in any month.
  * `grains` is the month's pay (60,000 grains are one fen) and `fen` the same rounded once; both are 0 on a refusal.
  * Nothing but the cells is written. */
 uint32_t nwb_score(uint16_t participant, uint8_t kind, uint32_t rated, const uint8_t *book, size_t book_len,

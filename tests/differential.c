@@ -306,14 +306,31 @@ static void both_fen(uint64_t grains)
 
 struct heading { uint8_t area; uint16_t year; uint8_t month; uint32_t minutes; };
 
-static struct heading draw_heading(void)
+static uint32_t minutes_in(uint32_t year, uint32_t month)
 {
     static const uint32_t days[] = {31, 28, 31, 30, 31, 30, 31, 31, 30, 31, 30, 31};
+    return 1440 * (days[month - 1] + (month == 2 && year % 4 == 0));
+}
+
+static struct heading draw_heading(void)
+{
     struct heading h;
     h.area = (uint8_t)(1 + within(98));
     h.year = (uint16_t)(2024 + within(75));
     h.month = (uint8_t)(percent(30) ? 2 : 1 + below(12));
-    h.minutes = 1440 * (days[h.month - 1] + (h.month == 2 && h.year % 4 == 0));
+    h.minutes = minutes_in(h.year, h.month);
+    return h;
+}
+
+/* Of a book that is scored: half of them before January 2027, from which month on black start is turned away, and often a month beside it. */
+static struct heading draw_scored_heading(void)
+{
+    struct heading h = draw_heading();
+    int before = percent(50), beside = percent(40);
+    h.year = (uint16_t)(before ? (beside ? 2026 : 2024 + below(3)) : beside ? 2027 : 2027 + within(72));
+    if (beside)
+        h.month = (uint8_t)(before ? PICK(12, 12, 11, 1) : PICK(1, 1, 2, 12));
+    h.minutes = minutes_in(h.year, h.month);
     return h;
 }
 
@@ -726,7 +743,7 @@ static void case_score(void)
     uint16_t participant = (uint16_t)(1 + within(63));
     uint8_t kind = (uint8_t)(percent(35) ? 1 : 1 + below(8));
     uint32_t rated = percent(50) ? 1 + within(3999999) : PICK(1, 2, 3, 7, 10, 29999, 30000, 299999, 300000, 300001, 1499999, 1500000, 1500001, 2999999, 3000000, 3000001);
-    struct heading h = draw_heading();
+    struct heading h = draw_scored_heading();
     pool.h = h;
     size_t own = percent(98) ? below(10) : below(400), n = 0, len, series_len = h.minutes / 15;
     uint32_t a = rated, number = below(3), careful = PICK(100, 100, 100, 98, 80, 50);
@@ -751,7 +768,10 @@ static void case_score(void)
             c.state = dice < 5 ? 2 : dice < 7 && !percent(careful) ? 1 : 0;
             if (c.state != 0)
                 break;
-            draw_content(&c, percent(careful) ? open[kind - 1][below(open_count[kind - 1])] : (uint8_t)(1 + below(10)), h.minutes);
+            uint8_t service = percent(careful) ? open[kind - 1][below(open_count[kind - 1])] : (uint8_t)(1 + below(10));
+            if (service == 5 && h.year >= 2027 && percent(90)) /* else most of these books would stop in 12 */
+                service = 10;
+            draw_content(&c, service, h.minutes);
             if (c.service <= 4 && n > 0 && percent(40)) { /* against an earlier one's end */
                 const struct call *e = &calls[below((uint32_t)n)];
                 uint32_t start = e->start + e->minutes;

@@ -507,6 +507,47 @@ static void pay_by_service(void)
     group("pay by service, kind and band");
 }
 
+/* ---- black start on both sides of January 2027 (request 9) ---- */
+
+static void closing_month(void)
+{
+    static const struct { uint16_t year; uint8_t month; uint16_t quarters; int open; } months[] = {
+        {2024, 1, 2976, 1}, {2024, 2, 2784, 1}, {2026, 1, 2976, 1}, {2026, 11, 2880, 1}, {2026, 12, 2976, 1},
+        {2027, 1, 2976, 0}, {2027, 2, 2688, 0}, {2027, 12, 2976, 0}, {2028, 1, 2976, 0}, {2099, 12, 2976, 0}};
+    static uint8_t book[BOOK_MOST], other[BOOK_MOST], joined[BOOK_MOST];
+    const struct call start = live(1, 1, 1, 5, 0, 0, 0, 0, 0), again = live(1, 2, 1, 5, 0, 0, 0, 0, 0), trip = live(1, 0, 1, 10, 9, 0, 0, 0, 0);
+    output(0);
+    for (size_t i = 0; i < ROWS(months); i++) {
+        uint16_t year = months[i].year;
+        uint8_t month = months[i].month;
+        size_t quarters = months[i].quarters;
+        int open = months[i].open;
+        for (uint8_t kind = 1; kind <= 8; kind++) {
+            row = (int)i * 10 + kind;
+            SCORE(1, kind, 3000000, book, put_book(book, 7, year, month, &start, 1), series, quarters,
+                  open ? 0 : 12, 0, open ? 1800000000000 : 0, open ? 30000000 : 0);
+            SCORE(1, kind, 3000000, book, put_book(book, 7, year, month, (struct call[]){start, again}, 2), series, quarters,
+                  open ? 13 : 12, open, 0, 0);
+            SCORE(1, kind, 3000000, book, put_book(book, 7, year, month, (struct call[]){trip, start}, 2), series, quarters,
+                  open ? 0 : 12, open ? 0 : 1, open ? 9000000000000 : 0, open ? 150000000 : 0);
+        }
+        /* withdrawn, contested, another's: as ever */
+        row = (int)i * 10;
+        SCORE(1, 3, 3000000, book, put_book(book, 7, year, month, (struct call[]){empty(1, 1, 2, 2)}, 1), series, quarters, 0, 0, 0, 0);
+        SCORE(1, 3, 3000000, book, put_book(book, 7, year, month, (struct call[]){empty(1, 1, 2, 1)}, 1), series, quarters, 14, 0, 0, 0);
+        SCORE(2, 3, 3000000, book, put_book(book, 7, year, month, &start, 1), series, quarters, 0, 0, 0, 0);
+        /* read, written, joined and looked up in any month */
+        ONE(7, year, month, start, 48, 0);
+        size_t len = put_book(book, 7, year, month, &start, 1), other_len = put_book(other, 7, year, month, &again, 1);
+        CHECK(book, len, 0, 0);
+        size_t joined_len = put_book(joined, 7, year, month, (struct call[]){start, again}, 2);
+        JOIN(book, len, other, other_len, 80, 0, 0, joined, joined_len);
+        FIND(book, len, other, other_len, 1, 2, 2, 16);
+    }
+    row = -1;
+    group("black start on both sides of January 2027");
+}
+
 static void fen_once(void)
 {
     static const uint64_t rows[][2] = {{29999, 0}, {30000, 1}, {59999, 1}, {60000, 1}, {89999, 1}, {90000, 2}, {90001, 2}};
@@ -1524,6 +1565,7 @@ int main(void)
 
     worked_sums();
     pay_by_service();
+    closing_month();
     fen_once();
     headers();
     records();

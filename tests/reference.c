@@ -365,8 +365,11 @@ static int line_sound(uint32_t participant, uint32_t kind, uint32_t rated)
     return participant >= 1 && participant <= 64 && kind >= 1 && kind <= 8 && rated >= 1 && rated <= 4000000;
 }
 
-/* 12: is a sound live record open to this kind? */
-static int open_to(const uint8_t *r, uint32_t kind, uint32_t rated)
+/* Request 9: from this month on black start is bought by auction. */
+enum { CLOSING_YEAR = 2027, CLOSING_MONTH = 1 };
+
+/* 12: is a sound live record open to this kind, in this month? */
+static int open_to(const uint8_t *r, uint32_t kind, uint32_t rated, uint32_t year, uint32_t month)
 {
     int32_t a = get_i32(r + 16);
     uint32_t b = get32(r + 20);
@@ -377,6 +380,8 @@ static int open_to(const uint8_t *r, uint32_t kind, uint32_t rated)
         return kind == COAL ? a >= 1 && (uint32_t)a <= rated : (kind == GAS || kind == HYDRO) && a == 0;
     case 3:
         return kind == COAL || kind == GAS || kind == HYDRO;
+    case 5:
+        return year < CLOSING_YEAR || (year == CLOSING_YEAR && month < CLOSING_MONTH);
     case 6:
         return kind != WIND && kind != PHOTOVOLTAIC;
     case 8:
@@ -483,7 +488,7 @@ uint32_t ref_score(uint16_t participant, uint8_t kind, uint32_t rated, const uin
             mine = r;
         if (state(r) == WITHDRAWN)
             continue;
-        no = state(r) == CONTESTED ? 14 : !open_to(r, kind, rated) ? 12 : collides(mine, r) ? 13 : 0;
+        no = state(r) == CONTESTED ? 14 : !open_to(r, kind, rated, get16(book + 6), book[8]) ? 12 : collides(mine, r) ? 13 : 0;
         if (no != 0) {
             *place = i;
             return no;

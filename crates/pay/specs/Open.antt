@@ -1,7 +1,7 @@
 -- What is open to which kind: refusal 12, apart from pay. Assumes nothing.
 use mathlib.Core.Bool.{Bool, true, false, cond, _&&_, _||_}
 use Prim.Native.Nat.{ℕ}
-use lib.Dec.{eqb, leb}
+use lib.Dec.{eqb, ltb, leb}
 use lib.IntN.{ℤ, pos, negsuc}
 use lib.Signed.{leZ}
 use Rattle.call.specs.declared.Call.{Call}
@@ -27,14 +27,26 @@ reserveOpen kind N a =
 unfoldable pub eventOpen : ℕ → ℤ → ℕ → Bool
 eventOpen kind a b = cond (isByRate kind) (isZero a && leb b mostRate) true
 
--- what is open in a month, a row for each service: 5, 7, 9 and 10 to all kinds
+-- a month is before another: of an earlier year, or of the same year and an earlier month
+unfoldable pub isBefore : Month → Month → Bool
+isBefore month other = ltb (month .year) (other .year) || eqb (month .year) (other .year) && ltb (month .month) (other .month)
+
+-- 5: black start is bought by auction from this month on, January 2027 (request 9)
+abbrev pub closingMonth : Month
+closingMonth = record { year = 2027; month = 1 }
+
+-- 5: to all kinds before the closing month, from it on to none
+unfoldable pub blackStartOpen : Month → Bool
+blackStartOpen month = isBefore month closingMonth
+
+-- what is open in a month, a row for each service: 7, 9 and 10 to all kinds
 unfoldable pub openTo : Month → Member → Call → Bool
 openTo month m x =
     cond (eqb (x .service) deepPeak) (eqb (m .kind) coal)
     (cond (eqb (x .service) reserve) (reserveOpen (m .kind) (m .rated .0) (x .a))
     (cond (eqb (x .service) startStop) (eqb (m .kind) coal || eqb (m .kind) gas || eqb (m .kind) hydro)
     (cond (eqb (x .service) standby) (eqb (m .kind) coal)
-    (cond (eqb (x .service) blackStart) true
+    (cond (eqb (x .service) blackStart) (blackStartOpen month)
     (cond (eqb (x .service) agcAvailability) (hasAvailability (m .kind))
     (cond (eqb (x .service) agcContribution) true
     (cond (eqb (x .service) frequencyEvent) (eventOpen (m .kind) (x .a) (x .b))

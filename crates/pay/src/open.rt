@@ -1,6 +1,6 @@
 // What is open to which kind: refusal 12, apart from pay.
 ghost use mathlib.Core.Path.{_≡_};
-ghost use Rattle.pay.specs.Open.{isZero, reserveOpen, eventOpen, openTo};
+ghost use Rattle.pay.specs.Open.{isZero, reserveOpen, eventOpen, isBefore, closingMonth, blackStartOpen, openTo};
 use crate::Member;
 use crate::has_availability;
 use crate::is_by_rate;
@@ -55,6 +55,28 @@ fn event_open(kind: u8, a: i32, b: u32) -> bool
     !rate | none & (b <= MOST_RATE)
 }
 
+fn is_before(month: Month, other: Month) -> bool
+    ensures { λ r. ⌜ r ≡ isBefore month other ⌝ }
+{
+    (month.year < other.year) | (month.year == other.year) & (month.month < other.month)
+}
+
+// Black start is bought by auction from this month on.
+fn closing_month() -> Month
+    ensures { λ r. ⌜ r ≡ closingMonth ⌝ }
+{
+    Month {
+        year: 2027,
+        month: 1,
+    }
+}
+
+fn black_start_open(month: Month) -> bool
+    ensures { λ r. ⌜ r ≡ blackStartOpen month ⌝ }
+{
+    is_before(month, closing_month())
+}
+
 // The service and its fields are open to the member's kind, in the book's month.
 pub fn open_to(month: Month, member: Member, x: Call) -> bool
     ensures { λ r. ⌜ r ≡ openTo month member x ⌝ }
@@ -66,7 +88,7 @@ pub fn open_to(month: Month, member: Member, x: Call) -> bool
         RESERVE => reserve_open(kind, member.rated, x.a),
         START_STOP => (kind == COAL) | (kind == GAS) | (kind == HYDRO),
         STANDBY => kind == COAL,
-        BLACK_START => true,
+        BLACK_START => black_start_open(month),
         AGC_AVAILABILITY => has_availability(kind),
         AGC_CONTRIBUTION => true,
         FREQUENCY_EVENT => event_open(kind, x.a, x.b),

@@ -13,3 +13,4 @@ pub mod Example
 pub mod TakenOut
 pub mod Withdrawn
 pub mod WithdrawnStory
+pub mod Bidding

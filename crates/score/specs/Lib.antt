@@ -6,3 +6,4 @@ pub mod Inner
 pub mod Own
 pub mod Outcomes
 pub mod Lowered
+pub mod ByKind

@@ -12,7 +12,7 @@ use Rattle.pay.specs.Member.{memberIsSound, isByRate, hasAvailability}
 use Rattle.pay.specs.Window.{lacking, deepPeakMinute, coalBand, coalMinute, gasHydroMinute, reserveMinute, minutePay, quarterPay, quarterAt, windowPay}
 use Rattle.pay.specs.Rate.{percentsAbove, startStopRate, standbyRate, blackStartRate, availabilityRate, contributionRate, eventBand, eventRate, avcRate, rateOf, ratedPay}
 use Rattle.pay.specs.Event.{eventWh, clamp, energyPay}
-use Rattle.pay.specs.Open.{isZero, reserveOpen, eventOpen, openTo}
+use Rattle.pay.specs.Open.{isZero, reserveOpen, eventOpen, isBefore, blackStartOpen, openTo}
 use Rattle.pay.specs.Live.{livePay, liveWh}
 use Rattle.score.specs.First.{firstNonzero, anyBelow}
 use Rattle.score.specs.Refusing.{overlaps, isOnce, clashes, clashAt, numberOf, refusalAt}
@@ -27,7 +27,7 @@ unfolding
     isLeap daysOf minutesOf quartersOf grainsToFen table limitsOf limitsAllow callIsSound total totalZ memberIsSound isByRate hasAvailability
     lacking deepPeakMinute coalBand coalMinute gasHydroMinute reserveMinute minutePay quarterPay quarterAt windowPay
     percentsAbove startStopRate standbyRate blackStartRate availabilityRate contributionRate eventBand eventRate avcRate rateOf ratedPay
-    eventWh clamp energyPay isZero reserveOpen eventOpen openTo livePay liveWh firstNonzero anyBelow overlaps isOnce clashes clashAt numberOf refusalAt
+    eventWh clamp energyPay isZero reserveOpen eventOpen isBefore blackStartOpen openTo livePay liveWh firstNonzero anyBelow overlaps isOnce clashes clashAt numberOf refusalAt
     isOwnLive payOf whOf payAt whAt monthGrains firstRefused recordsEarned inFen
 every-service-and-kind = refl
 
@@ -45,7 +45,7 @@ unfolding
     isLeap daysOf minutesOf quartersOf grainsToFen table limitsOf limitsAllow callIsSound total totalZ memberIsSound isByRate hasAvailability
     lacking deepPeakMinute coalBand coalMinute gasHydroMinute reserveMinute minutePay quarterPay quarterAt windowPay
     percentsAbove startStopRate standbyRate blackStartRate availabilityRate contributionRate eventBand eventRate avcRate rateOf ratedPay
-    eventWh clamp energyPay isZero reserveOpen eventOpen openTo livePay liveWh firstNonzero anyBelow overlaps isOnce clashes clashAt numberOf refusalAt
+    eventWh clamp energyPay isZero reserveOpen eventOpen isBefore blackStartOpen openTo livePay liveWh firstNonzero anyBelow overlaps isOnce clashes clashAt numberOf refusalAt
     isOwnLive payOf whOf payAt whAt monthGrains firstRefused recordsEarned inFen
 both-sides = refl
 

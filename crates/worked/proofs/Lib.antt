@@ -2,3 +2,4 @@ pub mod Written
 pub mod Table
 pub mod Crowded
 pub mod Every
+pub mod Closing

@@ -12,7 +12,7 @@ use Rattle.pay.specs.Member.{memberIsSound, isByRate}
 use Rattle.pay.specs.Window.{lacking, deepPeakMinute, coalBand, coalMinute, reserveMinute, minutePay, quarterPay, quarterAt, windowPay}
 use Rattle.pay.specs.Rate.{startStopRate, blackStartRate, eventBand, eventRate, rateOf, ratedPay}
 use Rattle.pay.specs.Event.{eventWh, clamp, energyPay}
-use Rattle.pay.specs.Open.{isZero, reserveOpen, eventOpen, openTo}
+use Rattle.pay.specs.Open.{isZero, reserveOpen, eventOpen, isBefore, blackStartOpen, openTo}
 use Rattle.pay.specs.Live.{livePay, liveWh}
 use Rattle.score.specs.First.{firstNonzero, anyBelow}
 use Rattle.score.specs.Refusing.{overlaps, isOnce, clashes, clashAt, numberOf, refusalAt}
@@ -30,7 +30,7 @@ unfolding
     every holds sameScore sameCalls rowCallAt joinInTurn wholeMonth outputsAreSound callsAreSound rowIsSound rowScore
     isLeap daysOf minutesOf quartersOf table limitsOf limitsAllow callIsSound memberIsSound
     grainsToFen total totalZ isByRate lacking deepPeakMinute coalBand coalMinute reserveMinute minutePay quarterPay quarterAt windowPay
-    startStopRate blackStartRate eventBand eventRate rateOf ratedPay eventWh clamp energyPay isZero reserveOpen eventOpen openTo livePay liveWh
+    startStopRate blackStartRate eventBand eventRate rateOf ratedPay eventWh clamp energyPay isZero reserveOpen eventOpen isBefore blackStartOpen openTo livePay liveWh
     firstNonzero anyBelow overlaps isOnce clashes clashAt numberOf refusalAt isOwnLive payOf whOf payAt whAt monthGrains firstRefused recordsEarned inFen
     sameCall decide given standing joinedAt joinedFor joinCalls
     recordOf also recordsOf those all highest withdrawnAt ruling ruleFor ruleOver put putAll differentKeys recordsAt ruleCalls

@@ -1,3 +1,4 @@
 pub mod Crowded
 pub mod Worked
 pub mod Every
+pub mod Closing

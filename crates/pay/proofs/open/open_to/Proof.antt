@@ -13,6 +13,9 @@ reserve-open-requires c κs = search needs
 has-availability-requires : tie.Need-has-availability-requires
 has-availability-requires c κs = search needs
 
+black-start-open-requires : tie.Need-black-start-open-requires
+black-start-open-requires c κs = search needs
+
 event-open-requires : tie.Need-event-open-requires
 event-open-requires c κs = search needs
 
@@ -37,7 +40,7 @@ returns-4 c = simp (c .match .keys4)
 
 returns-5 : tie.Need-returns-5
 unfolding openTo
-returns-5 c = simp (c .match .keys5)
+returns-5 c = simp (c .before .match .keys5, c .black-start-open .ensures)
 
 returns-6 : tie.Need-returns-6
 unfolding openTo
@@ -85,6 +88,7 @@ open-to-spec =
     tie.close
     (tie.spec
     reserve-open-requires
+    black-start-open-requires
     has-availability-requires
     event-open-requires
     returns
