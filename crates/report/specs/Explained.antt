@@ -1,6 +1,8 @@
 -- What people read of a member's score, part by part. Assumes nothing.
-use mathlib.Core.List.{List, _++_}
+use mathlib.Core.Bool.{cond}
+use mathlib.Core.List.{List, [], _++_}
 use Prim.Native.Nat.{ℕ, _+_, _*_}
+use lib.Dec.{eqb}
 use lib.IntN.{ℤ}
 use Rattle.units.specs.Money.{grainsToFen}
 use Rattle.render.specs.Decimal.{word, field, signedField}
@@ -19,13 +21,17 @@ partText quarters rate wh grains = basisText quarters rate wh ++ field " grains 
 unfoldable pub energyText : ℤ → ℕ → List ℕ
 energyText wh grains = signedField "energy wh " wh ++ field " grains " grains ++ word "\n"
 
--- what is added, and all the grains, in points as well
-unfoldable pub allText : ℕ → ℕ → List ℕ
-allText added grains = field "added grains " added ++ field "\nall grains " grains ++ pointsField " points " (grainsToFen grains) ++ word "\n"
+-- what the ramping hours add, where there are any
+unfoldable pub addedText : ℕ → ℕ → List ℕ
+addedText hours added = cond (eqb hours 0) [] (field "ramping hours " hours ++ field " grains " added ++ word "\n")
+
+-- all the grains, in points as well
+unfoldable pub allText : ℕ → List ℕ
+allText grains = field "all grains " grains ++ pointsField " points " (grainsToFen grains) ++ word "\n"
 
 -- what stands below the parts
-unfoldable pub explainedText : ℤ → ℕ → ℕ → ℕ → List ℕ
-explainedText wh energy added grains = energyText wh energy ++ allText added grains
+unfoldable pub explainedText : ℤ → ℕ → ℕ → ℕ → ℕ → List ℕ
+explainedText wh energy hours added grains = energyText wh energy ++ addedText hours added ++ allText grains
 
 -- The most bytes of each
 
@@ -38,8 +44,11 @@ mostPart = mostBasis + 9 + mostDecimal
 abbrev pub mostEnergy : ℕ
 mostEnergy = 19 + 2 * mostDecimal
 
+abbrev pub mostAdded : ℕ
+mostAdded = 23 + 2 * mostDecimal
+
 abbrev pub mostAll : ℕ
-mostAll = 34 + 2 * mostDecimal + mostPoints
+mostAll = 20 + mostDecimal + mostPoints
 
 abbrev pub mostExplained : ℕ
-mostExplained = mostEnergy + mostAll
+mostExplained = mostEnergy + mostAdded + mostAll

@@ -1,3 +1,4 @@
 pub mod Totals
 pub mod Texts
 pub mod Explained
+pub mod Hours

@@ -15,9 +15,13 @@ use Rattle.month.specs.Settling.{blankRow}
 use Rattle.report.specs.declared.totals.Totals.{Totals}
 use Rattle.report.specs.Totals.{totalsOf}
 
--- what a member earned: its points, which are the fen of its grains, and its compensation
+-- a member, and how many ramping hours its file has
+unfoldable pub whoText : Row → List ℕ
+whoText r = field "member " (r .number) ++ field " hours " (r .hours)
+
+-- what it earned: its points, which are the fen of its grains, and its compensation
 unfoldable pub earnedText : Row → List ℕ
-earnedText r = field "member " (r .number) ++ pointsField " points " (grainsToFen (r .grains .0)) ++ yuanField " compensation " (r .compensation .0)
+earnedText r = whoText r ++ pointsField " points " (grainsToFen (r .grains .0)) ++ yuanField " compensation " (r .compensation .0)
 
 -- what its share goes by: assessment, energy in MWh, weight
 unfoldable pub carriedText : Row → List ℕ
@@ -66,8 +70,11 @@ aboveText member fen = field "member " member ++ yuanField ": compensation " fen
 
 -- The most bytes of each
 
+abbrev pub mostWho : ℕ
+mostWho = 14 + 2 * mostDecimal
+
 abbrev pub mostEarned : ℕ
-mostEarned = 29 + mostDecimal + mostPoints + mostYuan
+mostEarned = mostWho + 22 + mostPoints + mostYuan
 
 abbrev pub mostCarried : ℕ
 mostCarried = 28 + mostYuan + 2 * mostDecimal

@@ -18,22 +18,31 @@ ghost use Rattle.io.specs.Counts.{Counts};
 ghost use Rattle.render.specs.Inner.{Puts};
 ghost use Rattle.render.specs.Room.{Renders};
 ghost use Rattle.render.specs.Yuan.{mostSignedYuan};
-ghost use Rattle.report.specs.Texts.{earnedText, carriedText, amountText, rowText, rowsText, balanceText, sumsText, totalsText, monthOf, monthText, noLineText, aboveText};
-ghost use Rattle.report.specs.Texts.{mostEarned, mostCarried, mostAmount, mostRow, mostSums, mostTotals, mostMonth, mostNoLine, mostAbove};
+ghost use Rattle.report.specs.Texts.{whoText, earnedText, carriedText, amountText, rowText, rowsText, balanceText, sumsText, totalsText, monthOf, monthText, noLineText, aboveText};
+ghost use Rattle.report.specs.Texts.{mostWho, mostEarned, mostCarried, mostAmount, mostRow, mostSums, mostTotals, mostMonth, mostNoLine, mostAbove};
 
+pub mod hours;
 mod totals;
 pub mod why;
 
 use totals::Totals;
 use totals::totals_of;
 
-// The most bytes of a month: 253 for each of 64 members, and 136 of the sums.
-pub const MOST_MONTH: usize = 16328;
+// The most bytes of a month: 280 for each of 64 members, and 136 of the sums.
+pub const MOST_MONTH: usize = 18056;
 
 // The most bytes besides the register's name.
 pub const MOST_NO_LINE: usize = 50;
 
 pub const MOST_ABOVE: usize = 93;
+
+fn put_who(out: &mut [u8], at: usize, r: Row) -> usize
+    requires { ⌜ at + mostWho ≤ length (now out) ⌝ }
+    ensures { λ res. ⌜ Puts mostWho (now (out .entry)) at (whoText r) (now (out .exit)) res ⌝ }
+{
+    let a = put_field(out, at, b"member ", r.number as u64);
+    put_field(out, a, b" hours ", r.hours as u64)
+}
 
 fn put_earned(out: &mut [u8], at: usize, r: Row) -> usize
     requires { ⌜ at + mostEarned ≤ length (now out) ⌝ }
@@ -42,7 +51,7 @@ fn put_earned(out: &mut [u8], at: usize, r: Row) -> usize
     let grains = r.grains;
     let compensation = r.compensation;
     let fen = grains.to_fen();
-    let a = put_field(out, at, b"member ", r.number as u64);
+    let a = put_who(out, at, r);
     let b = put_points_field(out, a, b" points ", fen.0);
     put_yuan_field(out, b, b" compensation ", compensation.0)
 }

@@ -10,12 +10,12 @@ ghost use lib.ListN.{length};
 ghost use Rattle.io.specs.Counts.{Counts};
 ghost use Rattle.render.specs.Inner.{Puts};
 ghost use Rattle.render.specs.Room.{Renders};
-ghost use Rattle.report.specs.Explained.{basisText, partText, energyText, allText, explainedText, mostBasis, mostPart, mostEnergy, mostAll, mostExplained};
+ghost use Rattle.report.specs.Explained.{basisText, partText, energyText, addedText, allText, explainedText, mostBasis, mostPart, mostEnergy, mostAdded, mostAll, mostExplained};
 
 // The most bytes of each.
 pub const MOST_PART: usize = 118;
 
-pub const MOST_EXPLAINED: usize = 159;
+pub const MOST_EXPLAINED: usize = 188;
 
 fn put_basis(out: &mut [u8], quarters: u32, rate: u64, wh: Wh) -> usize
     requires { ⌜ mostBasis ≤ length (now out) ⌝ }
@@ -55,38 +55,58 @@ fn put_energy(out: &mut [u8], wh: Wh, energy: Grains) -> usize
     put_word(out, b, b"\n")
 }
 
-fn put_all(out: &mut [u8], at: usize, added: Grains, grains: Grains) -> usize
+fn put_added(out: &mut [u8], at: usize, hours: u16, added: Grains) -> usize
+    requires { ⌜ at + mostAdded ≤ length (now out) ⌝ }
+    ensures { λ r. ⌜ Puts mostAdded (now (out .entry)) at (addedText hours (added .0)) (now (out .exit)) r ⌝ }
+{
+    if hours == 0 {
+        return at;
+    }
+    let a = put_field(out, at, b"ramping hours ", hours as u64);
+    let b = put_field(out, a, b" grains ", added.0);
+    put_word(out, b, b"\n")
+}
+
+fn put_all(out: &mut [u8], at: usize, grains: Grains) -> usize
     requires { ⌜ at + mostAll ≤ length (now out) ⌝ }
-    ensures { λ r. ⌜ Puts mostAll (now (out .entry)) at (allText (added .0) (grains .0)) (now (out .exit)) r ⌝ }
+    ensures { λ r. ⌜ Puts mostAll (now (out .entry)) at (allText (grains .0)) (now (out .exit)) r ⌝ }
 {
     let fen = grains.to_fen();
-    let a = put_field(out, at, b"added grains ", added.0);
-    let b = put_field(out, a, b"\nall grains ", grains.0);
-    let c = put_points_field(out, b, b" points ", fen.0);
-    put_word(out, c, b"\n")
+    let a = put_field(out, at, b"all grains ", grains.0);
+    let b = put_points_field(out, a, b" points ", fen.0);
+    put_word(out, b, b"\n")
 }
 
-fn put_explained(out: &mut [u8], wh: Wh, energy: Grains, added: Grains, grains: Grains) -> usize
+fn put_explained(
+    out: &mut [u8],
+    wh: Wh,
+    energy: Grains,
+    hours: u16,
+    added: Grains,
+    grains: Grains,
+) -> usize
     requires { ⌜ mostExplained ≤ length (now out) ⌝ }
-    ensures { λ r. ⌜ Puts mostExplained (now (out .entry)) 0 (explainedText (wh .0) (energy .0) (added .0) (grains .0)) (now (out .exit)) r ⌝ }
+    ensures { λ r. ⌜ Puts mostExplained (now (out .entry)) 0 (explainedText (wh .0) (energy .0) hours (added .0) (grains .0)) (now (out .exit)) r ⌝ }
 {
-    let next = put_energy(out, wh, energy);
-    put_all(out, next, added, grains)
+    let a = put_energy(out, wh, energy);
+    let b = put_added(out, a, hours, added);
+    put_all(out, b, grains)
 }
 
-// The month's energy, what is added, and all the grains.
+// The month's energy, what the ramping hours add, and all the grains.
 pub fn explained_text(
     wh: Wh,
     energy: Grains,
+    hours: u16,
     added: Grains,
     grains: Grains,
     out: &mut [u8],
 ) -> usize
-    ensures { λ r. ⌜ Renders mostExplained (explainedText (wh .0) (energy .0) (added .0) (grains .0)) (now (out .entry)) (now (out .exit)) r ⌝ }
+    ensures { λ r. ⌜ Renders mostExplained (explainedText (wh .0) (energy .0) hours (added .0) (grains .0)) (now (out .entry)) (now (out .exit)) r ⌝ }
     ensures { λ r. ⌜ Counts r (now (out .exit)) ⌝ }
 {
     if out.len() < MOST_EXPLAINED {
         return 0;
     }
-    put_explained(out, wh, energy, added, grains)
+    put_explained(out, wh, energy, hours, added, grains)
 }

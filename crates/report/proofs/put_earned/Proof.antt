@@ -12,14 +12,8 @@ use Rattle.report.proofs.put_earned.Tie as tie
 to-fen-requires : tie.Need-to-fen-requires
 to-fen-requires c κs = search needs
 
-slice-aggregate-put-field : tie.Need-slice-aggregate-put-field
-slice-aggregate-put-field c = search needs
-
-cast-put-field : tie.Need-cast-put-field
-cast-put-field c = search needs
-
-put-field-requires : tie.Need-put-field-requires
-put-field-requires c κs = search needs
+put-who-requires : tie.Need-put-who-requires
+put-who-requires c κs = search needs
 
 slice-aggregate-put-points-field : tie.Need-slice-aggregate-put-points-field
 slice-aggregate-put-points-field c = search needs
@@ -39,19 +33,16 @@ same-length c = search needs
 returns : tie.Need-returns
 unfolding earnedText
 returns c =
-    let q = c .before .before .before .before .before .before .before .before .before .before .before .before .before .before .before .before .to-fen .ensures in
-    let r = c .before .before .before .before .before .before .before .put-points-field .ensures in
-    let p = same-put (ap (λ (n : ℕ). word " points " ++ points n) q) r in
-    and-then (and-then (c .before .before .before .before .before .before .before .before .before .before .before .before .put-field .ensures) p) (c .before .before .put-yuan-field .ensures)
+    let q = c .before .before .before .before .before .before .before .before .before .before .before .before .before .before .to-fen .ensures in
+    let p = same-put (ap (λ (n : ℕ). word " points " ++ points n) q) (c .before .before .before .before .before .before .before .put-points-field .ensures) in
+    and-then (and-then (c .before .before .before .before .before .before .before .before .before .before .before .before .put-who .ensures) p) (c .before .before .put-yuan-field .ensures)
 
 pub put-earned-spec : {M : Type 1} → statement M
 put-earned-spec =
     tie.close
     (tie.spec
     to-fen-requires
-    slice-aggregate-put-field
-    cast-put-field
-    put-field-requires
+    put-who-requires
     slice-aggregate-put-points-field
     put-points-field-requires
     slice-aggregate-put-yuan-field

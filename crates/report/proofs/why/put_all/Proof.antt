@@ -18,12 +18,6 @@ slice-aggregate-put-field c = search needs
 put-field-requires : tie.Need-put-field-requires
 put-field-requires c κs = search needs
 
-slice-aggregate-put-field-2 : tie.Need-slice-aggregate-put-field-2
-slice-aggregate-put-field-2 c = search needs
-
-put-field-requires-2 : tie.Need-put-field-requires-2
-put-field-requires-2 c κs = search needs
-
 slice-aggregate-put-points-field : tie.Need-slice-aggregate-put-points-field
 slice-aggregate-put-points-field c = search needs
 
@@ -42,11 +36,9 @@ same-length c = search needs
 returns : tie.Need-returns
 unfolding allText
 returns c =
-    let p = c .before .before .before .before .before .before .before .before .before .before .before .before .before .before .before .before .before .put-field .ensures in
-    let q = c .before .before .before .before .before .before .before .before .before .before .before .before .put-field2 .ensures in
-    let f = c .before .before .before .before .before .before .before .before .before .before .before .before .before .before .before .before .before .before .before .before .to-fen .ensures in
-    let r = same-put (ap (λ (n : ℕ). word " points " ++ points n) f) (c .before .before .before .before .before .before .before .put-points-field .ensures) in
-    and-then (and-then (and-then p q) r) (c .before .before .put-word .ensures)
+    let q = c .before .before .before .before .before .before .before .before .before .before .before .before .before .before .before .to-fen .ensures in
+    let p = same-put (ap (λ (n : ℕ). word " points " ++ points n) q) (c .before .before .before .before .before .before .before .put-points-field .ensures) in
+    and-then (and-then (c .before .before .before .before .before .before .before .before .before .before .before .before .put-field .ensures) p) (c .before .before .put-word .ensures)
 
 pub put-all-spec : {M : Type 1} → statement M
 put-all-spec =
@@ -55,8 +47,6 @@ put-all-spec =
     to-fen-requires
     slice-aggregate-put-field
     put-field-requires
-    slice-aggregate-put-field-2
-    put-field-requires-2
     slice-aggregate-put-points-field
     put-points-field-requires
     slice-aggregate-put-word

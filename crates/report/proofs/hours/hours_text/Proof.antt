@@ -1,0 +1,20 @@
+use Rattle.report.specs.Hours.{mostHoursText}
+use Rattle.render.proofs.Placed.{no-room, rendered}
+use borrow.Author.Needs.{needs}
+use Rattle.report.proofs.hours.hours_text.Statement.{statement}
+use Rattle.report.proofs.hours.hours_text.Tie as tie
+
+returns : tie.Need-returns
+returns c = no-room mostHoursText _ (c .before .before .args .out .now) (c .if1 .taken)
+
+put-hours-requires : tie.Need-put-hours-requires
+put-hours-requires c κs = search needs
+
+same-length : tie.Need-same-length
+same-length c = search needs
+
+returns-2 : tie.Need-returns-2
+returns-2 c = rendered mostHoursText (c .before .before .before .before .if1 .left) (c .before .before .put-hours .ensures)
+
+pub hours-text-spec : {M : Type 1} → statement M
+hours-text-spec = tie.close (tie.spec returns put-hours-requires same-length returns-2)
