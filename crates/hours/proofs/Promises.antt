@@ -85,19 +85,19 @@ none-told fault t r e f = holds-or-fails t (ap isFault (sym (ap (λ (h : Hours).
 abbrev none : Grains
 none = record { 0 = 0 }
 
--- the grains as numbers
+-- grains as numbers
+abbrev pub asNumbers : List Grains → List ℕ
+asNumbers gs = map (λ g. g .0) gs
+
 abbrev pub grainsOf : Hours → List ℕ
-grainsOf r = map (λ g. g .0) (r .grains)
+grainsOf r = asNumbers (r .grains)
 
-abbrev numbersOf : List Grains → List ℕ
-numbersOf gs = map (λ g. g .0) gs
-
-zeros-total : (n : ℕ) → hoursTotal (numbersOf (replicate n (record { 0 = 0 }))) ≡ 0
+zeros-total : (n : ℕ) → hoursTotal (asNumbers (replicate n (record { 0 = 0 }))) ≡ 0
 unfolding hoursTotal
 zeros-total zero = refl
 zeros-total (suc n) = omega (arith, zeros-total n)
 
-plain-sum : (gs : List Grains) → hoursTotal (numbersOf gs) ≤ mostGrains → grainsSum gs ≡ hoursTotal (numbersOf gs)
+plain-sum : (gs : List Grains) → hoursTotal (asNumbers gs) ≤ mostGrains → grainsSum gs ≡ hoursTotal (asNumbers gs)
 unfolding grainsSum hoursTotal grainsPlus
 plain-sum [] h = refl
 plain-sum (g ∷ gs) h = let rest = plain-sum gs (omega (arith, h)) in omega (arith, rest, h)
@@ -109,12 +109,12 @@ module _ (N : ℕ) (some : 0 < N) (hours : ℕ) (ls : List HourLine) (s : AllSou
       let actions = ofHour hour ls in
       grains-most N actions some (good-most actions (s .good hour)) (all-within (firstStandard actions) actions (good-sound actions (s .good hour)))
 
-  each-most : (hour n : ℕ) → EachHourMost (numbersOf (paysFrom N ls hour n))
+  each-most : (hour n : ℕ) → EachHourMost (asNumbers (paysFrom N ls hour n))
   unfolding paysFrom
   each-most hour zero = tt
   each-most hour (suc n) = (hour-most hour, each-most (suc hour) n)
 
-  pays-length : (hour n : ℕ) → length (numbersOf (paysFrom N ls hour n)) ≡ n
+  pays-length : (hour n : ℕ) → length (asNumbers (paysFrom N ls hour n)) ≡ n
   unfolding paysFrom
   pays-length hour zero = refl
   pays-length hour (suc n) = ap suc (pays-length (suc hour) n)
@@ -125,9 +125,9 @@ module _ (N : ℕ) (some : 0 < N) (hours : ℕ) (ls : List HourLine) (s : AllSou
   pays-at hour (suc n) zero h = ap (λ (x : ℕ). hourGrains N (ofHour x ls)) (sym (add-zero hour))
   pays-at hour (suc n) (suc k) h = pays-at (suc hour) n k (omega (arith, h)) ∙ ap (λ (x : ℕ). hourGrains N (ofHour x ls)) (suc-add hour k ∙ sym (add-suc hour k))
 
-  paid-sum : grainsSum (paysFrom N ls 0 mostHours) ≡ hoursTotal (numbersOf (paysFrom N ls 0 mostHours))
+  paid-sum : grainsSum (paysFrom N ls 0 mostHours) ≡ hoursTotal (asNumbers (paysFrom N ls 0 mostHours))
   paid-sum =
-      let low = hours-below-top 0 (numbersOf (paysFrom N ls 0 mostHours)) (omega arith) (omega (arith, pays-length 0 mostHours)) (each-most 0 mostHours) in
+      let low = hours-below-top 0 (asNumbers (paysFrom N ls 0 mostHours)) (omega arith) (omega (arith, pays-length 0 mostHours)) (each-most 0 mostHours) in
       plain-sum (paysFrom N ls 0 mostHours) (omega (arith, low))
 
 module _ (m : Member) (hours : ℕ) (text : List ℕ) where

@@ -26,7 +26,7 @@ ghost use Rattle.pay.specs.declared.Member.{Member};
 ghost use Rattle.pay.specs.Member.{mostRated};
 ghost use Rattle.ramp.specs.Ramping.{mostActions, hourGrains};
 ghost use Rattle.hours.specs.declared.HourLine.{HourLine};
-ghost use Rattle.hours.specs.Hours.{mostHours, isFault, hoursRefused, readHours};
+ghost use Rattle.hours.specs.Hours.{mostHours, hoursRefused};
 ghost use Rattle.hours.specs.declared.HoursFault.the-variants.{AtLine};
 ghost use Rattle.hours.specs.Inner.{endedLine, filledFor, standardFor, sheetTakes, linesSay, BlankSheet, GoodHour, Taken, Judged};
 
