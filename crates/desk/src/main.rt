@@ -2,6 +2,7 @@
 mod books;
 mod change;
 mod member;
+mod ramping;
 mod series;
 mod settle;
 mod why;
@@ -21,6 +22,7 @@ enum Command {
     Join,
     Find,
     Score,
+    Ramp,
     Month,
     Explain,
     Help,
@@ -75,6 +77,9 @@ fn rows(usage: bool, word: &[u8]) -> Command {
     if row(usage, word, b"score MEMBER KIND RATED BOOK SERIES", 7, 7) {
         return Command::Score;
     }
+    if row(usage, word, b"ramp MEMBER KIND RATED FILE", 6, 6) {
+        return Command::Ramp;
+    }
     let month = b"month STATEMENT REGISTER SERIES-FOLDER BOOK..";
     if row(usage, word, month, 6, MANY) {
         return Command::Month;
@@ -125,6 +130,7 @@ fn run(word: &[u8]) {
         Command::Join => books::join_books(),
         Command::Find => books::find_call(),
         Command::Score => member::score_member(),
+        Command::Ramp => ramping::ramp_member(),
         Command::Month => settle::settle_month(),
         Command::Explain => why::explain_member(),
         Command::Help => help(),

@@ -68,22 +68,34 @@ fn score_of(member: Member) {
     score_with(member, first(&book, n), first(&series, m));
 }
 
-// The paper's order: the member first, then the book, then the series.
-pub fn score_member() {
+// The member that arguments 2, 3 and 4 say; or none, and one line has said why.
+pub enum Given {
+    Line(Member),
+    Nothing,
+}
+
+pub fn member_given() -> Given {
     let Short::Number(number) = short_at(2) else {
-        return;
+        return Given::Nothing;
     };
     let Byte::Number(kind) = byte_at(3) else {
-        return;
+        return Given::Nothing;
     };
     let Long::Number(rated) = long_at(4) else {
-        return;
+        return Given::Nothing;
     };
     let rated = Kw(rated);
-    let member = Member {
+    Given::Line(Member {
         number,
         kind,
         rated,
+    })
+}
+
+// The paper's order: the member first, then the book, then the series.
+pub fn score_member() {
+    let Given::Line(member) = member_given() else {
+        return;
     };
     if !member.is_sound() {
         refuse_member();

@@ -23,10 +23,10 @@ pub const ALL_ROOM: usize = MOST_ENTRIES * SERIES_ROOM;
 // The argument that names the folder of the series.
 const FOLDER: usize = 4;
 
-// A series' name in its folder, and the longest name of a folder that leaves room for it.
-const NAME_SIZE: usize = 7;
+// The longest name of a file in it, a ramping file's, and the longest name of a folder that leaves room for it.
+const MOST_FILE: usize = 15;
 
-const MOST_FOLDER: usize = libc::PATH_MAX - NAME_SIZE;
+const MOST_FOLDER: usize = libc::PATH_MAX - MOST_FILE;
 
 // So many values were read; or nothing, and one line has said why.
 pub enum Values {
@@ -55,16 +55,15 @@ pub fn room() -> [u32; ALL_ROOM]
     [0; ALL_ROOM]
 }
 
-// A series' file behind its folder's name, from byte n on: the member's number in two digits and .csv.
-fn put_name(member: u16, buf: &mut [u8], n: usize)
-    requires { ⌜ n + 7 ≤ length (now buf) ⌝ }
+// A file's name behind its folder's, from byte n on.
+fn put_name(name: &[u8], buf: &mut [u8], n: usize)
+    requires { ⌜ n + length (now name) ≤ length (now buf) ⌝ }
 {
-    let name = series_name(member);
-    bytes::copy(&name, &mut buf[n..]);
+    bytes::copy(name, &mut buf[n..]);
 }
 
-// The file of a member's series, in the folder that argument 4 names.
-pub fn file_of(member: u16) -> Name {
+// A file in the folder that argument 4 names.
+pub fn in_folder(name: &[u8]) -> Name {
     let mut bytes = io::buffer();
     let Held::Bytes(n) = path(FOLDER, &mut bytes) else {
         return Name { bytes, size: 0 };
@@ -73,11 +72,20 @@ pub fn file_of(member: u16) -> Name {
         print::bad_argument(FOLDER, b"too long for a folder's name");
         return Name { bytes, size: 0 };
     }
-    put_name(member, &mut bytes, n);
+    if MOST_FILE < name.len() {
+        return Name { bytes, size: 0 };
+    }
+    put_name(name, &mut bytes, n);
     Name {
         bytes,
-        size: n + NAME_SIZE,
+        size: n + name.len(),
     }
+}
+
+// The file of a member's series.
+pub fn file_of(member: u16) -> Name {
+    let name = series_name(member);
+    in_folder(&name)
 }
 
 // The values of a file's lines in the first places of `out`, as many as there is room for.

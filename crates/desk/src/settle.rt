@@ -1,6 +1,11 @@
-// The month: the register, the books joined, every member's series; then the library settles it.
+// The month: the register, the books joined, every member's series and ramping file; then the library settles it.
 use crate::books::join_all;
 use crate::books::show_call;
+use crate::ramping::Ramps;
+use crate::ramping::month_hours;
+use crate::ramping::ramped_at;
+use crate::ramping::ramping_file_of;
+use crate::ramping::read_ramps;
 use crate::series::Lengths;
 use crate::series::entry_at;
 use crate::series::file_of;
@@ -18,17 +23,17 @@ use clerk::shelf::load;
 use clerk::shelf::refused_at;
 use clerk::shelf::save_new;
 use month::Fault;
+use month::Ramped;
 use month::Statement;
+use month::members::member_compensation;
 use posted::posted_text;
 use register::Entry;
-use register::MOST_ENTRIES;
 use report::above_text;
 use report::month_text;
 use report::no_line_text;
 use share::array::seen;
 use tables::roll::Register;
 use tables::roll::read_register;
-use units::Grains;
 
 // The arguments that name the statement's file and the register.
 const STATEMENT: usize = 2;
@@ -37,11 +42,6 @@ const REGISTER: usize = 3;
 
 // The first argument that names a book.
 pub const BOOKS: usize = 5;
-
-// Nothing is added to a member's grains.
-fn nothing_added() -> [Grains; MOST_ENTRIES] {
-    [Grains(0); MOST_ENTRIES]
-}
 
 // The statement as the file that argument 2 names, if it names one.
 fn post(s: Statement) -> bool {
@@ -82,6 +82,13 @@ pub fn tell_member(e: Entry, line: usize, number: u32, place: usize, book: &[u8]
     print::refused(number, place, b"joined");
 }
 
+// The refusal of a member's ramping file.
+pub fn tell_ramping(e: Entry, number: u32, place: usize) {
+    let name = ramping_file_of(e.member.number);
+    let bytes = name.bytes;
+    print::refused(number, place, first(&bytes, name.size));
+}
+
 // That the register has no line for a member.
 pub fn tell_no_line(member: u16) {
     let mut name = io::buffer();
@@ -105,18 +112,25 @@ fn tell_unlisted(book: &[u8], i: usize) {
 }
 
 // Sharing's refusal. A compensation above a line's limit is told in words before it.
-fn tell_sharing(e: Entry, number: u32, place: usize, book: &[u8], series: &[u32]) {
+fn tell_sharing(e: Entry, number: u32, place: usize, book: &[u8], series: &[u32], ramped: Ramped) {
     if number == 10 {
-        let r = score::score(e.member, book, series);
+        let fen = member_compensation(e.member, book, series, ramped);
         let mut out = io::buffer();
-        let n = above_text(e.member.number, r.fen, &mut out);
+        let n = above_text(e.member.number, fen, &mut out);
         say::text(&out[..n]);
     }
     refused_at(number, place, REGISTER);
 }
 
 // Why there is no statement.
-fn tell_fault(fault: Fault, register: Register, book: &[u8], series: &[u32], lengths: Lengths) {
+fn tell_fault(
+    fault: Fault,
+    register: Register,
+    book: &[u8],
+    series: &[u32],
+    lengths: Lengths,
+    ramps: Ramps,
+) {
     let entries = register.entries;
     match fault {
         Fault::NoFault => {}
@@ -127,34 +141,43 @@ fn tell_fault(fault: Fault, register: Register, book: &[u8], series: &[u32], len
             let e = entry_at(entries, line);
             tell_member(e, line, number, place, book);
         }
+        Fault::OfRamping(line, number, place) => {
+            let e = entry_at(entries, line);
+            tell_ramping(e, number, place);
+        }
         Fault::InSharing(number, place) => {
             let e = entry_at(entries, place);
             let part = part_of(lengths, place, series);
-            tell_sharing(e, number, place, book, part);
+            let ramped = ramped_at(ramps, place);
+            tell_sharing(e, number, place, book, part, ramped);
         }
     }
 }
 
-fn settle_with(register: Register, book: &[u8], series: &[u32], lengths: Lengths) {
+fn settle_with(register: Register, book: &[u8], series: &[u32], lengths: Lengths, ramps: Ramps) {
     let entries = register.entries;
     let each = lengths.each;
-    let added = nothing_added();
-    let s = month::settle(entries, register.count, book, series, each, added);
+    let ramped = ramps.each;
+    let s = month::settle(entries, register.count, book, series, each, ramped);
     let fault = s.fault;
     if let Fault::NoFault = fault {
         tell_statement(s);
         return;
     }
-    tell_fault(fault, register, book, series, lengths);
+    tell_fault(fault, register, book, series, lengths, ramps);
 }
 
-// The members' series are read, all of them, before anything is judged.
+// The members' series and ramping files are read, all of them, before anything is judged.
 fn settle_book(register: Register, book: &[u8]) {
     let entries = register.entries;
+    let count = seen(register.count);
     let mut series = room();
-    let lengths = read_all(entries, seen(register.count), &mut series);
+    let lengths = read_all(entries, count, &mut series);
     if lengths.whole {
-        settle_with(register, book, &series, lengths);
+        let ramps = read_ramps(entries, count, month_hours(book));
+        if ramps.whole {
+            settle_with(register, book, &series, lengths, ramps);
+        }
     }
 }
 

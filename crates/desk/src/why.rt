@@ -1,6 +1,10 @@
 // Why a member got its grains: its calls, what each was paid by, and the sums.
 use crate::books::join_all;
 use crate::books::show_call;
+use crate::ramping::month_hours;
+use crate::ramping::no_hours;
+use crate::ramping::read_ramping;
+use crate::ramping::tell_each;
 use crate::series::SERIES_ROOM;
 use crate::series::Values;
 use crate::series::entry_at;
@@ -10,7 +14,9 @@ use crate::settle::BOOKS;
 use crate::settle::open_register;
 use crate::settle::tell_member;
 use crate::settle::tell_no_line;
+use crate::settle::tell_ramping;
 use book::MOST_RECORDS;
+use book::header_of;
 use clerk::args::Held;
 use clerk::args::Short;
 use clerk::args::first;
@@ -19,11 +25,13 @@ use clerk::print;
 use explain::CallPart;
 use explain::Explained;
 use explain::explain;
+use hours::Hours;
+use hours_file::Found;
+use hours_file::given::ramped_of;
 use register::Entry;
 use register::MOST_ENTRIES;
 use report::why::explained_text;
 use report::why::part_text;
-use units::Grains;
 
 // The line of a member, or count where it has none.
 fn line_of(entries: [Entry; MOST_ENTRIES], count: usize, number: u16) -> usize {
@@ -60,27 +68,56 @@ fn tell_parts(parts: [CallPart; MOST_RECORDS], count: usize, book: &[u8]) {
     }
 }
 
-fn tell_explained(x: Explained, book: &[u8]) {
+// Whose month it is.
+fn tell_month(book: &[u8]) {
+    let o = header_of(book);
+    let header = o.header;
+    print::header(header, o.calls);
+}
+
+fn tell_explained(x: Explained, hours: Hours, many: u16, book: &[u8]) {
+    tell_month(book);
     let parts = x.parts;
     tell_parts(parts, x.count, book);
+    tell_each(hours);
     let mut out = io::buffer();
-    let n = explained_text(x.wh, x.energy, x.added, x.grains, &mut out);
+    let n = explained_text(x.wh, x.energy, many, x.added, x.grains, &mut out);
     say::text(&out[..n]);
     print::done();
 }
 
-// The explanation over the joined book and the member's series, or its refusal.
+// The explanation over the joined book, the member's series and its hours; or the score's refusal, then the ramping file's.
+fn explain_hours(e: Entry, line: usize, book: &[u8], series: &[u32], hours: Hours) {
+    let grains = hours.grains;
+    let x = explain(e.member, book, series, grains);
+    if x.number != 0 {
+        tell_member(e, line, x.number, x.place, book);
+        return;
+    }
+    let r = ramped_of(hours);
+    if r.number != 0 {
+        tell_ramping(e, r.number, r.place);
+        return;
+    }
+    tell_explained(x, hours, r.hours, book);
+}
+
+// The member's own series and ramping file, if it has one.
 fn explain_with(e: Entry, line: usize, book: &[u8]) {
     let mut series = [0u32; SERIES_ROOM];
     let Values::Read(n) = read_member(e.member.number, &mut series) else {
         return;
     };
-    let x = explain(e.member, book, part(&series, 0, n), Grains(0));
-    if x.number != 0 {
-        tell_member(e, line, x.number, x.place, book);
-        return;
+    let file = read_ramping(e.member, month_hours(book));
+    let found = file.found;
+    match found {
+        Found::Failed => {}
+        Found::Missing => explain_hours(e, line, book, part(&series, 0, n), no_hours()),
+        Found::Whole => {
+            let hours = file.hours;
+            explain_hours(e, line, book, part(&series, 0, n), hours);
+        }
     }
-    tell_explained(x, book);
 }
 
 fn explain_line(e: Entry, line: usize) {

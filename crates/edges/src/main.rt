@@ -2,8 +2,8 @@
 // ramping. They come from standard input, a case a line (the file `stdin` tells how to read them); each case states what the paper says. A case that came out
 // otherwise is told by its line, and each table ends with how many cases it has and how many are wrong.
 mod books;
-mod hours;
 mod numbers;
+mod ramps;
 mod scores;
 mod spelling;
 mod tally;
@@ -41,7 +41,7 @@ fn with(tally: Tally, line: &[u8]) -> Tally {
         tally::BOOKS => books::with(tally, line),
         tally::SCORES => scores::with(tally, line),
         tally::TEXTS => texts::with(tally, line),
-        tally::HOURS => hours::with(tally, line),
+        tally::HOURS => ramps::with(tally, line),
         _ => stray(tally, line),
     }
 }

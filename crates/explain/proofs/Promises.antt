@@ -3,7 +3,7 @@ use mathlib.Core.Path.{_≡_, refl, sym, _∙_, ap}
 use mathlib.Core.Bool.{Bool, true, false, cond, not}
 use mathlib.Core.List.{List, []}
 use mathlib.Core.Logic.{_↔_}
-use Prim.Native.Nat.{ℕ, _+_, _≤_, _<_}
+use Prim.Native.Nat.{ℕ, _+_, _<_}
 use native.Mathlib.Omega.{arith}
 use lib.Dec.{eqb, ltb}
 use lib.ListN.{length, getD, List·getD-append}
@@ -25,7 +25,8 @@ use Rattle.score.specs.Scoring.{monthGrains, firstRefused, recordsEarned, after
 use Rattle.score.proofs.First.{first-bad}
 use Rattle.explain.specs.declared.CallPart.{CallPart}
 use Rattle.explain.specs.declared.Explained.{Explained}
-use Rattle.explain.specs.Explaining.{callPart, partsOf, blankPart, filledUp, monthWh, hoursSum, explainEarned, explaining, hoursGrains, HoursWithin, partsGrains, partsWh, partAt, OwnLive, HasPart}
+use Rattle.explain.specs.Explaining.{callPart, partsOf, blankPart, filledUp, monthWh, hoursSum, explainEarned, explaining}
+use Rattle.explain.specs.Explaining.{hoursGrains, HoursWithin, partsGrains, partsWh, partAt, OwnLive, HasPart}
 use Rattle.explain.specs.Inner.{partsBefore}
 use Rattle.explain.proofs.Before.{parts-are}
 use Rattle.explain.proofs.Scored.{accepted-ready}

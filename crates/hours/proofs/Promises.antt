@@ -2,7 +2,7 @@
 use mathlib.Core.Path.{_≡_, refl, ap, sym, _∙_}
 use mathlib.Core.Bool.{Bool, true}
 use mathlib.Core.List.{List, [], _∷_, _++_, map}
-use Prim.Native.Nat.{ℕ, zero, suc, _+_, _≤_, _<_}
+use Prim.Native.Nat.{ℕ, zero, suc, _*_, _+_, _≤_, _<_}
 use native.Mathlib.Nat.{zero-add, add-zero, suc-add, add-suc}
 use native.Mathlib.Omega.{arith}
 use lib.ListN.{length, getD, replicate}
@@ -15,7 +15,7 @@ use Rattle.ramp.specs.Ramping.{firstStandard, hourGrains, hourPaid, ramping}
 use Rattle.ramp.proofs.Accepted.{Accepted, hour-pays}
 use Rattle.ramp.proofs.Sound.{all-within}
 use Rattle.ramp.proofs.Bounds.{mostHour, grains-most}
-use Rattle.ramp.proofs.Top.{EachHourMost, hoursTotal, hours-below-top}
+use Rattle.ramp.proofs.Top.{EachHourMost, hoursTotal, hours-most, hours-below-top}
 use Rattle.hours.specs.declared.HourLine.{HourLine}
 use Rattle.hours.specs.declared.HoursFault.{HoursFault}
 use Rattle.hours.specs.declared.HoursFault.the-variants.{NoFault, OfMember, AtLine}
@@ -130,6 +130,11 @@ module _ (N : ℕ) (some : 0 < N) (hours : ℕ) (ls : List HourLine) (s : AllSou
       let low = hours-below-top 0 (asNumbers (paysFrom N ls 0 mostHours)) (omega arith) (omega (arith, pays-length 0 mostHours)) (each-most 0 mostHours) in
       plain-sum (paysFrom N ls 0 mostHours) (omega (arith, low))
 
+  paid-most : grainsSum (paysFrom N ls 0 mostHours) ≤ mostHours * mostHour
+  paid-most =
+      let gs = asNumbers (paysFrom N ls 0 mostHours) in
+      omega (arith, paid-sum, hours-most gs (each-most 0 mostHours), pays-length 0 mostHours)
+
 module _ (m : Member) (hours : ℕ) (text : List ℕ) where
   -- THE SUM IS THE HOURS' SUM, never held at the top.
   pub sum-is : readHours m hours text .sum .0 ≡ hoursTotal (grainsOf (readHours m hours text))
@@ -147,6 +152,23 @@ module _ (m : Member) (hours : ℕ) (text : List ℕ) where
           ap (λ (h : Hours). h .sum .0) e
           ∙ paid-sum (m .rated .0) (omega (arith, may .line .rated .0)) hours (hourLines text) (all-sound hours (hourLines text) (none-bad hours (hourLines text) w))
           ∙ ap (λ (h : Hours). hoursTotal (grainsOf h)) (sym e)
+
+  -- And it is at most 744 times the most an hour pays.
+  pub sum-most : readHours m hours text .sum .0 ≤ mostHours * mostHour
+  unfolding hoursRefused hoursPaid
+  sum-most = go (readHours m hours text) (hours-exact m hours text (readHours m hours text) .0 refl)
+    where
+      sum : Hours → ℕ
+      sum h = h .sum .0
+
+      go : (r : Hours) → HoursOutcome m hours (hourLines text) r → r .sum .0 ≤ mostHours * mostHour
+      go r (bad-member e n) = omega (arith, ap sum e)
+      go r (other-kind e w k) = omega (arith, ap sum e)
+      go r (bad-line i e may h w n) = omega (arith, ap sum e)
+      go r (paid e may w) =
+          let most =
+          paid-most (m .rated .0) (omega (arith, may .line .rated .0)) hours (hourLines text) (all-sound hours (hourLines text) (none-bad hours (hourLines text) w)) in
+          omega (arith, ap sum e, most)
 
   -- EACH HOUR IS PAID AS ITS ACTIONS ARE SCORED: of a file that is taken, no hour is refused.
   pub as-scored : readHours m hours text .fault ≡ NoFault → (hour : ℕ) → hour < mostHours

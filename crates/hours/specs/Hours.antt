@@ -28,7 +28,7 @@ hourColumns = 7
 abbrev pub mostHours : ℕ
 mostHours = 744
 
--- a month of so many hours, of which it has at most those
+-- no month has more hours than that: a larger number is told as that many
 unfoldable pub monthHours : ℕ → ℕ
 monthHours hours = min hours mostHours
 

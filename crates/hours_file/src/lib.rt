@@ -4,10 +4,12 @@ use hours::Hours;
 use hours::Reader;
 use pay::Member;
 
+pub mod given;
+
 // More reads than any file has.
 const MOST_READS: u64 = 0xffff_ffff_ffff_ffff;
 
-// What became of the file: it was read to its end, or as far as its answer could change; there is none; or a read failed, which is no end of it.
+// What became of the file: it was read to its end, or to the end of its first bad line; there is none; or a read failed, which is no end of it.
 pub enum Found {
     Whole,
     Missing,

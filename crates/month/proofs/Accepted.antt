@@ -31,7 +31,7 @@ use Rattle.month.specs.declared.Ramped.{Ramped}
 use Rattle.month.specs.declared.Row.{Row}
 use Rattle.month.specs.declared.Statement.{Statement}
 use Rattle.month.specs.declared.members.MemberEarned.{MemberEarned}
-use Rattle.month.specs.declared.members.MemberEarned.the-variants.{Both, NotScored, NotRamped}
+use Rattle.month.specs.declared.members.MemberEarned.the-variants.{ScoreAndHours, NotScored, NotRamped}
 use Rattle.month.specs.Settling.{MonthGiven, firstUnlisted, noRamping, earnedWith, earnings, firstRefusedMember, memberFault, earnedGrains, compensations}
 use Rattle.month.specs.Settling.{rowOf, rowsOf, blankRow, filledRows, monthRefused, sharedMonth, monthLines, earnedMonth, settling}
 use Rattle.month.specs.Outcomes.{ownSeries, rampedOfLine, earnedIn, linesIn, grainsIn, statementOf}
@@ -68,15 +68,15 @@ no-refusal fault e h = true≢false (sym e ∙ ap isFault h)
 refused-at : (line : ℕ) (es : List MemberEarned) → firstRefusedMember es < length es → isFault (memberFault line (getD es (firstRefusedMember es) (NotScored 0 0))) ≡ true
 unfolding firstRefusedMember memberFault
 refused-at line [] h = absurd (omega arith)
-refused-at line (Both g ∷ es) h = refused-at line es (omega arith)
+refused-at line (ScoreAndHours g ∷ es) h = refused-at line es (omega arith)
 refused-at line (NotScored number place ∷ es) h = refl
 refused-at line (NotRamped number place ∷ es) h = refl
 
-pub both-at : (es : List MemberEarned) (i : ℕ) (d : MemberEarned) → length es ≤ firstRefusedMember es → i < length es → getD es i d ≡ Both (earnedGrains (getD es i d))
+pub both-at : (es : List MemberEarned) (i : ℕ) (d : MemberEarned) → length es ≤ firstRefusedMember es → i < length es → getD es i d ≡ ScoreAndHours (earnedGrains (getD es i d))
 unfolding firstRefusedMember earnedGrains
 both-at [] i d h l = absurd (omega arith)
-both-at (Both g ∷ es) zero d h l = refl
-both-at (Both g ∷ es) (suc i) d h l = both-at es i d (omega arith) (omega arith)
+both-at (ScoreAndHours g ∷ es) zero d h l = refl
+both-at (ScoreAndHours g ∷ es) (suc i) d h l = both-at es i d (omega arith) (omega arith)
 both-at (NotScored number place ∷ es) i d h l = absurd (omega arith)
 both-at (NotRamped number place ∷ es) i d h l = absurd (omega arith)
 
@@ -174,12 +174,12 @@ earned-at (e ∷ es) book series lengths ramped (suc i) d h =
     ∙ rw (own-next series lengths i, next-of ramped i noRamping) refl
 
 -- where there are the grains of both, score and ramping file are good, and the grains are theirs together
-pub with-both : (x : Earned) (r : Ramped) (g : Grains) → earnedWith x r ≡ Both g
+pub with-both : (x : Earned) (r : Ramped) (g : Grains) → earnedWith x r ≡ ScoreAndHours g
     → (inFen x .number ≡ 0) × (r .number ≡ 0) × (g .0 ≡ grainsPlus (inFen x .grains .0) (r .grains .0))
 unfolding earnedWith earnedGrains inFen
 with-both (Accepted y) r g e = go (eqb (r .number) 0) refl e
   where
-    go : (t : Bool) → eqb (r .number) 0 ≡ t → cond t (Both (record { 0 = grainsPlus (y .0) (r .grains .0) })) (NotRamped (r .number) (r .place)) ≡ Both g
+    go : (t : Bool) → eqb (r .number) 0 ≡ t → cond t (ScoreAndHours (record { 0 = grainsPlus (y .0) (r .grains .0) })) (NotRamped (r .number) (r .place)) ≡ ScoreAndHours g
         → (inFen (Accepted y) .number ≡ 0) × (r .number ≡ 0) × (g .0 ≡ grainsPlus (y .0) (r .grains .0))
     go true z e = (refl, eqb-true (r .number) 0 z, sym (ap (λ (x : MemberEarned). earnedGrains x .0) e))
     go false z e = absurd (true≢false (sym (ap isBoth e)))
@@ -210,7 +210,8 @@ module _ (g : MonthGiven) where
 
   -- the row of line i
   pub settled-row : (i : ℕ) → Passed g → i < length (g .entries)
-      → getD (settling g .rows) i blankRow ≡ rowOf (below (linesIn g)) (getD (linesIn g) i blankLine) (getD (grainsIn g) i noGrains) (rampedOfLine g i .hours) (getD (sharing (linesIn g) .parts) i noPart)
+      → getD (settling g .rows) i blankRow
+      ≡ rowOf (below (linesIn g)) (getD (linesIn g) i blankLine) (getD (grainsIn g) i noGrains) (rampedOfLine g i .hours) (getD (sharing (linesIn g) .parts) i noPart)
   unfolding filledRows
   settled-row i p h =
       let long = length-in in

@@ -54,7 +54,7 @@ use Rattle.share.specs.Sharing.{gap, lineIsSound, parts, settled, sharingInTurn
 use Rattle.register.specs.declared.Entry.{Entry}
 use Rattle.register.specs.Register.{entryLine, entryIsSound, firstBadEntry}
 use Rattle.month.specs.declared.Fault.the-variants.{NoFault}
-use Rattle.month.specs.declared.members.MemberEarned.the-variants.{Both}
+use Rattle.month.specs.declared.members.MemberEarned.the-variants.{ScoreAndHours}
 use Rattle.month.specs.declared.Row.{Row}
 use Rattle.month.specs.declared.Statement.{Statement}
 use Rattle.month.specs.Settling.{MonthGiven, isListed, isUnlisted, firstUnlisted, noRamping, earnedWith, earnings, firstRefusedMember, earnedGrains}
@@ -220,7 +220,7 @@ module _ (s : List ℕ) (long : length s ≡ 2976) (within : ValuesWithin s 2976
 
     -- the month over it, from what its members earn
     settled-one : (x y : ℕ) → isUnlisted register c ≡ false → ofCall (member 3) s c ≡ Accepted (record { 0 = x }) → ofCall (member 5) s c ≡ Accepted (record { 0 = y })
-        → settling (withBook (given s) (one c)) ≡ earnedMonth register (one c) [] (Both (record { 0 = grainsPlus x 0 }) ∷ Both (record { 0 = grainsPlus y 0 }) ∷ [])
+        → settling (withBook (given s) (one c)) ≡ earnedMonth register (one c) [] (ScoreAndHours (record { 0 = grainsPlus x 0 }) ∷ ScoreAndHours (record { 0 = grainsPlus y 0 }) ∷ [])
     unfolding callsOf earnings earnedWith
     settled-one x y u e f =
         sym (listed (withBook (given s) (one c)) both-listed (ap (λ (v : Verdict). v .number) (sound-accepted (one c) (one-sound c w)))

@@ -40,7 +40,7 @@ use Rattle.month.specs.declared.Fault.{Fault}
 use Rattle.month.specs.declared.Ramped.{Ramped}
 use Rattle.month.specs.declared.Statement.{Statement}
 use Rattle.month.specs.declared.members.MemberEarned.{MemberEarned}
-use Rattle.month.specs.declared.members.MemberEarned.the-variants.{Both, NotScored, NotRamped}
+use Rattle.month.specs.declared.members.MemberEarned.the-variants.{ScoreAndHours, NotScored, NotRamped}
 use Rattle.month.specs.Settling.{MonthGiven, isListed, isUnlisted, firstUnlisted, earnedWith, earnedGrains, firstRefusedMember, memberFault, monthRefused}
 use Rattle.month.specs.Settling.{sharedMonth, earnedMonth, settling}
 use Rattle.month.specs.Outcomes.{ownSeries, scoreOfLine, rampedOfLine, earnedIn, linesIn, sharedIn, statementOf, EntryWithin, AllWithin, FirstBadAt, RegisterWithin}
@@ -48,7 +48,7 @@ use Rattle.month.specs.Outcomes.{RegisterAndBook, Without, Listed, AllLi
 use Rattle.month.specs.Outcomes.{bad-entry, one-more, bad-book, without-line, bad-member, bad-ramping, not-shared, settled}
 use Rattle.month.proofs.Walking.{isBoth, length-earnings}
 use Rattle.month.proofs.Settled.{in-register, in-book, unlisted, listed, earned-refused}
-use Rattle.month.proofs.Accepted.{earned-at, both-at, with-both}
+use Rattle.month.proofs.Accepted.{earned-at, with-both}
 
 -- The register
 
@@ -258,24 +258,24 @@ module _ (x : Earned) (r : Ramped) (numbered : Numbered x) where
       go (Accepted y) n z some = rw (ne-eqb (r .number) 0 some) refl
       go (Refused number place) n z some = absurd (n refl z)
 
-of-both : (x : MemberEarned) → isBoth x ≡ true → x ≡ Both (earnedGrains x)
+of-both : (x : MemberEarned) → isBoth x ≡ true → x ≡ ScoreAndHours (earnedGrains x)
 unfolding earnedGrains
-of-both (Both g) e = refl
+of-both (ScoreAndHours g) e = refl
 of-both (NotScored number place) e = absurd (true≢false (sym e))
 of-both (NotRamped number place) e = absurd (true≢false (sym e))
 
 refused-before : (es : List MemberEarned) (k : ℕ) (d : MemberEarned) → k < firstRefusedMember es → isBoth (getD es k d) ≡ true
 unfolding firstRefusedMember
 refused-before [] k d h = absurd (omega arith)
-refused-before (Both y ∷ es) zero d h = refl
-refused-before (Both y ∷ es) (suc k) d h = refused-before es k d (omega arith)
+refused-before (ScoreAndHours y ∷ es) zero d h = refl
+refused-before (ScoreAndHours y ∷ es) (suc k) d h = refused-before es k d (omega arith)
 refused-before (NotScored number place ∷ es) k d h = absurd (omega arith)
 refused-before (NotRamped number place ∷ es) k d h = absurd (omega arith)
 
 refused-here : (es : List MemberEarned) (d : MemberEarned) → firstRefusedMember es < length es → isBoth (getD es (firstRefusedMember es) d) ≡ false
 unfolding firstRefusedMember
 refused-here [] d h = absurd (omega arith)
-refused-here (Both y ∷ es) d h = refused-here es d (omega arith)
+refused-here (ScoreAndHours y ∷ es) d h = refused-here es d (omega arith)
 refused-here (NotScored number place ∷ es) d h = refl
 refused-here (NotRamped number place ∷ es) d h = refl
 
@@ -283,8 +283,8 @@ refused-is : (es : List MemberEarned) (p : ℕ) (d : MemberEarned) → p ≤ len
     → (p < length es → isBoth (getD es p d) ≡ false) → firstRefusedMember es ≡ p
 unfolding firstRefusedMember
 refused-is [] p d h b a = omega arith
-refused-is (Both y ∷ es) zero d h b a = absurd (true≢false (a (omega arith)))
-refused-is (Both y ∷ es) (suc p) d h b a = ap suc (refused-is es p d (omega arith) (λ k l. b (suc k) (omega arith)) (λ l. a (omega arith)))
+refused-is (ScoreAndHours y ∷ es) zero d h b a = absurd (true≢false (a (omega arith)))
+refused-is (ScoreAndHours y ∷ es) (suc p) d h b a = ap suc (refused-is es p d (omega arith) (λ k l. b (suc k) (omega arith)) (λ l. a (omega arith)))
 refused-is (NotScored number place ∷ es) zero d h b a = refl
 refused-is (NotScored number place ∷ es) (suc p) d h b a = absurd (true≢false (sym (b 0 (omega arith))))
 refused-is (NotRamped number place ∷ es) zero d h b a = refl

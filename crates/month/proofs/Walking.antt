@@ -20,7 +20,7 @@ use Rattle.register.specs.declared.Entry.{Entry}
 use Rattle.register.specs.Register.{blankEntry}
 use Rattle.month.specs.declared.Ramped.{Ramped}
 use Rattle.month.specs.declared.members.MemberEarned.{MemberEarned}
-use Rattle.month.specs.declared.members.MemberEarned.the-variants.{Both, NotScored, NotRamped}
+use Rattle.month.specs.declared.members.MemberEarned.the-variants.{ScoreAndHours, NotScored, NotRamped}
 use Rattle.month.specs.Settling.{noRamping, earnedWith, earnings, firstRefusedMember, memberFault, earnedGrains}
 
 abbrev pub noGrains : Grains
@@ -40,7 +40,7 @@ module _ (g : Grains) (x : Ramped) where
   unfolding earnedWith
   turn-ramping some = rw (ne-eqb (x .number) 0 some) refl
 
-  pub turn-both : (s : ℕ) → x .number ≡ 0 → s ≡ grainsPlus (g .0) (x .grains .0) → Both (record { 0 = s }) ≡ earnedWith (Accepted g) x
+  pub turn-both : (s : ℕ) → x .number ≡ 0 → s ≡ grainsPlus (g .0) (x .grains .0) → ScoreAndHours (record { 0 = s }) ≡ earnedWith (Accepted g) x
   unfolding earnedWith
   turn-both s z e = rw (eq-eqb (x .number) 0 z, e) refl
 
@@ -51,17 +51,17 @@ turn-score number place x = refl
 -- one refused, or none
 
 abbrev pub isBoth : MemberEarned → Bool
-isBoth (Both g) = true
+isBoth (ScoreAndHours g) = true
 isBoth (NotScored number place) = false
 isBoth (NotRamped number place) = false
 
 refused-here : (x : MemberEarned) (es : List MemberEarned) → isBoth x ≡ false → firstRefusedMember (x ∷ es) ≡ 0
 unfolding firstRefusedMember
-refused-here (Both g) es e = absurd (true≢false e)
+refused-here (ScoreAndHours g) es e = absurd (true≢false e)
 refused-here (NotScored number place) es e = refl
 refused-here (NotRamped number place) es e = refl
 
-refused-later : (g : Grains) (es : List MemberEarned) → firstRefusedMember (Both g ∷ es) ≡ suc (firstRefusedMember es)
+refused-later : (g : Grains) (es : List MemberEarned) → firstRefusedMember (ScoreAndHours g ∷ es) ≡ suc (firstRefusedMember es)
 unfolding firstRefusedMember
 refused-later g es = refl
 
@@ -69,7 +69,7 @@ refused-none : firstRefusedMember [] ≡ 0
 unfolding firstRefusedMember
 refused-none = refl
 
-grains-of : (g : Grains) → earnedGrains (Both g) ≡ g
+grains-of : (g : Grains) → earnedGrains (ScoreAndHours g) ≡ g
 unfolding earnedGrains
 grains-of g = refl
 
@@ -169,7 +169,7 @@ module _ (es : List Entry) (book series lengths : List ℕ) (ramped : List Rampe
         (omega (arith, length-earnings es book series lengths ramped), sym (rw (f, at-i (NotScored 0 0), e) refl))
 
     pub walk-on : (v end : ℕ) (g : Grains) → v ≡ getD lengths i 0 → end ≡ at + min v (length series - at) → end ≤ length series → i < length grains
-        → turnOf at i ≡ Both g → Walk (set grains i g) end (i + 1)
+        → turnOf at i ≡ ScoreAndHours g → Walk (set grains i g) end (i + 1)
     walk-on v end g ev is most room e =
         let z : firstRefusedMember (drop i all) ≡ suc (firstRefusedMember (drop (i + 1) all)) = ap firstRefusedMember (here ∙ ap (λ (x : MemberEarned). x ∷ drop (i + 1) all) e) ∙ refused-later g _ in
         let long = length-map all earnedGrains in

@@ -33,7 +33,7 @@ use Rattle.register.specs.declared.Entry.{Entry}
 use Rattle.register.specs.Register.{firstBadEntry}
 use Rattle.month.specs.declared.Ramped.{Ramped}
 use Rattle.month.specs.declared.members.MemberEarned.{MemberEarned}
-use Rattle.month.specs.declared.members.MemberEarned.the-variants.{Both, NotScored, NotRamped}
+use Rattle.month.specs.declared.members.MemberEarned.the-variants.{ScoreAndHours, NotScored, NotRamped}
 use Rattle.month.specs.declared.Fault.{Fault}
 use Rattle.month.specs.declared.Fault.the-variants.{InRegister, Unlisted}
 use Rattle.month.specs.Settling.{MonthGiven, isUnlisted, firstUnlisted, noRamping, earnedWith, earnings, firstRefusedMember, memberFault, earnedGrains}
@@ -129,7 +129,7 @@ module _ (es : List Entry) where
 
 -- the places of records in a member's turn are one lower behind record j; a ramping file's place is none of them
 unfoldable loweredTurn : ℕ → MemberEarned → MemberEarned
-loweredTurn j (Both g) = Both g
+loweredTurn j (ScoreAndHours g) = ScoreAndHours g
 loweredTurn j (NotScored number place) = NotScored number (cond (isOfRecord number) (lowerPlace j place) place)
 loweredTurn j (NotRamped number place) = NotRamped number place
 
@@ -139,7 +139,7 @@ module _ (j : ℕ) where
   with-lowered (Accepted g) r = go (eqb (r .number) 0)
     where
       both : MemberEarned
-      both = Both (record { 0 = grainsPlus (g .0) (r .grains .0) })
+      both = ScoreAndHours (record { 0 = grainsPlus (g .0) (r .grains .0) })
 
       go : (t : Bool) → cond t both (NotRamped (r .number) (r .place)) ≡ loweredTurn j (cond t both (NotRamped (r .number) (r .place)))
       go true = refl
@@ -149,14 +149,14 @@ module _ (j : ℕ) where
   first-same : (es : List MemberEarned) → firstRefusedMember (map (loweredTurn j) es) ≡ firstRefusedMember es
   unfolding firstRefusedMember loweredTurn
   first-same [] = refl
-  first-same (Both g ∷ es) = ap suc (first-same es)
+  first-same (ScoreAndHours g ∷ es) = ap suc (first-same es)
   first-same (NotScored number place ∷ es) = refl
   first-same (NotRamped number place ∷ es) = refl
 
   grains-same : (es : List MemberEarned) → map earnedGrains (map (loweredTurn j) es) ≡ map earnedGrains es
   unfolding earnedGrains loweredTurn
   grains-same [] = refl
-  grains-same (Both g ∷ es) = ap (λ (gs : List Grains). g ∷ gs) (grains-same es)
+  grains-same (ScoreAndHours g ∷ es) = ap (λ (gs : List Grains). g ∷ gs) (grains-same es)
   grains-same (NotScored number place ∷ es) = ap (λ (gs : List Grains). record { 0 = 0 } ∷ gs) (grains-same es)
   grains-same (NotRamped number place ∷ es) = ap (λ (gs : List Grains). record { 0 = 0 } ∷ gs) (grains-same es)
 
@@ -171,7 +171,7 @@ module _ (j : ℕ) where
 
   fault-lowered : (line : ℕ) (e : MemberEarned) → memberFault line (loweredTurn j e) ≡ loweredFault j (memberFault line e)
   unfolding memberFault loweredTurn loweredFault
-  fault-lowered line (Both g) = refl
+  fault-lowered line (ScoreAndHours g) = refl
   fault-lowered line (NotScored number place) = refl
   fault-lowered line (NotRamped number place) = refl
 

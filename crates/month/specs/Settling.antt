@@ -26,7 +26,7 @@ use Rattle.month.specs.declared.Ramped.{Ramped}
 use Rattle.month.specs.declared.Row.{Row}
 use Rattle.month.specs.declared.Statement.{Statement}
 use Rattle.month.specs.declared.members.MemberEarned.{MemberEarned}
-use Rattle.month.specs.declared.members.MemberEarned.the-variants.{Both, NotScored, NotRamped}
+use Rattle.month.specs.declared.members.MemberEarned.the-variants.{ScoreAndHours, NotScored, NotRamped}
 
 -- What a month is settled from: the register's lines, the joined book, the members' series one after another with each one's length, and what
 -- each member's ramping file gives
@@ -65,7 +65,7 @@ unfoldable pub earnedWith : Earned → Ramped → MemberEarned
 earnedWith (Refused number place) ramped = NotScored number place
 earnedWith (Accepted g) ramped =
     cond (eqb (ramped .number) 0)
-    (Both (record { 0 = grainsPlus (g .0) (ramped .grains .0) }))
+    (ScoreAndHours (record { 0 = grainsPlus (g .0) (ramped .grains .0) }))
     (NotRamped (ramped .number) (ramped .place))
 
 -- each line's member over the book and its own series, the next so many values, with its own ramping file
@@ -78,21 +78,24 @@ earnings (e ∷ es) book series lengths ramped =
 -- the first line whose member is refused, or the number of lines where none is
 unfoldable pub firstRefusedMember : List MemberEarned → ℕ
 firstRefusedMember [] = 0
-firstRefusedMember (Both g ∷ es) = suc (firstRefusedMember es)
+firstRefusedMember (ScoreAndHours g ∷ es) = suc (firstRefusedMember es)
 firstRefusedMember (NotScored number place ∷ es) = 0
 firstRefusedMember (NotRamped number place ∷ es) = 0
 
 -- its refusal: of the member, or of its ramping file
 unfoldable pub memberFault : ℕ → MemberEarned → Fault
-memberFault line (Both g) = NoFault
+memberFault line (ScoreAndHours g) = NoFault
 memberFault line (NotScored number place) = OfMember line number place
 memberFault line (NotRamped number place) = OfRamping line number place
 
 -- the grains, and the fen of them, once: the compensation
 unfoldable pub earnedGrains : MemberEarned → Grains
-earnedGrains (Both g) = g
+earnedGrains (ScoreAndHours g) = g
 earnedGrains (NotScored number place) = record { 0 = 0 }
 earnedGrains (NotRamped number place) = record { 0 = 0 }
+
+unfoldable pub compensationOf : MemberEarned → Fen
+compensationOf earned = record { 0 = grainsToFen (earnedGrains earned .0) }
 
 abbrev pub compensations : List Grains → List Fen
 compensations gs = map (λ g. record { 0 = grainsToFen (g .0) }) gs

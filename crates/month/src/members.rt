@@ -14,12 +14,12 @@ ghost use lib.ListN.{length, take};
 ghost use Rattle.score.specs.declared.answer.Earned.the-variants.{Accepted};
 ghost use Rattle.score.specs.Scoring.{grainsEarned};
 ghost use Rattle.register.specs.Register.{mostEntries};
-ghost use Rattle.month.specs.Settling.{earnedWith, memberFault, earnings, compensations};
+ghost use Rattle.month.specs.Settling.{earnedWith, compensationOf, memberFault, earnings, compensations};
 ghost use Rattle.month.specs.Inner.{MembersEarned};
 
 // What a member's turn gives: the grains of its score and of its ramping file together; the score's refusal; the file's.
 pub enum MemberEarned {
-    Both(Grains),
+    ScoreAndHours(Grains),
     NotScored(u32, usize),
     NotRamped(u32, usize),
 }
@@ -62,7 +62,7 @@ fn with_ramping(score: Grains, ramped: Ramped) -> MemberEarned
     }
     let hours = ramped.grains;
     let sum = score.plus(hours);
-    MemberEarned::Both(sum)
+    MemberEarned::ScoreAndHours(sum)
 }
 
 // A member's turn: its score's refusal, then its ramping file's, then the grains of both.
@@ -76,12 +76,31 @@ fn member_earned(member: Member, book: &[u8], series: &[u32], ramped: Ramped) ->
     }
 }
 
+// The fen of what a member's turn gives, once; none where it is refused.
+fn compensation_of(earned: MemberEarned) -> Fen
+    ensures { λ r. ⌜ r ≡ compensationOf earned ⌝ }
+{
+    match earned {
+        MemberEarned::ScoreAndHours(g) => g.to_fen(),
+        MemberEarned::NotScored(_, _) => Fen(0),
+        MemberEarned::NotRamped(_, _) => Fen(0),
+    }
+}
+
+// A member's compensation: the fen of its score and its hours together.
+pub fn member_compensation(member: Member, book: &[u8], series: &[u32], ramped: Ramped) -> Fen
+    ensures { λ r. ⌜ r ≡ compensationOf (earnedWith (grainsEarned member (now (book .entry)) (now (series .entry))) ramped) ⌝ }
+{
+    let earned = member_earned(member, book, series, ramped);
+    compensation_of(earned)
+}
+
 // What is told of a member that is refused.
 fn member_fault(line: usize, earned: MemberEarned) -> Fault
     ensures { λ r. ⌜ r ≡ memberFault line earned ⌝ }
 {
     match earned {
-        MemberEarned::Both(_) => Fault::NoFault,
+        MemberEarned::ScoreAndHours(_) => Fault::NoFault,
         MemberEarned::NotScored(number, place) => Fault::OfMember(line, number, place),
         MemberEarned::NotRamped(number, place) => Fault::OfRamping(line, number, place),
     }
@@ -107,7 +126,7 @@ pub fn members_earned(
         let e = entries[i];
         let x = ramped[i];
         let earned = member_earned(e.member, book, &series[at..end], x);
-        let MemberEarned::Both(g) = earned else {
+        let MemberEarned::ScoreAndHours(g) = earned else {
             let fault = member_fault(i, earned);
             return Members {
                 grains,

@@ -1,3 +1,4 @@
 pub mod Rows
 pub mod Signs
+pub mod Somes
 pub mod Promises

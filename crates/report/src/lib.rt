@@ -21,7 +21,7 @@ ghost use Rattle.render.specs.Yuan.{mostSignedYuan};
 ghost use Rattle.report.specs.Texts.{whoText, earnedText, carriedText, amountText, rowText, rowsText, balanceText, sumsText, totalsText, monthOf, monthText, noLineText, aboveText};
 ghost use Rattle.report.specs.Texts.{mostWho, mostEarned, mostCarried, mostAmount, mostRow, mostSums, mostTotals, mostMonth, mostNoLine, mostAbove};
 
-pub mod hours;
+pub mod hourly;
 mod totals;
 pub mod why;
 

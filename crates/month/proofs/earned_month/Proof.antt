@@ -17,7 +17,8 @@ returns c =
     let a = c .before .before .before .before .before .args in
     let es = take (a .count) (a .entries) in
     let e = c .before .before .members-earned .ensures .refusal (c .before .if1 .taken) in
-    c .month-refused .ensures ∙ earned-refused es (a .book .now) (a .ramped) (earnings es (a .book .now) (a .series .now) (a .lengths) (a .ramped)) (c .before .before .members-earned .result .fault) (e .0) (e .1)
+    c .month-refused .ensures
+    ∙ earned-refused es (a .book .now) (a .ramped) (earnings es (a .book .now) (a .series .now) (a .lengths) (a .ramped)) (c .before .before .members-earned .result .fault) (e .0) (e .1)
 
 compensations-requires : tie.Need-compensations-requires
 compensations-requires c κs = search needs

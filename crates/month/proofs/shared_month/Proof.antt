@@ -42,7 +42,8 @@ returns-2 c =
     let long : length (a .lines) ≡ 64 = search needs in
     let e = c .before .before .before .before .before .before in
     let s = e .before .share-front in
-    shared-is (a .book .now) (a .lines) (a .grains) (a .ramped) (a .count) (c .before .before .before .before .before .before .before .before .before .pre .1) long (s .result) (s .ensures) (e .if1 .left)
+    shared-is (a .book .now) (a .lines) (a .grains) (a .ramped) (a .count) (c .before .before .before .before .before .before .before .before .before .pre .1) long
+    (s .result) (s .ensures) (e .if1 .left)
     _ _ _ _ (c .before .header-at .ensures) (c .count-at .ensures .0) (c .before .before .before .is-below .ensures) (c .before .before .filled-rows .ensures)
 
 pub shared-month-spec : {M : Type 1} → statement M

@@ -9,7 +9,7 @@ use mathlib.Core.Logic.{inl, inr}
 use denote.Enum.Declared.{tagOf}
 use types.Run.{OneOf}
 use Rattle.month.specs.declared.members.MemberEarned.{MemberEarned}
-use Rattle.month.specs.declared.members.MemberEarned.the-variants.{Both, NotScored, NotRamped}
+use Rattle.month.specs.declared.members.MemberEarned.the-variants.{ScoreAndHours, NotScored, NotRamped}
 use Rattle.month.proofs.Walking.{Walk, turnOf, walk-start, walk-on, walk-stop, walk-end, isBoth, turn-is, cut-take}
 use borrow.Author.Needs.{needs}
 use Rattle.month.proofs.members.MemberEarned.{the-type}
@@ -18,8 +18,8 @@ use Rattle.month.proofs.members.members_earned.Tie as tie
 
 -- a turn that is not the grains of both is refused
 other : (x : MemberEarned) → OneOf (1 ∷ 2 ∷ []) (tagOf the-type x) → isBoth x ≡ false
-other (Both g) (inl e) = absurd (omega arith)
-other (Both g) (inr e) = absurd (omega arith)
+other (ScoreAndHours g) (inl e) = absurd (omega arith)
+other (ScoreAndHours g) (inr e) = absurd (omega arith)
 other (NotScored number place) e = refl
 other (NotRamped number place) e = refl
 

@@ -38,8 +38,8 @@ returns c =
             share = search needs;
             amount = search needs;
           };
-      reads = row-reads _ _ e k _ _ _ _ (c .before .before .before .before .before .before .before .earned-at .ensures) (c .before .before .before .before .before .before .carried-at .ensures) (c .before .in-16 .ensures)
-          (c .in-162 .ensures) (c .before .before .before .in-32 .ensures) (c .before .before .in-322 .ensures);
+      reads = row-reads _ _ e k _ _ _ _ (c .before .before .before .before .before .before .before .earned-at .ensures) (c .before .before .before .before .before .before .carried-at .ensures)
+          (c .before .in-16 .ensures) (c .in-162 .ensures) (c .before .before .before .in-32 .ensures) (c .before .before .in-322 .ensures);
     }
 
 pub numbers-at-spec : {M : Type 1} → statement M

@@ -2,7 +2,7 @@ use mathlib.Core.Path.{ap}
 use mathlib.Core.List.{_++_}
 use Prim.Native.Nat.{ℕ}
 use Rattle.render.specs.Decimal.{word}
-use Rattle.render.specs.Yuan.{points}
+use Rattle.render.specs.Yuan.{yuan, points}
 use Rattle.report.specs.Explained.{allText}
 use Rattle.render.proofs.Placed.{and-then, same-put}
 use borrow.Author.Needs.{needs}
@@ -24,6 +24,12 @@ slice-aggregate-put-points-field c = search needs
 put-points-field-requires : tie.Need-put-points-field-requires
 put-points-field-requires c κs = search needs
 
+slice-aggregate-put-yuan-field : tie.Need-slice-aggregate-put-yuan-field
+slice-aggregate-put-yuan-field c = search needs
+
+put-yuan-field-requires : tie.Need-put-yuan-field-requires
+put-yuan-field-requires c κs = search needs
+
 slice-aggregate-put-word : tie.Need-slice-aggregate-put-word
 slice-aggregate-put-word c = search needs
 
@@ -36,9 +42,11 @@ same-length c = search needs
 returns : tie.Need-returns
 unfolding allText
 returns c =
-    let q = c .before .before .before .before .before .before .before .before .before .before .before .before .before .before .before .to-fen .ensures in
-    let p = same-put (ap (λ (n : ℕ). word " points " ++ points n) q) (c .before .before .before .before .before .before .before .put-points-field .ensures) in
-    and-then (and-then (c .before .before .before .before .before .before .before .before .before .before .before .before .put-field .ensures) p) (c .before .before .put-word .ensures)
+    let p = c .before .before .before .before .before .before .before .before .before .before .before .before .before .before .before .before .before .put-field .ensures in
+    let f = c .before .before .before .before .before .before .before .before .before .before .before .before .before .before .before .before .before .before .before .before .to-fen .ensures in
+    let q = same-put (ap (λ (n : ℕ). word " points " ++ points n) f) (c .before .before .before .before .before .before .before .before .before .before .before .before .put-points-field .ensures) in
+    let r = same-put (ap (λ (n : ℕ). word " yuan " ++ yuan n) f) (c .before .before .before .before .before .before .before .put-yuan-field .ensures) in
+    and-then (and-then (and-then p q) r) (c .before .before .put-word .ensures)
 
 pub put-all-spec : {M : Type 1} → statement M
 put-all-spec =
@@ -49,6 +57,8 @@ put-all-spec =
     put-field-requires
     slice-aggregate-put-points-field
     put-points-field-requires
+    slice-aggregate-put-yuan-field
+    put-yuan-field-requires
     slice-aggregate-put-word
     put-word-requires
     same-length

@@ -1,8 +1,8 @@
 use Rattle.report.specs.Hours.{mostHourText}
 use Rattle.render.proofs.Placed.{no-room, rendered}
 use borrow.Author.Needs.{needs}
-use Rattle.report.proofs.hours.hour_text.Statement.{statement}
-use Rattle.report.proofs.hours.hour_text.Tie as tie
+use Rattle.report.proofs.hourly.hour_text.Statement.{statement}
+use Rattle.report.proofs.hourly.hour_text.Tie as tie
 
 returns : tie.Need-returns
 returns c = no-room mostHourText _ (c .before .before .args .out .now) (c .if1 .taken)

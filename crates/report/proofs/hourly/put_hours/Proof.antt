@@ -1,8 +1,8 @@
 use Rattle.report.specs.Hours.{hoursText}
 use Rattle.render.proofs.Placed.{and-then}
 use borrow.Author.Needs.{needs}
-use Rattle.report.proofs.hours.put_hours.Statement.{statement}
-use Rattle.report.proofs.hours.put_hours.Tie as tie
+use Rattle.report.proofs.hourly.put_hours.Statement.{statement}
+use Rattle.report.proofs.hourly.put_hours.Tie as tie
 
 slice-aggregate-put-field : tie.Need-slice-aggregate-put-field
 slice-aggregate-put-field c = search needs

@@ -2,8 +2,8 @@ use mathlib.Core.Path.{_≡_}
 use lib.ListN.{length}
 use Prim.Native.Nat.{_≤_, _-_}
 use borrow.Author.Needs.{needs}
-use Rattle.edges.proofs.hours.fill.Statement.{statement}
-use Rattle.edges.proofs.hours.fill.Tie as tie
+use Rattle.edges.proofs.ramps.fill.Statement.{statement}
+use Rattle.edges.proofs.ramps.fill.Tie as tie
 
 abbrev Inv-loop : tie.InvT-loop
 Inv-loop b₀ numbers i₀ b i = (i ≤ length b₀) × (length b ≡ length b₀)

@@ -1,8 +1,8 @@
 use Rattle.report.specs.Hours.{mostHoursText}
 use Rattle.render.proofs.Placed.{no-room, rendered}
 use borrow.Author.Needs.{needs}
-use Rattle.report.proofs.hours.hours_text.Statement.{statement}
-use Rattle.report.proofs.hours.hours_text.Tie as tie
+use Rattle.report.proofs.hourly.hours_text.Statement.{statement}
+use Rattle.report.proofs.hourly.hours_text.Tie as tie
 
 returns : tie.Need-returns
 returns c = no-room mostHoursText _ (c .before .before .args .out .now) (c .if1 .taken)
