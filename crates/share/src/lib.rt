@@ -16,8 +16,8 @@ pub struct Line {
     pub number: u16,
     pub status: u8,
     pub energy: Mwh,
-    pub compensation: Fen,
     pub assessment: Thousandths,
+    pub compensation: Fen,
     pub share: SignedFen,
     pub amount: SignedFen,
 }
