@@ -1,24 +1,26 @@
 -- Laws of writing. Assumes nothing.
 use mathlib.Core.Path.{_≡_, refl, sym, _∙_, ap}
 use mathlib.Core.Bool.{Bool, true, false, cond, not, and-true}
-use mathlib.Core.List.{List, [], _∷_, _++_, append-nil}
-use Prim.Native.Nat.{ℕ, _≤_}
+use mathlib.Core.List.{List, [], _∷_, _++_, append-nil, append-assoc}
+use Prim.Native.Nat.{ℕ, _+_, _≤_}
 use native.Mathlib.Nat.{zero-add}
 use native.Mathlib.Omega.{arith}
-use lib.Dec.{ltb}
-use lib.ListN.{length, drop}
-use lib.Seq.{sets-eq}
+use lib.Dec.{eqb, ltb}
+use lib.ListN.{length, take, drop}
+use lib.Seq.{sets-eq, length-take-le}
 use borrow.Author.Tests.{ltb-false, eq-eqb, ne-eqb}
 use Rattle.le.specs.Le.{Stores}
 use Rattle.le.proofs.Laws.{then}
 use Rattle.call.specs.declared.Call.{Call}
 use Rattle.call.specs.Limits.{callIsSound}
-use Rattle.call.specs.Layout.{callBytes}
+use Rattle.call.specs.Layout.{callBytes, reservedAt}
+use Rattle.call.proofs.Bytes.{Sized, length-call}
 use Rattle.book.specs.declared.Header.{Header}
-use Rattle.book.specs.Book.{version, headerSize, sizeOf, headBytes, recordBytes, bookBytes}
-use Rattle.book.specs.Check.{headerIsSound, headerMinutes}
+use Rattle.book.specs.Book.{version, headerSize, sizeOf, placeOf, recordAt, headBytes, recordBytes, bookBytes}
+use Rattle.book.specs.Check.{headerIsSound, headerMinutes, isRecord, judge, checkRecords}
 use Rattle.book.specs.Write.{refusedOut, soundCalls, fault, writeFault, writing}
 use Rattle.book.proofs.Lengths.{length-head, length-book}
+use Rattle.book.proofs.Records.{record-back, zeros-back, judge-good}
 
 module _ (h : Header) (cs : List Call) (out : List ℕ) where
   -- the number that is not 0 comes out, and the output as it was
@@ -64,3 +66,22 @@ pub stores-one : (h : Header) (c : Call) {out mid after : List ℕ} → Stores o
     → Stores out 0 (bookBytes version h (c ∷ [])) after
 unfolding bookBytes recordBytes
 stores-one h c s t = rw append-nil (then headerSize (omega (arith, length-head h 1)) s t)
+
+-- A record's one turn, of any key: it passes exactly where the call is sound
+one-turn : (m : ℕ) (b : List ℕ) (c : Call) → recordAt b 0 ≡ c → reservedAt b (placeOf 0) ≡ 0 → eqb (checkRecords m b 0 0 1 .number) 0 ≡ callIsSound m c
+unfolding checkRecords judge isRecord
+one-turn m b c e z = at (callIsSound m c) refl
+  where
+    at : (t : Bool) → callIsSound m c ≡ t → eqb (checkRecords m b 0 0 1 .number) 0 ≡ callIsSound m c
+    at true s = rw (s, judge-good m b 0 0 (ap (callIsSound m) e ∙ s) z (omega arith)) refl
+    at false s = rw (s, ap (callIsSound m) e ∙ s) refl
+
+-- so does the record that is written behind sixteen bytes of a page
+pub passes-alone : (m : ℕ) (c : Call) {page after : List ℕ} → Sized c → sizeOf 1 ≤ length page → Stores page headerSize (callBytes c) after
+    → eqb (checkRecords m after 0 0 1 .number) 0 ≡ callIsSound m c
+passes-alone m c {page} {after} s room w =
+    let p = take headerSize page in
+    let t = drop (headerSize + length (callBytes c)) page in
+    let l : length p ≡ sizeOf 0 = length-take-le headerSize page (omega arith) in
+    let is : after ≡ p ++ (callBytes c ++ t) = w .is ∙ sets-eq (callBytes c) page headerSize (omega (arith, length-call c)) ∙ append-assoc p (callBytes c) t in
+    rw is (one-turn m (p ++ (callBytes c ++ t)) c (record-back p 0 l c t s) (zeros-back p 0 l c t))

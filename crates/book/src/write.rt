@@ -2,6 +2,7 @@
 use crate::HEADER_SIZE;
 use crate::Header;
 use crate::VERSION;
+use crate::check_records;
 use crate::size_of;
 use call::Call;
 use call::layout::put_call;
@@ -13,6 +14,7 @@ ghost use mathlib.Core.Path.{_≡_};
 ghost use mathlib.Core.List.{[], _∷_};
 ghost use Rattle.le.specs.Le.{Stores};
 ghost use Rattle.call.specs.Layout.{callBytes};
+ghost use Rattle.call.specs.Limits.{callIsSound};
 ghost use Rattle.book.specs.Book.{version, headerSize, HasHeader, HasRecord, markBytes, dateBytes, countBytes, headBytes};
 ghost use Rattle.book.specs.Write.{fault, bookOutcome, writing};
 
@@ -104,11 +106,22 @@ pub fn write_none(h: Header, out: &mut [u8]) -> Written
     }
 }
 
+// Whether a call is sound, judged as a record of a book is: by its bytes, on a page of its own. The table of services is then asked in one
+// place, and the compiler sets it into the loop of the check.
+fn is_sound_written(x: Call, minutes: u32) -> bool
+    ensures { λ r. ⌜ r ≡ callIsSound minutes x ⌝ }
+{
+    let mut page = [0u8; 48];
+    put_first(&mut page[..], x);
+    let v = check_records(&page[..], 1, minutes);
+    v.number == 0
+}
+
 // A book of one.
 pub fn write_one(h: Header, x: Call, out: &mut [u8]) -> Written
     ensures { λ r. ⌜ bookOutcome r (now (out .exit)) ≡ writing h (x ∷ []) (now (out .entry)) ⌝ }
 {
-    let sound = x.is_sound(minutes_of(h.year, h.month));
+    let sound = is_sound_written(x, minutes_of(h.year, h.month));
     let size = size_of(1);
     let refusal = fault(h, sound, size, out.len());
     if refusal != 0 {

@@ -18,8 +18,8 @@ unfolding headerMinutes
 faults c =
     let args = c .before .before .before .before .before .args in
     let sounds = c .before .before in
-    let sound : sounds .is-sound .result ≡ callIsSound (headerMinutes (args .h)) (args .x) =
-    sounds .is-sound .ensures ∙ ap (λ (m : ℕ). callIsSound m (args .x)) (sounds .before .minutes-of .ensures) in
+    let sound : sounds .is-sound-written .result ≡ callIsSound (headerMinutes (args .h)) (args .x) =
+    sounds .is-sound-written .ensures ∙ ap (λ (m : ℕ). callIsSound m (args .x)) (sounds .before .minutes-of .ensures) in
     c .fault .ensures ∙ rw (sound, c .before .size-of .ensures) (fault-one (args .h) (args .x) _)
 
 -- there is room for the header and the record where nothing is refused
@@ -31,8 +31,8 @@ room c =
 minutes-of-requires : tie.Need-minutes-of-requires
 minutes-of-requires c κs = search needs
 
-is-sound-requires : tie.Need-is-sound-requires
-is-sound-requires c κs = search needs
+is-sound-written-requires : tie.Need-is-sound-written-requires
+is-sound-written-requires c κs = search needs
 
 size-of-requires : tie.Need-size-of-requires
 size-of-requires c κs = search needs
@@ -68,7 +68,7 @@ write-one-spec =
     tie.close
     (tie.spec
     minutes-of-requires
-    is-sound-requires
+    is-sound-written-requires
     size-of-requires
     fault-requires
     returns
