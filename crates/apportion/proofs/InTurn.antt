@@ -1,12 +1,13 @@
 -- Remainders that are equally large are served in turn, the lower number first. Assumes nothing.
 use mathlib.Core.Path.{_≡_, refl, sym, ap, _∙_}
-use mathlib.Core.Bool.{cond}
+use mathlib.Core.Bool.{Bool, true, false, cond, _&&_}
 use mathlib.Core.List.{List}
 use Prim.Native.Nat.{ℕ, _+_, _-_, _≤_, _<_}
 use native.Mathlib.Decide.{ℕ-discrete}
 use native.Mathlib.Omega.{arith}
-use lib.Dec.{eqb}
+use lib.Dec.{eqb, ltb}
 use lib.ListN.{length, getD, set, length-set}
+use borrow.Author.Tests.{ltb-true}
 use lib.Seq.{getD-set-same, getD-set-other, set-getD}
 use Rattle.apportion.specs.Apportion.{total}
 use Rattle.apportion.specs.Giving.{top, largestAt, giveOut}
@@ -26,6 +27,14 @@ given-more g h =
       sharesLong = h .sharesLong ∙ g .sharesLong;
       same = h .same ∙ g .same;
     }
+
+-- there is a remainder left while the loop goes on
+pub goes-on : (i n k : ℕ) → (ltb i n && ltb 0 k) ≡ true → i < n
+goes-on i n k e = ltb-true _ _ (first (ltb i n) (ltb 0 k) e)
+  where
+    first : (t u : Bool) → (t && u) ≡ true → t ≡ true
+    first true u e = refl
+    first false u e = e
 
 pub turn-le : {left most r x : ℕ} → UnitInTurn left most r x → x ≤ left
 turn-le (served z p q m) = omega arith
@@ -51,15 +60,19 @@ pub record Serving (most : ℕ) (rs : List ℕ) (k i : ℕ) : Type 0 where
 pub serving-none : (most k : ℕ) (rs : List ℕ) → ((j : ℕ) → getD rs j 0 ≤ most) → Serving most rs k 0
 serving-none most k rs h = record { all = h; behind = λ j l p q. absurd (omega arith) }
 
+-- None is above the largest.
+pub largest-most : (rs : List ℕ) (b : ℕ) → b ≡ largestAt rs → (j : ℕ) → getD rs j 0 ≤ getD rs b 0
+largest-most rs b e j =
+    let t : getD rs b 0 ≡ top rs = ap (λ (n : ℕ). getD rs n 0) e ∙ at-largest rs in
+    omega (arith, le-top rs j)
+
 -- The largest, struck, leaves none above it.
 pub struck-le : (rs : List ℕ) (b : ℕ) → b < length rs → b ≡ largestAt rs → (j : ℕ) → getD (set rs b 0) j 0 ≤ getD rs b 0
 struck-le rs b l e j = go (ℕ-discrete j b)
   where
     go : Dec (j ≡ b) → getD (set rs b 0) j 0 ≤ getD rs b 0
     go (yes f) = rw (f, getD-set-same rs b 0 0 l) (omega arith)
-    go (no f) =
-        let t : getD rs b 0 ≡ top rs = ap (λ (n : ℕ). getD rs n 0) e ∙ at-largest rs in
-        rw (getD-set-other rs b j 0 0 f) (omega (arith, le-top rs j))
+    go (no f) = rw (getD-set-other rs b j 0 0 f) (largest-most rs b e j)
 
 -- A remainder as large as the largest, in its turn.
 serve : (most k i : ℕ) (rs ss : List ℕ) → i < length rs → length ss ≡ length rs → Serving most rs k i → 0 < k → 0 < most → getD rs i 0 ≡ most

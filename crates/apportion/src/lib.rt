@@ -5,6 +5,7 @@ mod ties;
 use crate::bar::bar_for;
 use crate::bar::count_above;
 use crate::bar::give_above;
+use crate::ties::count_equal;
 use crate::ties::give_equal;
 use product::product_over;
 ghost use mathlib.Core.Path.{_≡_};
@@ -88,7 +89,7 @@ fn give_out(left: u64, rests: &mut [u64], shares: &mut [u64])
 }
 
 // The same, in few passes: at once to the remainders above a bar, in turn what is left then.
-fn give_left(left: u64, all: u64, rests: &mut [u64], shares: &mut [u64])
+fn give_by_bar(left: u64, all: u64, rests: &mut [u64], shares: &mut [u64])
     requires { ⌜ CanGive left (now rests) (now shares) ⌝ }
     requires { ⌜ all < 2 ^ 63 ⌝ }
     requires { ⌜ NoneAbove all (now rests) ⌝ }
@@ -98,6 +99,23 @@ fn give_left(left: u64, all: u64, rests: &mut [u64], shares: &mut [u64])
     let served = count_above(bar, rests);
     give_above(bar, rests, shares);
     give_out(left - served, rests, shares);
+}
+
+// The same: where the largest remainders are as many as the units left, these are served in one pass.
+fn give_left(left: u64, all: u64, rests: &mut [u64], shares: &mut [u64])
+    requires { ⌜ CanGive left (now rests) (now shares) ⌝ }
+    requires { ⌜ all < 2 ^ 63 ⌝ }
+    requires { ⌜ NoneAbove all (now rests) ⌝ }
+    ensures { λ _. ⌜ now (shares .exit) ≡ giveOut left (now (rests .entry)) (now (shares .entry)) ⌝ }
+{
+    let b = largest_at(rests);
+    let most = rests[b];
+    if left <= count_equal(most, rests) {
+        let k = give_equal(left, most, rests, shares);
+        give_out(k, rests, shares);
+    } else {
+        give_by_bar(left, all, rests, shares);
+    }
 }
 
 // The amount shared by the weights, into `shares`; `rests` is room to work in.

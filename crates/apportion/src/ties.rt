@@ -1,7 +1,7 @@
 // Remainders that are equally large get their units in one pass, the lower number first.
 ghost use mathlib.Core.Path.{_≡_};
 ghost use mathlib.Core.Bool.{cond};
-ghost use Prim.Native.Nat.{_+_, _^_, _<_};
+ghost use Prim.Native.Nat.{_+_, _^_, _<_, _≤_};
 ghost use lib.Dec.{eqb};
 ghost use lib.ListN.{length};
 ghost use Rattle.apportion.specs.Apportion.{total};
@@ -36,7 +36,7 @@ pub fn give_equal(left: u64, most: u64, rests: &mut [u64], shares: &mut [u64]) -
 {
     let mut k = left;
     let mut i: usize = 0;
-    while i < rests.len() {
+    while (i < rests.len()) & (0 < k) {
         let r = rests[i];
         let x = one_in_turn(k, most, r);
         rests[i] = unless_one(x, r);
@@ -45,4 +45,21 @@ pub fn give_equal(left: u64, most: u64, rests: &mut [u64], shares: &mut [u64]) -
         i += 1;
     }
     k
+}
+
+fn one_if(t: bool) -> u64
+    ensures { λ r. ⌜ r ≤ 1 ⌝ }
+{
+    if t { 1 } else { 0 }
+}
+
+// How many remainders are as large as `most`: it decides on a way of giving, and either way gives the same, so that nothing is said of it.
+pub fn count_equal(most: u64, rests: &[u64]) -> u64 {
+    let mut n: u64 = 0;
+    let mut i: usize = 0;
+    while i < rests.len() {
+        n += one_if(rests[i] == most);
+        i += 1;
+    }
+    n
 }

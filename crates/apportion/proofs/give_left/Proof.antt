@@ -1,45 +1,32 @@
-use mathlib.Core.Path.{_≡_, ap, ap₂, _∙_}
-use mathlib.Core.List.{List}
-use Prim.Native.Nat.{ℕ, _-_}
-use native.Mathlib.Omega.{arith}
-use lib.ListN.{length, length-map}
-use Rattle.apportion.specs.Apportion.{total}
-use Rattle.apportion.specs.Giving.{giveOut}
-use Rattle.apportion.specs.Bar.{unlessServed, strikeAbove, giveAbove}
-use Rattle.apportion.proofs.Turns.{give-above, length-raised, total-raised}
+use mathlib.Core.Path.{_∙_}
+use Rattle.apportion.proofs.InTurn.{largest-most}
 use borrow.Author.Needs.{needs}
 use Rattle.apportion.proofs.give_left.Statement.{statement}
 use Rattle.apportion.proofs.give_left.Tie as tie
 
-bar-for-requires : tie.Need-bar-for-requires
-bar-for-requires c κs = search needs
+largest-at-requires : tie.Need-largest-at-requires
+largest-at-requires c κs = search needs
 
-count-above-requires : tie.Need-count-above-requires
-count-above-requires c κs =
-    let s = c .before .before .before .before .before in
-    (omega arith, λ k. omega (arith, s .pre .1 .1 k))
+mul-most : tie.Need-mul-most
+mul-most c = search needs
 
-give-above-requires : tie.Need-give-above-requires
-give-above-requires c κs =
-    let s = c .before .before .before .before .before .before .before .before in
-    (s .pre .0 .1, (omega arith, (omega arith, λ k. omega (arith, s .pre .1 .1 k))))
+slice-read-most : tie.Need-slice-read-most
+slice-read-most c = search needs
 
-sub-give-out : tie.Need-sub-give-out
-sub-give-out c = search needs
+count-equal-requires : tie.Need-count-equal-requires
+count-equal-requires c κs = search needs
+
+give-equal-requires : tie.Need-give-equal-requires
+give-equal-requires c κs =
+    let s = c .before .before .before .before .before .before .before .before .before .before in
+    let l = c .before .before .before .before .before .before .largest-at in
+    (s .pre .0 .1, (s .pre .0 .2, largest-most (s .args .rests .now) (l .result) (l .ensures .0)))
 
 give-out-requires : tie.Need-give-out-requires
-give-out-requires c κs =
-    let s = c .before .before .before .before .before .before .before .before .before .before .before .before .before .before .before in
-    let g = c .before .before .before .before .before .before .give-above in
-    let bar = c .before .before .before .before .before .before .before .before .before .before .before .bar-for .result in
-    let rs = s .args .rests .now in
-    let ss = s .args .shares .now in
-    let lr : length (g .last .1 .0) ≡ length rs = ap length (g .ensures .1) ∙ length-map rs (λ (r : ℕ). unlessServed bar r) in
-    let ls : length (g .last .1 .1 .0) ≡ length ss = ap length (g .ensures .0) ∙ length-raised bar rs ss (s .pre .0 .1) in
-    let t : total (g .last .1 .1 .0) ≡ total (giveAbove bar rs ss) = ap total (g .ensures .0) in
-    let n = c .before .before .before .before .before .before .before .before .before .count-above .ensures in
-    let m = c .before .before .before .before .before .before .before .before .before .before .before .bar-for .ensures in
-    (omega arith, omega arith, omega (arith, total-raised bar rs ss (s .pre .0 .1), n, m))
+give-out-requires c κs = search needs
+
+give-by-bar-requires : tie.Need-give-by-bar-requires
+give-by-bar-requires c κs = search needs
 
 same-length : tie.Need-same-length
 same-length c = search needs
@@ -49,27 +36,32 @@ same-length-2 c = search needs
 
 returns : tie.Need-returns
 returns c =
-    let s = c .before .before .before .before .before .before .before .before .before .before .before .before .before .before .before .before .before .before .before .before in
-    let g = c .before .before .before .before .before .before .before .before .before .before .before .give-above in
-    let b = c .before .before .before .before .before .before .before .before .before .before .before .before .before .before .before .before .bar-for in
-    let n = c .before .before .before .before .before .before .before .before .before .before .before .before .before .before .count-above in
-    let bar = b .result in
-    let rs = s .args .rests .now in
-    let ss = s .args .shares .now in
-    c .before .before .before .before .give-out .ensures
-    ∙ ap₂ (λ (x y : List ℕ). giveOut (s .args .left - n .result) x y) (g .ensures .1) (g .ensures .0)
-    ∙ ap (λ (k : ℕ). giveOut (s .args .left - k) (strikeAbove bar rs) (giveAbove bar rs ss)) (n .ensures)
-    ∙ give-above (s .args .left) bar rs ss (b .ensures .1) (s .pre .0 .1)
+    let equal = c .before .before .before .before .before .before .before .before .before .before .before .give-equal in
+    c .before .before .before .before .give-out .ensures ∙ equal .ensures .same
+
+same-length-3 : tie.Need-same-length-3
+same-length-3 c = search needs
+
+same-length-4 : tie.Need-same-length-4
+same-length-4 c = search needs
+
+returns-2 : tie.Need-returns-2
+returns-2 c = search needs
 
 pub give-left-spec : {M : Type 1} → statement M
 give-left-spec =
     tie.close
     (tie.spec
-    bar-for-requires
-    count-above-requires
-    give-above-requires
-    sub-give-out
+    largest-at-requires
+    mul-most
+    slice-read-most
+    count-equal-requires
+    give-equal-requires
     give-out-requires
+    give-by-bar-requires
     same-length
     same-length-2
-    returns)
+    returns
+    same-length-3
+    same-length-4
+    returns-2)

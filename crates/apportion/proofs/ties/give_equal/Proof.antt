@@ -1,10 +1,10 @@
 use mathlib.Core.Path.{_≡_, ap, _∙_}
-use Prim.Native.Nat.{ℕ, _+_, _-_, _≤_}
+use Prim.Native.Nat.{ℕ, _+_, _-_, _<_, _≤_}
 use native.Mathlib.Omega.{arith}
 use lib.ListN.{length, getD}
 use Rattle.apportion.specs.Ties.{UnitsGiven}
 use Rattle.apportion.proofs.Loops.{getD-total}
-use Rattle.apportion.proofs.InTurn.{Serving, serving-none, given-none, given-more, serve-step, turn-le}
+use Rattle.apportion.proofs.InTurn.{Serving, goes-on, serving-none, given-none, given-more, serve-step, turn-le}
 use borrow.Author.Needs.{needs}
 use Rattle.apportion.proofs.ties.give_equal.Statement.{statement}
 use Rattle.apportion.proofs.ties.give_equal.Tie as tie
@@ -15,6 +15,10 @@ Inv-loop left most rests₀ shares₀ k₀ i₀ rests shares k i = (i ≤ length
 abbrev μ-loop : tie.MeasureT-loop
 μ-loop left most rests₀ shares₀ k₀ i₀ rests shares k i = length rests₀ - i
 
+-- the loop's remainder is there
+here : (c : tie.In-loop Inv-loop μ-loop) → c .before .loop .i < length (c .before .loop .rests)
+here c = let l = c .before .loop in goes-on (l .i) (length (l .rests)) (l .k) (c .loop-test .taken)
+
 loop-holds : tie.Need-loop-holds Inv-loop μ-loop
 loop-holds c =
     let s = c .before .before in
@@ -24,7 +28,7 @@ mul-r : tie.Need-mul-r Inv-loop μ-loop
 mul-r c = search needs
 
 slice-read-r : tie.Need-slice-read-r Inv-loop μ-loop
-slice-read-r c = omega arith
+slice-read-r c = here (c .before)
 
 one-in-turn-requires : tie.Need-one-in-turn-requires Inv-loop μ-loop
 one-in-turn-requires c κs = search needs
@@ -36,13 +40,13 @@ mul-rests : tie.Need-mul-rests Inv-loop μ-loop
 mul-rests c = search needs
 
 slice-write-rests : tie.Need-slice-write-rests Inv-loop μ-loop
-slice-write-rests c = omega arith
+slice-write-rests c = here (c .before .before .before)
 
 mul-shares : tie.Need-mul-shares Inv-loop μ-loop
 mul-shares c = search needs
 
 slice-read-shares : tie.Need-slice-read-shares Inv-loop μ-loop
-slice-read-shares c = omega arith
+slice-read-shares c = omega (arith, here (c .before .before .before .before))
 
 add-shares : tie.Need-add-shares Inv-loop μ-loop
 add-shares c =
@@ -53,7 +57,7 @@ mul-shares-2 : tie.Need-mul-shares-2 Inv-loop μ-loop
 mul-shares-2 c = search needs
 
 slice-write-shares : tie.Need-slice-write-shares Inv-loop μ-loop
-slice-write-shares c = omega arith
+slice-write-shares c = omega (arith, here (c .before .before .before .before))
 
 sub-k : tie.Need-sub-k Inv-loop μ-loop
 sub-k c = turn-le (c .before .before .one-in-turn .ensures)
@@ -62,15 +66,15 @@ add-i : tie.Need-add-i Inv-loop μ-loop
 add-i c = search needs
 
 loop-less : tie.Need-loop-less Inv-loop μ-loop
-loop-less c = omega arith
+loop-less c = omega (arith, here (c .before .before .before .before))
 
 loop-again : tie.Need-loop-again Inv-loop μ-loop
 loop-again c =
     let s = c .before .before .before .before .before .before .before .before in
     let l = c .before .before .before .before .before .loop in
     let x = c .before .before .one-in-turn .result in
-    let t = serve-step (s .args .most) (l .k) x (l .i) (l .rests) (l .shares) (omega arith) (omega arith) (l .inv .2) (c .before .before .one-in-turn .ensures) in
-    rw (c .before .unless-one .ensures) (omega arith, given-more (l .inv .1) (t .0), t .1)
+    let t = serve-step (s .args .most) (l .k) x (l .i) (l .rests) (l .shares) (here (c .before .before .before .before)) (omega arith) (l .inv .2) (c .before .before .one-in-turn .ensures) in
+    rw (c .before .unless-one .ensures) (omega (arith, here (c .before .before .before .before)), given-more (l .inv .1) (t .0), t .1)
 
 same-length : tie.Need-same-length Inv-loop μ-loop
 same-length c = search needs
