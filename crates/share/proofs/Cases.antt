@@ -1,5 +1,5 @@
 -- The outcome by its cases, over plain values. Assumes nothing.
-use mathlib.Core.Path.{_≡_, refl, ap, _∙_}
+use mathlib.Core.Path.{_≡_, refl, ap, ap₂, _∙_}
 use mathlib.Core.Bool.{Bool, true, false, cond}
 use mathlib.Core.List.{List, [], _∷_, map}
 use mathlib.Core.Logic.{_⊎_, inl, inr}
@@ -8,19 +8,20 @@ use native.Mathlib.Decide.{decLe, decLt}
 use native.Mathlib.Omega.{arith}
 use borrow.Author.Tests.{lt-ltb, le-ltb, eq-eqb, ne-eqb}
 use lib.Dec.{ltb}
-use lib.IntN.{natAbs}
+use lib.IntN.{ℤ, pos, natAbs, _-ℤ_}
 use lib.ListN.{length, getD, take}
 use lib.Seq.{getD-take}
 use Rattle.apportion.specs.Apportion.{total, apportion}
 use Rattle.apportion.proofs.Promises.{adds-up}
 use Rattle.apportion.proofs.Loops.{getD-total}
 use Rattle.share.specs.declared.Line.{Line}
-use Rattle.share.specs.Sharing.{compensated, below, gap, weightsOf, allWeights, Part, partsBy, parts, lineIsSound, firstBadLine, weightless}
+use Rattle.share.specs.Sharing.{compensated, assessed, below, gap, weightsOf, allWeights, Part, partsBy, parts, lineIsSound, firstBadLine, weightless}
 use Rattle.share.specs.Sharing.{sharingRefused, sharingAccepted, settled, sharingInTurn, sharing, mostNumber, mostCompensation}
 use Rattle.share.proofs.Bounds.{few-sound}
 use Rattle.share.specs.declared.Shared.{Shared}
 use Rattle.units.specs.declared.SignedFen.{SignedFen}
 use Rattle.share.specs.Forms.{fillIn, arrayOf, clear}
+use Rattle.share.specs.Inner.{GapIs}
 
 -- 15
 pub settled-15 : (ls : List Line) → mostCompensation < compensated ls → sharingRefused 15 0 ≡ settled ls
@@ -40,6 +41,14 @@ settled-on ls k h = go (decLe 1 (natAbs (gap ls)))
     go : Dec (1 ≤ natAbs (gap ls)) → sharingAccepted ls ≡ cond (ltb mostCompensation (compensated ls)) (sharingRefused 15 0) (cond (weightless ls) (sharingRefused 16 0) (sharingAccepted ls))
     go (yes p) = rw (le-ltb mostCompensation (compensated ls) k, lt-ltb 0 (natAbs (gap ls)) p, ne-eqb (allWeights ls) 0 (λ e. omega (arith, h p)))
     go (no f) = rw (le-ltb mostCompensation (compensated ls) k, le-ltb 0 (natAbs (gap ls)) (omega arith))
+
+-- R from C and A
+pub gap-is : (ls : List Line) (c a amount : ℕ) (negative : Bool) (whole : ℤ) → c ≡ compensated ls → a ≡ assessed ls
+    → amount ≡ natAbs (pos a -ℤ pos c) → negative ≡ ltb a c → whole ≡ pos a -ℤ pos c → GapIs ls amount negative whole
+unfolding gap
+gap-is ls c a amount negative whole ec ea en eb ew =
+    let e : pos a -ℤ pos c ≡ gap ls = ap₂ (λ (x y : ℕ). pos x -ℤ pos y) ea ec in
+    (en ∙ ap natAbs e, eb ∙ ap₂ ltb ea ec, ew ∙ e)
 
 -- a share is at most what is shared
 pub share-le : (n k count : ℕ) (ss ws : List ℕ) → take count ss ≡ apportion n ws → (0 < n → 0 < total ws) → k < count → getD ss k 0 ≤ n

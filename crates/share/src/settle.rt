@@ -9,6 +9,7 @@ use units::SignedFen;
 ghost use mathlib.Core.Path.{_≡_};
 ghost use mathlib.Core.List.{List};
 ghost use Prim.Native.Nat.{ℕ, _+_, _*_, _^_, _<_, _≤_};
+ghost use lib.Dec.{ltb};
 ghost use lib.ListN.{getD, take};
 ghost use lib.IntN.{pos, natAbs, _-ℤ_};
 ghost use Rattle.apportion.specs.Apportion.{total, apportion};
@@ -23,6 +24,13 @@ ghost use Rattle.share.specs.Inner.{GapIs, Carries};
 pub struct Totals {
     pub compensated: Fen,
     pub assessed: Fen,
+}
+
+// R: without its sign, whether it is below zero, and with it.
+pub struct Gap {
+    pub amount: Fen,
+    pub negative: bool,
+    pub whole: SignedFen,
 }
 
 // What each line carries, without its sign.
@@ -61,7 +69,7 @@ pub fn weight_of(l: Line, negative: bool) -> u64
 }
 
 // Whether a line is sound after the number `before`.
-fn line_is_sound(l: Line, before: u16) -> bool
+pub fn line_is_sound(l: Line, before: u16) -> bool
     ensures { λ r. ⌜ r ≡ lineIsSound before l ⌝ }
 {
     numbers_are_sound(
@@ -271,20 +279,38 @@ fn part(lines: [Line; 64], count: usize, amount: Fen, negative: bool, whole: Sig
     }
 }
 
+// R of C and A.
+pub fn gap_of(s: Totals) -> Gap
+    requires { ⌜ s .compensated .0 < 2 ^ 63 ⌝ }
+    requires { ⌜ s .assessed .0 < 2 ^ 63 ⌝ }
+    ensures { λ r. ⌜ r .amount .0 ≡ natAbs (pos (s .assessed .0) -ℤ pos (s .compensated .0)) ⌝ }
+    ensures { λ r. ⌜ r .negative ≡ ltb (s .assessed .0) (s .compensated .0) ⌝ }
+    ensures { λ r. ⌜ r .whole .0 ≡ pos (s .assessed .0) -ℤ pos (s .compensated .0) ⌝ }
+{
+    let c = s.compensated.0;
+    let a = s.assessed.0;
+    let amount = apart(a, c);
+    let whole = difference(Fen(a), Fen(c));
+    Gap {
+        amount,
+        negative: a < c,
+        whole,
+    }
+}
+
 // 15, 16, or the sharing.
 fn settle(lines: [Line; 64], count: usize) -> Carried
     requires { ⌜ CountedWithin lines count ⌝ }
     ensures { λ r. ⌜ Carries lines count (settled (take count lines)) r ⌝ }
 {
     let s = sums(lines, count);
-    let c = s.compensated.0;
-    if MOST_COMPENSATION < c {
+    if MOST_COMPENSATION < s.compensated.0 {
         return refusal(15, 0);
     }
-    let a = s.assessed.0;
-    let amount = apart(a, c);
-    let whole = difference(Fen(a), Fen(c));
-    part(lines, count, amount, a < c, whole)
+    let g = gap_of(s);
+    let amount = g.amount;
+    let whole = g.whole;
+    part(lines, count, amount, g.negative, whole)
 }
 
 // 10, 15, 16, or the sharing, of the first `count` of 64 lines.

@@ -1,15 +1,13 @@
-use mathlib.Core.Path.{_≡_, ap, ap₂, _∙_, subst}
+use mathlib.Core.Path.{_≡_, subst}
 use Prim.Native.Nat.{ℕ, _≤_}
 use native.Mathlib.Omega.{arith}
-use lib.Dec.{ltb}
-use lib.IntN.{pos, natAbs, _-ℤ_}
 use lib.ListN.{length, take}
 use lib.Seq.{length-take-le}
-use Rattle.share.specs.Sharing.{SharingOutcome, compensated, assessed, gap}
+use Rattle.share.specs.Sharing.{SharingOutcome, assessed}
 use Rattle.share.specs.Inner.{Carries}
 use Rattle.share.proofs.Signs.{abs-most}
 use Rattle.share.proofs.Bounds.{compensated-le, assessed-le}
-use Rattle.share.proofs.Cases.{settled-15}
+use Rattle.share.proofs.Cases.{settled-15, gap-is}
 use borrow.Author.Needs.{needs}
 use Rattle.share.proofs.settle.settle.Statement.{statement}
 use Rattle.share.proofs.settle.settle.Tie as tie
@@ -34,36 +32,30 @@ refusal-requires c κs = search needs
 
 returns : tie.Need-returns
 returns c =
-    let s = c .before .before .before in
+    let s = c .before .before .before .before in
     subst (λ (o : SharingOutcome). Carries (s .args .lines) (s .args .count) o (c .refusal .result))
-    (settled-15 (take (s .args .count) (s .args .lines)) (omega (arith, c .before .before .sums .ensures .0, c .before .if1 .taken)))
+    (settled-15 (take (s .args .count) (s .args .lines)) (omega (arith, c .before .before .before .sums .ensures .0, c .before .if1 .taken)))
     (c .refusal .ensures (s .args .lines) (s .args .count))
 
-apart-requires : tie.Need-apart-requires
-apart-requires c κs = search needs
-
-difference-requires : tie.Need-difference-requires
-difference-requires c κs = omega (arith, assessed-fits (c .before .before .before), c .before .before .sums .ensures .1, c .before .if1 .left)
+gap-of-requires : tie.Need-gap-of-requires
+gap-of-requires c κs =
+    let s = c .before .before .sums in
+    (omega (arith, c .if1 .left), omega (arith, s .ensures .1, assessed-fits (c .before .before .before)))
 
 part-requires : tie.Need-part-requires
-unfolding gap
 part-requires c κs =
-    let s = c .before .before .before .before in
-    let a : ℕ = c .before .before .before .sums .result .assessed .0 in
-    let d : ℕ = c .before .before .before .sums .result .compensated .0 in
-    let ls = take (s .args .count) (s .args .lines) in
-    let ed : d ≡ compensated ls = c .before .before .before .sums .ensures .0 in
-    let ea : a ≡ assessed ls = c .before .before .before .sums .ensures .1 in
-    let eg : pos a -ℤ pos d ≡ gap ls = ap₂ (λ (x y : ℕ). pos x -ℤ pos y) ea ed in
-    let le = assessed-fits s in
-    let top : d ≤ 100000000000 = c .before .before .if1 .left in
-    let size : c .before .apart .result .0 ≡ natAbs (pos a -ℤ pos d) = c .before .apart .ensures in (
-      s .pre,
-      (omega arith, (omega (arith, size, abs-most a d 100000000000 (omega (arith, le, ea)) top), (size ∙ ap natAbs eg, ap₂ ltb ea ed, c .difference .ensures ∙ eg))),
-    )
+    let s = c .before .before .before .before .before .before in
+    let sums = c .before .before .before .before .before .sums in
+    let d : ℕ = sums .result .compensated .0 in
+    let a : ℕ = sums .result .assessed .0 in
+    let g = c .before .before .gap-of in
+    let top : d ≤ 100000000000 = c .before .before .before .if1 .left in
+    let most = abs-most a d 100000000000 (omega (arith, assessed-fits s, sums .ensures .1)) top in
+    let is = gap-is (take (s .args .count) (s .args .lines)) d a _ _ _ (sums .ensures .0) (sums .ensures .1) (g .ensures .0) (g .ensures .1 .0) (g .ensures .1 .1) in
+    (s .pre, (omega (arith, sums .ensures .0), (omega (arith, g .ensures .0, most), is)))
 
 returns-2 : tie.Need-returns-2
 returns-2 c = search needs
 
 pub settle-spec : {M : Type 1} → statement M
-settle-spec = tie.close (tie.spec sums-requires refusal-requires returns apart-requires difference-requires part-requires returns-2)
+settle-spec = tie.close (tie.spec sums-requires refusal-requires returns gap-of-requires part-requires returns-2)
