@@ -1,6 +1,7 @@
 pub mod Spelling
 pub mod Reading
 pub mod ByteCases
+pub mod Rows
 pub mod Refusals
 pub mod ThreeForms
 pub mod RoundTrip

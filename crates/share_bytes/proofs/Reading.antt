@@ -88,22 +88,6 @@ module _ (input : List ℕ) where
           let sound : byteCount input ≤ firstBadBytes 0 input 0 (byteCount input) = subst (λ (k : ℕ). k ≤ firstBadBytes 0 input 0 k) all (omega (arith, few)) in
           ap (sharingInTurn bad (byteCount input)) (same-read 0 input 0 (byteCount input) sound)
 
-  -- The array form is handed the lines as they are read.
-  pub read-same : (m : ℕ) (lines : List Line) → length lines ≡ 64 → m ≡ min (byteCount input) 64 → take m lines ≡ linesAt input 0 m
-      → sharingCounted lines (byteCount input) ≡ sharingSpelt input
-  read-same m lines e f t =
-      ap (sharingCounted lines) (sym (length-lines (lineAt input) 0 (byteCount input))) ∙ same-sharing read lines (go (decLe (byteCount input) 64)) ∙ turn-read
-    where
-      long : length read ≡ byteCount input
-      long = length-lines (lineAt input) 0 (byteCount input)
-
-      go : Dec (byteCount input ≤ 64) → take (length read) lines ≡ take 64 read
-      go (yes h) =
-          let same : length read ≡ m = omega (arith, long, f) in
-          ap (λ (k : ℕ). take k lines) same ∙ t ∙ ap (linesAt input 0) f ∙ sym first-64
-      go (no g) =
-          take-all (length read) lines (omega (arith, long)) ∙ sym (take-all m lines (omega (arith, f))) ∙ t ∙ ap (linesAt input 0) f ∙ sym first-64
-
   -- Soundness, place by place
 
   spelt-there : (k : ℕ) → k < byteCount input → reservedZero input (lineSize * k) ≡ true → getD read k blankLine ≡ getD (byteLines input) k blankLine

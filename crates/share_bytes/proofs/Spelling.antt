@@ -7,7 +7,7 @@ use native.Mathlib.Nat.{not-suc-le-zero}
 use native.Mathlib.Numerals.{add-one}
 use native.Mathlib.Omega.{arith}
 use lib.ListN.{length, getD, take, length-append}
-use lib.Seq.{length-take-le, getD-take, take-all, sets}
+use lib.Seq.{length-take-le, take-all, sets}
 use mir.Syntax.{w64}
 use lib.IntN.{ℤ}
 use mir.Val.{ofZ, toZ, SFits}
@@ -86,32 +86,25 @@ parts-stored ps i d {k} {l} {m} h f g =
 abbrev partIn : Line → Part
 partIn l = record { share = l .share .0; amount = l .amount .0 }
 
--- the parts of the first lines of an array
-module _ (isBelow : Bool) (lines : List Line) (ss : List ℕ) (n : ℕ) (few : n ≤ length lines) (each : n ≤ length ss) where
+-- the parts of lines, by a share each
+module _ (isBelow : Bool) (ls : List Line) (ss : List ℕ) (each : length ss ≡ length ls) where
   abbrev given : List Part
-  given = partsBy isBelow (take n lines) (take n ss)
+  given = partsBy isBelow ls ss
 
-  same-length : length (take n ss) ≡ length (take n lines)
-  same-length = length-take-le n ss each ∙ sym (length-take-le n lines few)
-
-  length-given : length given ≡ n
-  length-given = length-parts isBelow (take n lines) (take n ss) same-length ∙ length-take-le n lines few
-
-  given-at : (i : ℕ) (d : Line) (p : Part) → i < n → getD given i p ≡ partOf isBelow (getD lines i d) (getD ss i 0)
-  given-at i d p h =
-      part-at isBelow (take n lines) (take n ss) i d p same-length (omega (arith, length-take-le n lines few)) ∙ rw (getD-take n lines i d h, getD-take n ss i 0 h)
+  length-given : length given ≡ length ls
+  length-given = length-parts isBelow ls ss each
 
   -- one line more: its part as it was filled in
-  pub part-more : (i : ℕ) (d l : Line) {k b m : List ℕ} → i < n → l ≡ filled (getD lines i d) (partOf isBelow (getD lines i d) (getD ss i 0)) → Stores k 0 (partsBytes (take i given)) b
+  pub part-more : (i : ℕ) (d l : Line) {k b m : List ℕ} → i < length ls → l ≡ filled (getD ls i d) (partOf isBelow (getD ls i d) (getD ss i 0)) → Stores k 0 (partsBytes (take i given)) b
       → Stores b (16 * i) (partBytes (partIn l)) m → Stores k 0 (partsBytes (take (i + 1) given)) m
   part-more i d l {k} {b} {m} h e f g =
       let p : Part = partOf isBelow d 0 in
       let same : partIn l ≡ getD given i p =
-      ap partIn e ∙ sym (given-at i d p h) in
+      ap partIn e ∙ sym (part-at isBelow ls ss i d p each h) in
       parts-stored given i p (omega (arith, length-given)) f (subst (λ (q : Part). Stores b (16 * i) (partBytes q) m) same g)
 
-  pub all-written : {k m : List ℕ} → Stores k 0 (partsBytes (take n given)) m → Stores k 0 (partsBytes given) m
-  all-written {k} {m} f = subst (λ (ps : List Part). Stores k 0 (partsBytes ps) m) (take-all n given (omega (arith, length-given))) f
+  pub all-written : (n : ℕ) {k m : List ℕ} → length ls ≤ n → Stores k 0 (partsBytes (take n given)) m → Stores k 0 (partsBytes given) m
+  all-written n {k} {m} h f = subst (λ (ps : List Part). Stores k 0 (partsBytes ps) m) (take-all n given (omega (arith, length-given))) f
 
 -- a signed number stored as its bits: the machine's way through them and back changes nothing
 pub bits-stored : (z : ℤ) {at : ℕ} {k l : List ℕ} → SFits w64 z → Stores k at (leBytes 8 (ofZ w64 (toZ w64 (ofZ w64 z)))) l → Stores k at (leBytes 8 (ofZ w64 z)) l

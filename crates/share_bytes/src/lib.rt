@@ -1,24 +1,29 @@
-// Sharing over bytes, 24 a line in, 16 a line out, as include/nwb.h has them.
+// Sharing over bytes, 24 a line in, 16 a line out, as include/nwb.h has them. The lines are read where they lie, as often as they are needed:
+// no copy of them is made.
 use share::Answer;
 use share::Line;
-use share::array::blank_line;
-use share::array::blank_lines;
 use share::array::seen;
-use share::settle::FenEach;
+use share::limits::MOST_COMPENSATION;
+use share::settle::Gap;
+use share::settle::Totals;
 use share::settle::finish;
-use share::settle::outcome;
+use share::settle::gap_of;
+use share::settle::line_is_sound;
+use share::settle::weight_of;
 use units::Fen;
 use units::Mwh;
 use units::SignedFen;
 use units::Thousandths;
 ghost use mathlib.Core.Path.{_≡_};
-ghost use Prim.Native.Nat.{ℕ, _+_, _*_, _<_, _≤_};
-ghost use lib.ListN.{length, getD, take};
+ghost use Prim.Native.Nat.{ℕ, _+_, _*_, _^_, _<_, _≤_};
+ghost use lib.ListN.{length, getD, replicate};
 ghost use Rattle.le.specs.Le.{Stores};
-ghost use Rattle.share.specs.Sharing.{partsBy, mostCompensation};
-ghost use Rattle.share.specs.Limits.{CountedWithin};
-ghost use Rattle.share_bytes.specs.Bytes.{lineSize, fieldsAt, reservedZero, partSize, partBytes, partsBytes, BytesShared};
-ghost use Rattle.share_bytes.specs.Inner.{lineAt, linesAt};
+ghost use Rattle.apportion.specs.Apportion.{total, apportion};
+ghost use Rattle.share.specs.Sharing.{compensated, assessed, weightsOf, partsBy, mostNumber, mostCompensation};
+ghost use Rattle.share.specs.Limits.{LinesWithin};
+ghost use Rattle.share.specs.Inner.{GapIs};
+ghost use Rattle.share_bytes.specs.Bytes.{lineSize, fieldsAt, reservedZero, bytesAreSound, firstBadBytes, partSize, partBytes, partsBytes, BytesShared};
+ghost use Rattle.share_bytes.specs.Inner.{speltLines, BytesSettled};
 
 pub const LINE_SIZE: usize = 24;
 
@@ -28,9 +33,11 @@ fn reserved_zero(s: &[u8], at: usize) -> bool
     requires { ⌜ at + lineSize ≤ length (now s) ⌝ }
     ensures { λ r. ⌜ r ≡ reservedZero (now (s .entry)) at ⌝ }
 {
-    let one = le::u8_at(s, at + 3);
     let four = le::u32_at(s, at + 20);
-    (one == 0) & (four == 0)
+    if four != 0 {
+        return false;
+    }
+    le::u8_at(s, at + 3) == 0
 }
 
 fn fields_at(s: &[u8], at: usize) -> Line
@@ -53,31 +60,90 @@ fn fields_at(s: &[u8], at: usize) -> Line
     }
 }
 
-// A line whose reserved bytes are not zero is as bad as a blank one, and read as that.
-fn line_at(s: &[u8], at: usize) -> Line
+// Whether the line at a place is sound after the number `before`.
+fn bytes_are_sound(s: &[u8], at: usize, before: u16) -> bool
     requires { ⌜ at + lineSize ≤ length (now s) ⌝ }
-    ensures { λ r. ⌜ r ≡ lineAt (now (s .entry)) at ⌝ }
+    ensures { λ r. ⌜ r ≡ bytesAreSound before (now (s .entry)) at ⌝ }
 {
-    if reserved_zero(s, at) {
-        fields_at(s, at)
-    } else {
-        blank_line()
+    if !reserved_zero(s, at) {
+        return false;
+    }
+    let l = fields_at(s, at);
+    line_is_sound(l, before)
+}
+
+// The place of the first of `count` lines that is not sound, or count.
+fn first_bad_bytes(s: &[u8], count: usize) -> usize
+    requires { ⌜ lineSize * count ≤ length (now s) ⌝ }
+    ensures { λ r. ⌜ r ≡ firstBadBytes 0 (now (s .entry)) 0 count ⌝ }
+{
+    let mut before: u16 = 0;
+    let mut i: usize = 0;
+    while i < count {
+        let at = LINE_SIZE * i;
+        if !bytes_are_sound(s, at, before) {
+            return i;
+        }
+        let l = fields_at(s, at);
+        before = l.number;
+        i += 1;
+    }
+    count
+}
+
+// C and A in one pass.
+fn sums_at(s: &[u8], count: usize) -> Totals
+    requires { ⌜ lineSize * count ≤ length (now s) ⌝ }
+    requires { ⌜ compensated (speltLines (now s) count) < 2 ^ 63 ⌝ }
+    requires { ⌜ assessed (speltLines (now s) count) < 2 ^ 63 ⌝ }
+    ensures { λ r. ⌜ r .compensated .0 ≡ compensated (speltLines (now (s .entry)) count) ⌝ }
+    ensures { λ r. ⌜ r .assessed .0 ≡ assessed (speltLines (now (s .entry)) count) ⌝ }
+{
+    let mut c: u64 = 0;
+    let mut a: u64 = 0;
+    let mut i: usize = 0;
+    while i < count {
+        let l = fields_at(s, LINE_SIZE * i);
+        let fen = l.assessment.to_fen();
+        c += l.compensation.0;
+        a += fen.0;
+        i += 1;
+    }
+    Totals {
+        compensated: Fen(c),
+        assessed: Fen(a),
     }
 }
 
-// The first `count` lines.
-fn lines_at(s: &[u8], count: usize) -> [Line; 64]
-    requires { ⌜ count ≤ 64 ⌝ }
-    requires { ⌜ lineSize * count ≤ length (now s) ⌝ }
-    ensures { λ r. ⌜ take count r ≡ linesAt (now (s .entry)) 0 count ⌝ }
+// The weights of as many lines as there is room for.
+fn weights_into(s: &[u8], negative: bool, weights: &mut [u64])
+    requires { ⌜ lineSize * length (now weights) ≤ length (now s) ⌝ }
+    requires { ⌜ LinesWithin (speltLines (now s) (length (now weights))) ⌝ }
+    ensures { λ _. ⌜ now (weights .exit) ≡ weightsOf negative (speltLines (now (s .entry)) (length (now (weights .entry)))) ⌝ }
 {
-    let mut lines = blank_lines();
     let mut i: usize = 0;
-    while i < count {
-        lines[i] = line_at(s, LINE_SIZE * i);
+    while i < weights.len() {
+        let l = fields_at(s, LINE_SIZE * i);
+        weights[i] = weight_of(l, negative);
         i += 1;
     }
-    lines
+}
+
+// The shares of an amount by weights, into a room of zeros.
+fn shares_into(amount: Fen, weights: &[u64], shares: &mut [u64])
+    requires { ⌜ length (now weights) ≤ mostNumber ⌝ }
+    requires { ⌜ amount .0 < 2 ^ 63 ⌝ }
+    requires { ⌜ total (now weights) < 2 ^ 62 ⌝ }
+    requires { ⌜ (0 < amount .0 → 0 < total (now weights)) ⌝ }
+    requires { ⌜ now shares ≡ replicate (length (now weights)) 0 ⌝ }
+    ensures { λ _. ⌜ now (shares .exit) ≡ apportion (amount .0) (now (weights .entry)) ⌝ }
+{
+    let mut rests = [0u64; 64];
+    let n = amount.0;
+    let count = weights.len();
+    if 0 < n {
+        apportion::apportion_into(n, weights, shares, &mut rests[..count]);
+    }
 }
 
 fn write_part(share: SignedFen, amount: SignedFen, out: &mut [u8], at: usize)
@@ -88,19 +154,20 @@ fn write_part(share: SignedFen, amount: SignedFen, out: &mut [u8], at: usize)
     le::put_i64(out, at + 8, amount.0);
 }
 
-// The share and the amount of each of the first `count` lines, straight to its place.
-fn write_parts(lines: [Line; 64], shares: FenEach, negative: bool, count: usize, out: &mut [u8])
-    requires { ⌜ CountedWithin lines count ⌝ }
-    requires { ⌜ partSize * count ≤ length (now out) ⌝ }
-    requires { ⌜ ((k : ℕ) → k < count → getD (shares .0) k 0 ≤ mostCompensation) ⌝ }
-    ensures { λ _. ⌜ Stores (now (out .entry)) 0 (partsBytes (partsBy negative (take count lines) (take count (shares .0)))) (now (out .exit)) ⌝ }
+// The share and the amount of each line, straight to its place.
+fn write_parts(s: &[u8], shares: &[u64], negative: bool, out: &mut [u8])
+    requires { ⌜ lineSize * length (now shares) ≤ length (now s) ⌝ }
+    requires { ⌜ LinesWithin (speltLines (now s) (length (now shares))) ⌝ }
+    requires { ⌜ partSize * length (now shares) ≤ length (now out) ⌝ }
+    requires { ⌜ ((k : ℕ) → getD (now shares) k 0 ≤ mostCompensation) ⌝ }
+    ensures { λ _. ⌜ Stores (now (out .entry)) 0
+        (partsBytes (partsBy negative (speltLines (now (s .entry)) (length (now (shares .entry)))) (now (shares .entry))))
+        (now (out .exit)) ⌝ }
 {
-    let ss = shares.0;
     let mut i: usize = 0;
-    while i < count {
-        let l = lines[i];
-        let s = Fen(ss[i]);
-        let done = finish(l, s, negative);
+    while i < shares.len() {
+        let l = fields_at(s, LINE_SIZE * i);
+        let done = finish(l, Fen(shares[i]), negative);
         let share = done.share;
         let amount = done.amount;
         write_part(share, amount, out, PART_SIZE * i);
@@ -114,6 +181,64 @@ fn answer(number: u32, place: usize, gap: SignedFen) -> Answer
     Answer { number, place, gap }
 }
 
+// What each line gets of an amount by its weight, to its place.
+fn write_shared(s: &[u8], weights: &[u64], amount: Fen, negative: bool, out: &mut [u8])
+    requires { ⌜ length (now weights) ≤ mostNumber ⌝ }
+    requires { ⌜ lineSize * length (now weights) ≤ length (now s) ⌝ }
+    requires { ⌜ LinesWithin (speltLines (now s) (length (now weights))) ⌝ }
+    requires { ⌜ partSize * length (now weights) ≤ length (now out) ⌝ }
+    requires { ⌜ amount .0 ≤ mostCompensation ⌝ }
+    requires { ⌜ total (now weights) < 2 ^ 62 ⌝ }
+    requires { ⌜ (0 < amount .0 → 0 < total (now weights)) ⌝ }
+    ensures { λ _. ⌜ Stores (now (out .entry)) 0
+        (partsBytes (partsBy negative (speltLines (now (s .entry)) (length (now (weights .entry)))) (apportion (amount .0) (now (weights .entry)))))
+        (now (out .exit)) ⌝ }
+{
+    let mut shares = [0u64; 64];
+    let count = weights.len();
+    shares_into(amount, weights, &mut shares[..count]);
+    write_parts(s, &shares[..count], negative, out);
+}
+
+// 16, 9, or the sharing of R.
+fn share_gap(s: &[u8], count: usize, g: Gap, out: &mut [u8]) -> Answer
+    requires { ⌜ count ≤ mostNumber ⌝ }
+    requires { ⌜ lineSize * count ≤ length (now s) ⌝ }
+    requires { ⌜ LinesWithin (speltLines (now s) count) ⌝ }
+    requires { ⌜ compensated (speltLines (now s) count) ≤ mostCompensation ⌝ }
+    requires { ⌜ g .amount .0 ≤ mostCompensation ⌝ }
+    requires { ⌜ GapIs (speltLines (now s) count) (g .amount .0) (g .negative) (g .whole .0) ⌝ }
+    ensures { λ r. ⌜ BytesSettled (speltLines (now (s .entry)) count) (now (out .entry)) (now (out .exit)) r ⌝ }
+{
+    let mut ws = [0u64; 64];
+    weights_into(s, g.negative, &mut ws[..count]);
+    let amount = g.amount;
+    let all = apportion::total(&ws[..count]);
+    if (0 < amount.0) & (all == 0) {
+        return answer(16, 0, SignedFen(0));
+    }
+    if out.len() < PART_SIZE * count {
+        return answer(9, 0, SignedFen(0));
+    }
+    write_shared(s, &ws[..count], amount, g.negative, out);
+    let whole = g.whole;
+    answer(0, 0, whole)
+}
+
+// 15, 16, 9, or the sharing, where every line is sound.
+fn settle_bytes(s: &[u8], count: usize, out: &mut [u8]) -> Answer
+    requires { ⌜ count ≤ mostNumber ⌝ }
+    requires { ⌜ lineSize * count ≤ length (now s) ⌝ }
+    requires { ⌜ LinesWithin (speltLines (now s) count) ⌝ }
+    ensures { λ r. ⌜ BytesSettled (speltLines (now (s .entry)) count) (now (out .entry)) (now (out .exit)) r ⌝ }
+{
+    let t = sums_at(s, count);
+    if MOST_COMPENSATION < t.compensated.0 {
+        return answer(15, 0, SignedFen(0));
+    }
+    share_gap(s, count, gap_of(t), out)
+}
+
 // The sharing of the lines in `input`, what each gets to the front of `out`.
 pub fn share_bytes(input: &[u8], out: &mut [u8]) -> Answer
     ensures { λ r. ⌜ BytesShared (now (input .entry)) (now (out .entry)) (now (out .exit)) r ⌝ }
@@ -122,17 +247,9 @@ pub fn share_bytes(input: &[u8], out: &mut [u8]) -> Answer
         return answer(1, 0, SignedFen(0));
     }
     let count = input.len() / LINE_SIZE;
-    let lines = lines_at(input, seen(count));
-    let o = outcome(lines, count);
-    let gap = o.gap;
-    let told = answer(o.number, o.place, gap);
-    if o.number != 0 {
-        return told;
+    let bad = first_bad_bytes(input, seen(count));
+    if bad < count {
+        return answer(10, bad, SignedFen(0));
     }
-    if out.len() < PART_SIZE * count {
-        return answer(9, 0, SignedFen(0));
-    }
-    let shares = o.shares;
-    write_parts(lines, shares, o.negative, count, out);
-    told
+    settle_bytes(input, count, out)
 }
