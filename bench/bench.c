@@ -1,12 +1,11 @@
 /* The archive against the reference, both in this one program and called through the same pointers.
  *
- *     bench                        times every row and prints the table, instructions left out
- *     bench COUNTS                 the same, with the instructions that COUNTS (made by bench/count-instructions) has for each row
- *     bench --untimed COUNTS       instructions alone: time says nothing under an emulator
+ *     bench                        checks that both give the same answers, and prints each row's times: row, ns of the archive, ns of the reference
+ *     bench --table COUNTS TIMES   prints the table: instructions as bench/count-instructions prints them, times of several such runs (TIMES may be -)
  *     bench --calls SIDE ROW N     only makes N calls of one row, SIDE 0 the archive, 1 the reference; for bench/count-instructions
- *     bench --rows                 how many rows there are
+ *     bench --names                the names of the rows, a line each
  *
- * Before anything is measured, both sides must give the same answer on every row. */
+ * Before anything is timed, both sides must give the same answer on every row, and where a row has several inputs on each of them. */
 #define _DEFAULT_SOURCE
 #include "../tests/memory-and-books.h"
 #include "../tests/reference.h"
@@ -31,6 +30,13 @@ static struct book full, full_revised, full_bad, even, odd, most, single, window
 static uint32_t series[2976];
 static uint8_t lines[64 * 24], equal_lines[64 * 24], actions[60 * 24];
 
+/* One input again and again lets a processor learn the way through it; of these the next call gets the next, and one in a thousand
+ * comes back. Books of 64 records, so that all of them stay near the processor. */
+enum { TURNS = 1024, FEW = 64, FEW_BYTES = 16 + 32 * FEW };
+enum { MOST_COUNTED = 300 }; /* as many calls as bench/count-instructions makes of a row */
+static uint8_t random_books[TURNS][FEW_BYTES], random_first[TURNS][FEW_BYTES], random_second[TURNS][FEW_BYTES];
+static uint8_t random_lines[TURNS][64 * 24], random_equal[TURNS][64 * 24];
+
 static uint8_t out[BOOK_MOST];
 static uint64_t place, length, grains, fen;
 static int64_t gap;
@@ -48,6 +54,57 @@ static struct call mixed(uint32_t i)
     if (c.service == 8)
         c.start = (uint16_t)i, c.a = (int32_t)i - 200, c.c = i % 2;
     return c;
+}
+
+/* The same numbers on every run. */
+static uint32_t below(uint32_t limit)
+{
+    static uint64_t state = 88172645463325252u;
+    state ^= state << 13;
+    state ^= state >> 7;
+    state ^= state << 17;
+    return (uint32_t)((state >> 32) % limit);
+}
+
+/* A sound call of a random service; one in eight is withdrawn or contested. */
+static struct call random_call(uint16_t participant, uint32_t number)
+{
+    uint32_t state = below(16);
+    if (state < 2)
+        return (struct call){participant, 0, (uint8_t)(state + 1), number, 1 + below(9), 0, 0, 0, 0, 0};
+    struct call c = mixed(below(10));
+    c.participant = participant;
+    c.number = number;
+    c.revision = 1 + below(9);
+    return c;
+}
+
+static void build_random(uint32_t turns)
+{
+    static struct call of_book[FEW], of_first[FEW], of_second[FEW];
+    for (uint32_t t = 0; t < turns; t++) {
+        uint32_t first = 0, second = 0;
+        for (uint32_t i = 0; i < FEW; i++)
+            of_book[i] = random_call((uint16_t)(1 + i), below(1000000));
+        put_book(random_books[t], 7, 2025, 1, of_book, FEW);
+        for (uint32_t key = 0; first < FEW || second < FEW; key++) { /* each key to a random one of two books: runs of any length */
+            if (second == FEW || (first < FEW && below(2) == 0))
+                of_first[first++] = random_call((uint16_t)(1 + key / 2), key);
+            else
+                of_second[second++] = random_call((uint16_t)(1 + key / 2), key);
+        }
+        put_book(random_first[t], 7, 2025, 1, of_first, FEW);
+        put_book(random_second[t], 7, 2025, 1, of_second, FEW);
+
+        struct line l[64];
+        for (uint32_t i = 0; i < 64; i++)
+            l[i] = (struct line){(uint16_t)(i + 1), (uint8_t)below(3), below(5000001), below(1000000001), below(10000001)};
+        put_lines(random_lines[t], l, 64);
+        uint32_t energy = 1 + below(5000000);
+        for (uint32_t i = 0; i < 64; i++)
+            l[i] = (struct line){(uint16_t)(i + 1), 0, energy, below(1000000001), 0};
+        put_lines(random_equal[t], l, 64);
+    }
 }
 
 static void build(void)
@@ -112,51 +169,90 @@ static uint32_t join(const struct side *s, const struct book *x, const struct bo
     return s->join(x->bytes, x->len, y->bytes, y->len, out, sizeof out, &place, &length);
 }
 
-static uint32_t join_equal(const struct side *s) { return join(s, &full, &full_revised); }
-static uint32_t join_disjoint(const struct side *s) { return join(s, &even, &odd); }
-static uint32_t join_one(const struct side *s) { return join(s, &most, &single); }
-static uint32_t join_refused(const struct side *s) { return join(s, &full, &full_bad); }
-static uint32_t check_full(const struct side *s) { return s->check(full.bytes, full.len, &place); }
-static uint32_t score_window(const struct side *s) { return s->score(1, 1, 300001, window.bytes, window.len, series, 2976, &place, &grains, &fen); }
-static uint32_t score_events(const struct side *s) { return s->score(1, 1, 300001, events.bytes, events.len, series, 2976, &place, &grains, &fen); }
-static uint32_t share_full(const struct side *s) { return s->share(lines, sizeof lines, out, sizeof out, &place, &gap); }
-static uint32_t share_equal(const struct side *s) { return s->share(equal_lines, sizeof equal_lines, out, sizeof out, &place, &gap); }
+static uint32_t share(const struct side *s, const uint8_t *l) { return s->share(l, 64 * 24, out, sizeof out, &place, &gap); }
 
-static uint32_t ramp_full(const struct side *s) { return s->ramp(1, 1, 300001, actions, sizeof actions, &place, &grains); }
+static uint32_t join_equal(const struct side *s, uint32_t t) { (void)t; return join(s, &full, &full_revised); }
+static uint32_t join_disjoint(const struct side *s, uint32_t t) { (void)t; return join(s, &even, &odd); }
+static uint32_t join_one(const struct side *s, uint32_t t) { (void)t; return join(s, &most, &single); }
+static uint32_t join_refused(const struct side *s, uint32_t t) { (void)t; return join(s, &full, &full_bad); }
+static uint32_t join_random(const struct side *s, uint32_t t)
+{
+    return s->join(random_first[t], FEW_BYTES, random_second[t], FEW_BYTES, out, sizeof out, &place, &length);
+}
+static uint32_t check_full(const struct side *s, uint32_t t) { (void)t; return s->check(full.bytes, full.len, &place); }
+static uint32_t check_random(const struct side *s, uint32_t t) { return s->check(random_books[t], FEW_BYTES, &place); }
+static uint32_t score_window(const struct side *s, uint32_t t)
+{
+    (void)t;
+    return s->score(1, 1, 300001, window.bytes, window.len, series, 2976, &place, &grains, &fen);
+}
+static uint32_t score_events(const struct side *s, uint32_t t)
+{
+    (void)t;
+    return s->score(1, 1, 300001, events.bytes, events.len, series, 2976, &place, &grains, &fen);
+}
+static uint32_t share_full(const struct side *s, uint32_t t) { (void)t; return share(s, lines); }
+static uint32_t share_equal(const struct side *s, uint32_t t) { (void)t; return share(s, equal_lines); }
+static uint32_t share_random(const struct side *s, uint32_t t) { return share(s, random_lines[t]); }
+static uint32_t share_random_equal(const struct side *s, uint32_t t) { return share(s, random_equal[t]); }
 
-static const struct { const char *name; uint32_t (*call)(const struct side *); uint32_t no; } rows[] = {
-    {"join, 512 + 512 equal keys", join_equal, 0},
-    {"join, 256 + 256 disjoint, interleaved", join_disjoint, 0},
-    {"join, 511 + 1", join_one, 0},
-    {"join, refused at its last record", join_refused, 25},
-    {"check, 512 records", check_full, 0},
-    {"score, deep window of a whole month", score_window, 0},
-    {"score, 512 events", score_events, 0},
-    {"share, 64 lines", share_full, 0},
-    {"share, 64 lines of one energy", share_equal, 0},
-    {"ramp, 60 actions", ramp_full, 0},
+static uint32_t ramp_full(const struct side *s, uint32_t t) { (void)t; return s->ramp(1, 1, 300001, actions, sizeof actions, &place, &grains); }
+
+static const struct { const char *name; uint32_t (*call)(const struct side *, uint32_t turn); uint32_t no, turns; } rows[] = {
+    {"join, 512 + 512 equal keys", join_equal, 0, 1},
+    {"join, 256 + 256 disjoint, interleaved", join_disjoint, 0, 1},
+    {"join, 511 + 1", join_one, 0, 1},
+    {"join, refused at its last record", join_refused, 25, 1},
+    {"join, 64 + 64 at random, 1,024 in turn", join_random, 0, TURNS},
+    {"check, 512 records", check_full, 0, 1},
+    {"check, 64 at random, 1,024 in turn", check_random, 0, TURNS},
+    {"score, deep window of a whole month", score_window, 0, 1},
+    {"score, 512 events", score_events, 0, 1},
+    {"share, 64 lines", share_full, 0, 1},
+    {"share, 64 lines, 1,024 in turn", share_random, 0, TURNS},
+    {"share, 64 lines of one energy", share_equal, 0, 1},
+    {"share, one energy, 1,024 in turn", share_random_equal, 0, TURNS},
+    {"ramp, 60 actions", ramp_full, 0, 1},
 };
 enum { ROWS = sizeof rows / sizeof *rows };
+
+/* So many calls of one side, each on the next input of the row. */
+static void calls_of(int row, int side, uint32_t calls)
+{
+    static uint32_t turn[ROWS][2];
+    uint32_t t = turn[row][side], turns = rows[row].turns;
+    for (uint32_t i = 0; i < calls; i++) {
+        rows[row].call(&sides[side], t);
+        t = t + 1 < turns ? t + 1 : 0;
+    }
+    turn[row][side] = t;
+}
+
+/* What a call leaves: all cells, and the output. */
+static void answer_of(int row, int side, uint32_t turn, uint64_t cells[6])
+{
+    memset(out, 0xee, sizeof out);
+    place = length = grains = fen = 0x5555;
+    gap = 0x5555;
+    uint32_t no = rows[row].call(&sides[side], turn);
+    uint64_t c[6] = {no, place, length, grains, fen, (uint64_t)gap};
+    memcpy(cells, c, sizeof c);
+}
 
 static void same_answers(void)
 {
     static uint8_t first_out[BOOK_MOST];
-    for (int r = 0; r < ROWS; r++) {
-        uint64_t cells[2][5];
-        for (int s = 0; s < 2; s++) {
-            memset(out, 0xee, sizeof out);
-            place = length = grains = fen = 0x5555;
-            gap = 0x5555;
-            uint32_t no = rows[r].call(&sides[s]);
-            uint64_t c[5] = {place, length, grains, fen, (uint64_t)gap};
-            memcpy(cells[s], c, sizeof c);
-            if (no != rows[r].no || (s == 1 && (memcmp(first_out, out, sizeof out) != 0 || memcmp(cells[0], cells[1], sizeof c) != 0))) {
-                fprintf(stderr, "bench: %s: the two sides do not give the same answer\n", rows[r].name);
+    for (int r = 0; r < ROWS; r++)
+        for (uint32_t t = 0; t < rows[r].turns; t++) {
+            uint64_t cells[2][6];
+            answer_of(r, 0, t, cells[0]);
+            memcpy(first_out, out, sizeof out);
+            answer_of(r, 1, t, cells[1]);
+            if (cells[0][0] != rows[r].no || memcmp(first_out, out, sizeof out) != 0 || memcmp(cells[0], cells[1], sizeof cells[0]) != 0) {
+                fprintf(stderr, "bench: %s: the two sides do not give the same answer (input %u)\n", rows[r].name, (unsigned)t);
                 exit(1);
             }
-            memcpy(first_out, out, sizeof out);
         }
-    }
 }
 
 /* ---- time ---- */
@@ -171,8 +267,7 @@ static double seconds(void)
 static double batch(int row, int side, uint32_t calls)
 {
     double from = seconds();
-    for (uint32_t i = 0; i < calls; i++)
-        rows[row].call(&sides[side]);
+    calls_of(row, side, calls);
     return (seconds() - from) / calls;
 }
 
@@ -186,7 +281,7 @@ static int ascending(const void *x, const void *y)
  * batches are not interrupted at all; in turns, so that a change of clock rate meets both. */
 static void measure(int row, double median[2])
 {
-    enum { BATCHES = 2001 };
+    enum { BATCHES = 501 };
     static double times[2][BATCHES];
     /* How many calls that is, by the best of several tries: one interruption must not leave batches of a single cold call. */
     uint32_t calls = 1;
@@ -206,69 +301,112 @@ static void measure(int row, double median[2])
     }
 }
 
-/* ---- the table ---- */
-
-static void print_table(int timed, const char *counts_path)
+static void print_times(void)
 {
-    double counts[2][ROWS] = {{0}};
-    if (counts_path) { /* lines of side, row, instructions for one call */
-        FILE *f = fopen(counts_path, "r");
-        int s, r;
-        double n;
-        if (!f) {
-            perror(counts_path);
-            exit(1);
-        }
-        while (fscanf(f, "%d %d %lf", &s, &r, &n) == 3)
-            if (s >= 0 && s < 2 && r >= 0 && r < ROWS)
-                counts[s][r] = n;
-        fclose(f);
-    }
-    printf("| %-38s | archive ns | reference ns | time ratio | archive insns | reference insns | insn ratio |\n", "row");
-    printf("|%s|-----------:|-------------:|-----------:|--------------:|----------------:|-----------:|\n", "----------------------------------------");
     for (int r = 0; r < ROWS; r++) {
         double t[2];
-        printf("| %-38s |", rows[r].name);
-        if (timed) {
-            measure(r, t);
-            printf(" %10.0f | %12.0f | %10.2f |", 1e9 * t[0], 1e9 * t[1], t[0] / t[1]);
-        } else {
-            printf(" %10s | %12s | %10s |", "-", "-", "-");
-        }
-        if (counts[0][r] > 0 && counts[1][r] > 0)
-            printf(" %13.0f | %15.0f | %10.2f |\n", counts[0][r], counts[1][r], counts[0][r] / counts[1][r]);
-        else
-            printf(" %13s | %15s | %10s |\n", "-", "-", "-");
+        measure(r, t);
+        printf("%d %.1f %.1f\n", r, 1e9 * t[0], 1e9 * t[1]);
         fflush(stdout);
     }
 }
 
-int main(int argc, char **argv)
+/* ---- the table ---- */
+
+enum { MOST_RUNS = 16 };
+
+static FILE *opened(const char *path)
 {
-    if (argc == 2 && strcmp(argv[1], "--rows") == 0) {
-        printf("%d\n", ROWS);
-        return 0;
+    FILE *f = fopen(path, "r");
+    if (!f) {
+        perror(path);
+        exit(1);
     }
-    build();
-    same_answers();
-    if (argc == 5 && strcmp(argv[1], "--calls") == 0) {
-        int side = atoi(argv[2]), row = atoi(argv[3]);
-        long n = atol(argv[4]);
-        if (side < 0 || side > 1 || row < 0 || row >= ROWS) {
-            fprintf(stderr, "bench: no such side or row\n");
-            return 1;
-        }
-        for (long i = 0; i < n; i++)
-            rows[row].call(&sides[side]);
-        return 0;
+    return f;
+}
+
+static double middle_of(double *values, int n)
+{
+    qsort(values, (size_t)n, sizeof *values, ascending);
+    return n % 2 ? values[n / 2] : (values[n / 2 - 1] + values[n / 2]) / 2;
+}
+
+/* The middle of several runs' times, and of their ratios, with the lowest and the highest. */
+static void print_row_times(double times[2][MOST_RUNS], int n)
+{
+    double ratios[MOST_RUNS];
+    for (int i = 0; i < n; i++)
+        ratios[i] = times[0][i] / times[1][i];
+    double ratio = middle_of(ratios, n);
+    printf(" %10.0f | %12.0f | %4.2f (%4.2f to %4.2f) |", middle_of(times[0], n), middle_of(times[1], n), ratio, ratios[0], ratios[n - 1]);
+}
+
+static void print_table(const char *counts_path, const char *times_path)
+{
+    static double counts[2][ROWS], times[ROWS][2][MOST_RUNS];
+    static int runs[ROWS];
+    int side, row;
+    double a, b;
+    FILE *f = opened(counts_path); /* lines of side, row, instructions for one call */
+    while (fscanf(f, "%d %d %lf", &side, &row, &a) == 3)
+        if (side >= 0 && side < 2 && row >= 0 && row < ROWS)
+            counts[side][row] = a;
+    fclose(f);
+    if (strcmp(times_path, "-") != 0) { /* lines of row, ns of the archive, ns of the reference */
+        f = opened(times_path);
+        while (fscanf(f, "%d %lf %lf", &row, &a, &b) == 3)
+            if (row >= 0 && row < ROWS && runs[row] < MOST_RUNS) {
+                times[row][0][runs[row]] = a;
+                times[row][1][runs[row]++] = b;
+            }
+        fclose(f);
     }
-    if (argc == 3 && strcmp(argv[1], "--untimed") == 0)
-        print_table(0, argv[2]);
-    else if (argc <= 2)
-        print_table(1, argc == 2 ? argv[1] : NULL);
-    else {
-        fprintf(stderr, "usage: bench [COUNTS] | --untimed COUNTS | --calls SIDE ROW N | --rows\n");
+    printf("| %-38s | archive ns | reference ns | time ratio          | archive insns | reference insns | insn ratio |\n", "row");
+    printf("|%s|-----------:|-------------:|---------------------|--------------:|----------------:|-----------:|\n", "----------------------------------------");
+    for (int r = 0; r < ROWS; r++) {
+        printf("| %-38s |", rows[r].name);
+        if (runs[r] > 0)
+            print_row_times(times[r], runs[r]);
+        else
+            printf(" %10s | %12s | %19s |", "-", "-", "-");
+        printf(" %13.0f | %15.0f | %10.2f |\n", counts[0][r], counts[1][r], counts[0][r] / counts[1][r]);
+    }
+}
+
+/* So many calls of one row and side, with no more built than they need: for counting. */
+static int only_calls(int side, int row, long n)
+{
+    if (side < 0 || side > 1 || row < 0 || row >= ROWS || n < 0) {
+        fprintf(stderr, "bench: no such side or row\n");
         return 1;
     }
+    build();
+    if (rows[row].turns > 1)
+        build_random(MOST_COUNTED);
+    calls_of(row, side, (uint32_t)n);
+    return 0;
+}
+
+int main(int argc, char **argv)
+{
+    if (argc == 2 && strcmp(argv[1], "--names") == 0) {
+        for (int r = 0; r < ROWS; r++)
+            printf("%s\n", rows[r].name);
+        return 0;
+    }
+    if (argc == 5 && strcmp(argv[1], "--calls") == 0)
+        return only_calls(atoi(argv[2]), atoi(argv[3]), atol(argv[4]));
+    if (argc == 4 && strcmp(argv[1], "--table") == 0) {
+        print_table(argv[2], argv[3]);
+        return 0;
+    }
+    if (argc != 1) {
+        fprintf(stderr, "usage: bench | --table COUNTS TIMES | --calls SIDE ROW N | --names\n");
+        return 1;
+    }
+    build();
+    build_random(TURNS);
+    same_answers();
+    print_times();
     return 0;
 }

@@ -139,8 +139,8 @@ static void fill(void)
 int main(void)
 {
     static const struct { const char *name; void (*job)(void); size_t most; } jobs[] = {
-        {"nwb_check", check, 256}, {"nwb_none", none, 256}, {"nwb_one", one, 256}, {"nwb_join", join, 512},
-        {"nwb_find", find, 512}, {"nwb_score", score, 512}, {"nwb_share", share, 8192},
+        {"nwb_check", check, 256}, {"nwb_none", none, 256}, {"nwb_one", one, 512}, {"nwb_join", join, 512},
+        {"nwb_find", find, 512}, {"nwb_score", score, 512}, {"nwb_share", share, 2048},
         {"nwb_ramp", ramp, 4096}, {"nwb_fen", in_fen, 256},
     };
     int failed = 0;

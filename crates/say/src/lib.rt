@@ -1,11 +1,19 @@
 // What programs print: words, numbers, and money with its sign.
+use libc::STDERR_FILENO;
 use libc::STDOUT_FILENO;
 use units::SignedFen;
 ghost use mathlib.Core.Path.{_≡_};
 ghost use lib.IntN.{natAbs};
 
+// Words in one write. Where they do not get out, or not all of them, that is told on standard error: who reads the rest must not take it for
+// the whole.
 pub fn text(words: &[u8]) {
-    io::write_all(STDOUT_FILENO, words);
+    if !io::write_all(STDOUT_FILENO, words) {
+        io::write_all(
+            STDERR_FILENO,
+            b"not all could be written to standard output\n",
+        );
+    }
 }
 
 pub fn number(n: u64) {
