@@ -2,13 +2,21 @@
  *
  *     plant OWN MONTH RESULT
  *
- * Reads the books OWN and MONTH and writes the joined book to RESULT, a third file: MONTH itself is never in danger. Every failure is
- * one line on standard error and status 1; then RESULT is not made, or, where writing it failed, removed. */
+ * Reads the books OWN and MONTH and writes the joined book to RESULT, a third file: MONTH itself is never in danger. RESULT is written under
+ * the name RESULT.new, brought down to the device, and then renamed, so that there is the whole of it or what was there before; RESULT.new
+ * is made by this run alone, and where another run has made it, this one fails. Every failure is one line on standard error and status 1,
+ * and then RESULT is as it was. */
+#define _POSIX_C_SOURCE 200809L
 #include "nwb.h"
 
+#include <errno.h>
+#include <fcntl.h>
 #include <inttypes.h>
+#include <limits.h>
 #include <stdio.h>
 #include <string.h>
+#include <sys/stat.h>
+#include <unistd.h>
 
 /* The longest sound book, and one byte more, so that a longer file is seen to be longer. */
 enum { BOOK_MOST = 16 + 32 * 512 };
@@ -44,20 +52,70 @@ static int read_book(const char *path, uint8_t *book, size_t *len)
     return !failed;
 }
 
+/* All of the book into the file, down to the device. */
+static int put(int fd, const uint8_t *book, size_t len)
+{
+    while (len > 0) {
+        ssize_t n = write(fd, book, len);
+        if (n < 0 && errno == EINTR)
+            continue;
+        if (n <= 0)
+            return 0;
+        book += n;
+        len -= (size_t)n;
+    }
+    return fsync(fd) == 0;
+}
+
+/* The folder's entry for a name, down to the device. */
+static int sync_folder(const char *path)
+{
+    char folder[PATH_MAX];
+    const char *slash = strrchr(path, '/');
+    size_t n = slash ? (size_t)(slash - path) + 1 : 0;
+    memcpy(folder, path, n);
+    strcpy(folder + n, ".");
+    int fd = open(folder, O_RDONLY | O_DIRECTORY);
+    if (fd < 0)
+        return 0;
+    int synced = fsync(fd) == 0;
+    close(fd);
+    return synced;
+}
+
 static int write_book(const char *path, const uint8_t *book, size_t len)
 {
-    FILE *f = fopen(path, "wb");
-    if (!f) {
-        perror(path);
+    char beside[PATH_MAX];
+    if ((size_t)snprintf(beside, sizeof beside, "%s.new", path) >= sizeof beside) {
+        fprintf(stderr, "%s: too long a name\n", path);
         return 0;
     }
-    int failed = fwrite(book, 1, len, f) != len;
-    failed |= fclose(f) != 0;
-    if (failed) {
-        fprintf(stderr, "%s: cannot be written\n", path);
-        remove(path);
+    int fd = open(beside, O_WRONLY | O_CREAT | O_EXCL, 0666);
+    if (fd < 0) {
+        perror(beside);
+        return 0;
     }
-    return !failed;
+    int whole = put(fd, book, len);
+    whole &= close(fd) == 0;
+    if (!whole || rename(beside, path) != 0) {
+        fprintf(stderr, "%s: cannot be written\n", path);
+        unlink(beside);
+        return 0;
+    }
+    if (!sync_folder(path)) {
+        fprintf(stderr, "%s: is written, but its folder could not be synced\n", path);
+        return 0;
+    }
+    return 1;
+}
+
+/* Whether two names are one file: by what they name, not by how they are written. A name without a file is no other's. */
+static int same_file(const char *one, const char *two)
+{
+    struct stat a, b;
+    if (stat(one, &a) != 0 || stat(two, &b) != 0)
+        return 0;
+    return a.st_dev == b.st_dev && a.st_ino == b.st_ino;
 }
 
 static void refused(const char *path, uint32_t number, uint64_t place)
@@ -70,7 +128,7 @@ int main(int argc, char **argv)
     size_t own_len, month_len;
     uint64_t place, length;
 
-    if (argc != 4 || strcmp(argv[2], argv[3]) == 0 || strcmp(argv[1], argv[3]) == 0) {
+    if (argc != 4 || same_file(argv[2], argv[3]) || same_file(argv[1], argv[3])) {
         fprintf(stderr, "usage: plant OWN MONTH RESULT (RESULT is a file of its own)\n");
         return 1;
     }

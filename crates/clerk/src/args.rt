@@ -1,9 +1,8 @@
 // The program's arguments: words, files, numbers.
 use crate::print;
+pub use node::first;
 use tables::Told;
 use tables::ToldInteger;
-ghost use mathlib.Core.Path.{_≡_};
-ghost use lib.ListN.{take};
 
 // So many bytes at the start of a lent buffer are what was asked for; or nothing is, and one line has said why.
 pub enum Held {
@@ -38,16 +37,6 @@ const MOST_SHORT: u64 = 0xffff;
 
 const MOST_LONG: u64 = 0xffff_ffff;
 
-// The first n bytes, or all where they are no more.
-pub fn first(bytes: &[u8], n: usize) -> &[u8]
-    ensures { λ r. ⌜ now r ≡ take n (now (bytes .entry)) ⌝ }
-{
-    if n < bytes.len() {
-        return &bytes[..n];
-    }
-    bytes
-}
-
 // Argument i, in the buffer's first bytes. One that is missing or too long is no argument, and nothing is said.
 pub fn argument(i: usize, buf: &mut [u8]) -> Held {
     let n = os::arg(i, buf);
@@ -70,11 +59,31 @@ pub fn path(i: usize, buf: &mut [u8]) -> Held {
     Held::Bytes(n)
 }
 
-// Whether argument i is `-`: no file.
-pub fn is_none(i: usize) -> bool {
+// Whether two texts are the same.
+pub fn is_word(word: &[u8], name: &[u8]) -> bool {
+    if word.len() != name.len() {
+        return false;
+    }
+    let mut i: usize = 0;
+    while i < word.len() {
+        if word[i] != name[i] {
+            return false;
+        }
+        i += 1;
+    }
+    true
+}
+
+// Whether argument i is a word.
+pub fn is_word_at(i: usize, word: &[u8]) -> bool {
     let mut buf = io::buffer();
     let n = os::arg(i, &mut buf);
-    (n == 1) & (buf[0] == b'-')
+    is_word(&buf[0..n], word)
+}
+
+// Whether argument i is `-`: no file.
+pub fn is_none(i: usize) -> bool {
+    is_word_at(i, b"-")
 }
 
 fn read_number(i: usize) -> Told {

@@ -1,5 +1,5 @@
-// What the program prints, each line whole. Its last line is `ok`, `refused N P FILE` or `failed ..`. What a line says is text's; a name of a file
-// is at most 4,096 bytes, so that every line has room here.
+// What the program prints, each line whole. Its last line is `ok`, `unchanged WHY`, `refused N P FILE` or `failed ..`. What a line says is text's; a name of a
+// file is at most 4,096 bytes, so that every line has room here, and is printed without control characters.
 use book::Header;
 use call::Call;
 use text::record::call_text;
@@ -9,8 +9,11 @@ use text::record::score_text;
 use text::told::bad_argument_text;
 use text::told::failed_text;
 use text::told::no_number_text;
+use text::told::not_higher_text;
 use text::told::note_text;
 use text::told::refused_about_text;
+use text::told::shown_text;
+use text::told::unchanged_text;
 use text::told::usage_text;
 use units::Fen;
 use units::Grains;
@@ -19,17 +22,35 @@ pub fn done() {
     say::text(b"ok\n");
 }
 
+// That nothing was changed, and why.
+pub fn unchanged(why: &[u8]) {
+    let mut line = io::buffer();
+    let n = unchanged_text(why, &mut line);
+    say::text(&line[..n]);
+}
+
+// The same, since a revision stands that is as high.
+pub fn not_higher(stands: u32) {
+    let mut line = io::buffer();
+    let n = not_higher_text(stands, &mut line);
+    say::text(&line[..n]);
+}
+
 // A refusal's number and place, and what it is about.
 pub fn refused(number: u32, place: usize, what: &[u8]) {
+    let mut name = io::buffer();
+    let m = shown_text(what, &mut name);
     let mut line = io::large_buffer();
-    let n = refused_about_text(number, place, what, &mut line);
+    let n = refused_about_text(number, place, &name[..m], &mut line);
     say::text(&line[..n]);
 }
 
 // What failed, and why.
 pub fn failed(what: &[u8], why: &[u8]) {
+    let mut name = io::buffer();
+    let m = shown_text(what, &mut name);
     let mut line = io::large_buffer();
-    let n = failed_text(what, why, &mut line);
+    let n = failed_text(&name[..m], why, &mut line);
     say::text(&line[..n]);
 }
 
@@ -49,8 +70,10 @@ pub fn no_number(i: usize, most: u64) {
 
 // A remark in words, and what it is about: a line before the last one.
 pub fn note(what: &[u8], why: &[u8]) {
+    let mut name = io::buffer();
+    let m = shown_text(what, &mut name);
     let mut line = io::large_buffer();
-    let n = note_text(what, why, &mut line);
+    let n = note_text(&name[..m], why, &mut line);
     say::text(&line[..n]);
 }
 

@@ -5,8 +5,11 @@ use crate::args::path;
 use crate::print;
 use book::Opened;
 use book::header_of;
+use files::Hold;
 use files::Loaded;
 use files::Stored;
+use node::led_to;
+use node::node_of;
 ghost use mathlib.Core.Path.{_≡_};
 ghost use Prim.Native.Nat.{_≤_};
 ghost use Rattle.book.specs.Book.{countAt};
@@ -32,14 +35,35 @@ pub fn load_at(i: usize, buf: &mut [u8]) -> Held {
     load(first(&name, n), buf)
 }
 
-// The bytes as the whole file that argument i names.
-pub fn save(i: usize, bytes: &[u8]) -> bool {
+// The file that argument i names, held until `put` or `release`: this run alone may write it. Where it is not held, one line has said why. One that is to be new may not be there.
+pub fn hold_at(i: usize, new: bool) -> Hold {
     let mut buf = io::buffer();
     let Held::Bytes(n) = path(i, &mut buf) else {
-        return false;
+        return files::nothing_held();
     };
     let path = first(&buf, n);
-    told(path, files::store(path, bytes))
+    let hold = files::hold_at(path, new);
+    let state = hold.state;
+    told(path, state);
+    hold
+}
+
+pub fn is_held(hold: Hold) -> bool {
+    let state = hold.state;
+    match state {
+        Stored::Done => true,
+        _ => false,
+    }
+}
+
+// The bytes as the whole file that is held, by the name that argument i gives it.
+pub fn put(hold: Hold, i: usize, bytes: &[u8]) -> bool {
+    let mut buf = io::buffer();
+    let Held::Bytes(n) = path(i, &mut buf) else {
+        files::release(hold);
+        return false;
+    };
+    told(first(&buf, n), files::store(hold, bytes))
 }
 
 // The bytes as a new file that argument i names; one that is there already stands.
@@ -49,21 +73,53 @@ pub fn save_new(i: usize, bytes: &[u8]) -> bool {
         return false;
     };
     let path = first(&buf, n);
-    told(path, files::store_new(path, bytes))
+    let stored = files::store_new(path, bytes);
+    if let Stored::Taken = stored {
+        print::failed(path, b"is there already, and a statement stands");
+        return false;
+    }
+    told(path, stored)
+}
+
+// That another run is at work, by the lock's name.
+fn tell_locked(path: &[u8]) {
+    let lock = files::lock_of(led_to(path));
+    let bytes = lock.bytes;
+    print::failed(
+        first(&bytes, lock.size),
+        b"is there: another run is changing the file; where no run is going on, delete it",
+    );
 }
 
 // Whether it was done. Where not, one line says why.
 fn told(path: &[u8], stored: Stored) -> bool {
     match stored {
         Stored::Done => return true,
-        Stored::BadName => print::failed(path, b"too long a name to write beside it"),
-        Stored::Taken => print::failed(path, b"is there already, and a statement stands"),
+        Stored::BadName => print::failed(
+            path,
+            b"too long a name to write beside it, or links that lead round",
+        ),
+        Stored::NotRegular => print::failed(path, b"is no regular file, and is left alone"),
+        Stored::ReadOnly => print::failed(
+            path,
+            b"its owner may not write it, and it is left alone",
+        ),
+        Stored::Locked => tell_locked(path),
+        Stored::Taken => print::failed(path, b"is there already, and is left as it was"),
         Stored::NotMade => print::failed(path, b"no file can be made beside it"),
         Stored::NotWritten => print::failed(path, b"could not be written whole, and is as it was"),
         Stored::NotRenamed => print::failed(path, b"could not be replaced, and is as it was"),
         Stored::Unsure => print::failed(path, b"is written, but its folder could not be synced"),
     }
     false
+}
+
+// Whether argument i names the file that is held, by whatever name.
+pub fn is_same(hold: Hold, i: usize) -> bool {
+    let mut buf = io::buffer();
+    let n = os::arg(i, &mut buf);
+    let node = node_of(&buf[..n]);
+    node.is_same(hold.node)
 }
 
 // What the book that argument i names is found to be. A refusal is told.
@@ -96,6 +152,13 @@ pub fn refused_at(number: u32, place: usize, i: usize) {
     let mut buf = io::buffer();
     let n = os::arg(i, &mut buf);
     print::refused(number, place, &buf[0..n]);
+}
+
+// That something is wrong with what argument i names.
+pub fn tell_failed(i: usize, why: &[u8]) {
+    let mut buf = io::buffer();
+    let n = os::arg(i, &mut buf);
+    print::failed(&buf[0..n], why);
 }
 
 // A remark on what argument i names.

@@ -1,6 +1,5 @@
 // The desk's day, on files: `desk help` says how.
 mod books;
-mod change;
 mod member;
 mod ramping;
 mod series;
@@ -10,7 +9,16 @@ mod why;
 use clerk::args::Held;
 use clerk::args::argument;
 use clerk::args::first;
+use clerk::args::is_word;
 use clerk::print;
+use ledger::books::check_book;
+use ledger::books::find_call;
+use ledger::books::join_books;
+use ledger::books::show_book;
+use ledger::change::enter;
+use ledger::change::new_book;
+use ledger::change::revise;
+use ledger::change::withdraw;
 
 enum Command {
     Check,
@@ -26,6 +34,7 @@ enum Command {
     Month,
     Explain,
     Help,
+    Version,
     Unknown,
 }
 
@@ -46,7 +55,7 @@ fn main() {
 }
 
 // Every command, a row each: its usage, which begins with its word, and how many words there are with it at least and at most, `desk` among
-// them. Says which command a word is; or, where the usage is asked, prints the rows. `help` is not in the usage.
+// them. Says which command a word is; or, where the usage is asked, prints the word's row, and all of them for no word.
 fn rows(usage: bool, word: &[u8]) -> Command {
     if row(usage, word, b"check BOOK", 3, 3) {
         return Command::Check;
@@ -57,18 +66,19 @@ fn rows(usage: bool, word: &[u8]) -> Command {
     if row(usage, word, b"new OUT AREA YEAR MONTH", 6, 6) {
         return Command::New;
     }
-    let enter = b"enter OUT BOOK MEMBER CALL SERVICE START LENGTH A B C";
-    if row(usage, word, enter, 12, 12) {
+    let entering = b"enter OUT BOOK MEMBER CALL SERVICE START LENGTH A B C";
+    if row(usage, word, entering, 12, 12) {
         return Command::Enter;
     }
-    let revise = b"revise OUT BOOK MEMBER CALL REVISION SERVICE START LENGTH A B C";
-    if row(usage, word, revise, 13, 13) {
+    let revising = b"revise OUT BOOK MEMBER CALL REVISION SERVICE START LENGTH A B C";
+    if row(usage, word, revising, 13, 13) {
         return Command::Revise;
     }
-    if row(usage, word, b"withdraw OUT BOOK MEMBER CALL REVISION", 7, 7) {
+    let withdrawing = b"withdraw OUT BOOK MEMBER CALL [REVISION]";
+    if row(usage, word, withdrawing, 6, 7) {
         return Command::Withdraw;
     }
-    if row(usage, word, b"join OUT BOOK..", 4, MANY) {
+    if row(usage, word, b"join [-f] OUT BOOK..", 4, MANY) {
         return Command::Join;
     }
     if row(usage, word, b"find FIRST SECOND MEMBER CALL", 6, 6) {
@@ -88,58 +98,90 @@ fn rows(usage: bool, word: &[u8]) -> Command {
     if row(usage, word, why, 6, MANY) {
         return Command::Explain;
     }
-    if row(false, word, b"help", 2, 2) {
+    last_rows(word)
+}
+
+// The rows that no usage has.
+fn last_rows(word: &[u8]) -> Command {
+    if row(false, word, b"help", 2, 3) {
         return Command::Help;
+    }
+    if row(false, word, b"--help", 2, 3) {
+        return Command::Help;
+    }
+    if row(false, word, b"-h", 2, 3) {
+        return Command::Help;
+    }
+    if row(false, word, b"--version", 2, 2) {
+        return Command::Version;
     }
     Command::Unknown
 }
 
-// One row: printed, where the usage is asked; else whether the word and the number of arguments are its.
+// One row: whether the word is its, and the number of arguments too; where the usage is asked, it is printed for its word or for none.
 fn row(usage: bool, word: &[u8], line: &[u8], least: usize, most: usize) -> bool {
-    if usage {
-        print::usage(line);
-        return false;
-    }
     let name = first(line, bytes::scan::find(line, 0, line.len(), b' '));
-    let count = os::arg_count();
-    is_word(word, name) & (least <= count) & (count <= most)
-}
-
-fn is_word(word: &[u8], name: &[u8]) -> bool {
-    if word.len() != name.len() {
-        return false;
-    }
-    let mut i: usize = 0;
-    while i < word.len() {
-        if word[i] != name[i] {
-            return false;
+    let its = is_word(word, name);
+    if usage {
+        if its | (word.len() == 0) {
+            print::usage(line);
         }
-        i += 1;
+        return its;
     }
-    true
+    let count = os::arg_count();
+    its & (least <= count) & (count <= most)
 }
 
 fn run(word: &[u8]) {
     match rows(false, word) {
-        Command::Check => books::check_book(),
-        Command::Show => books::show_book(),
-        Command::New => change::new_book(),
-        Command::Enter => change::enter(),
-        Command::Revise => change::revise(),
-        Command::Withdraw => change::withdraw(),
-        Command::Join => books::join_books(),
-        Command::Find => books::find_call(),
+        Command::Check => check_book(),
+        Command::Show => show_book(),
+        Command::New => new_book(),
+        Command::Enter => enter(),
+        Command::Revise => revise(),
+        Command::Withdraw => withdraw(),
+        Command::Join => join_books(),
+        Command::Find => find_call(),
         Command::Score => member::score_member(),
         Command::Ramp => ramping::ramp_member(),
         Command::Month => settle::settle_month(),
         Command::Explain => why::explain_member(),
-        Command::Help => help(),
+        Command::Help => help_with(),
+        Command::Version => tell_version(),
         Command::Unknown => unknown(),
     }
 }
 
 fn help() {
     rows(true, b"");
+    print::done();
+}
+
+// The usage of the command that argument 2 names, or of all.
+fn help_with() {
+    if os::arg_count() < 3 {
+        help();
+        return;
+    }
+    let mut word = io::buffer();
+    let Held::Bytes(n) = argument(2, &mut word) else {
+        unknown();
+        return;
+    };
+    if n == 0 {
+        unknown();
+        return;
+    }
+    let command = rows(true, first(&word, n));
+    if let Command::Unknown = command {
+        unknown();
+        return;
+    }
+    print::done();
+}
+
+fn tell_version() {
+    say::text(b"desk 1.0, for books of version 1\n");
     print::done();
 }
 

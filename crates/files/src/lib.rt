@@ -1,13 +1,14 @@
-// Whole files: read into a lent buffer, and written beside the target, then renamed over it or, of a new file, to its name.
+// Whole files: read into a lent buffer; and written by one run at a time, beside the target and then renamed over it.
+use node::Name;
+use node::Node;
+use node::first;
+use node::folder_end;
+use node::joined;
+use node::led_to;
+use node::node_of;
 ghost use mathlib.Core.Path.{_≡_};
-ghost use Prim.Native.Nat.{_+_, _≤_};
 ghost use lib.ListN.{length};
 ghost use Rattle.files.specs.Fits.{Fits, Brings};
-
-// How many bytes stand behind the target's name in that of the new file, and the longest name that leaves room for them and a zero.
-const BEHIND: usize = 7;
-
-const MOST_NAME: usize = libc::PATH_MAX - BEHIND - 1;
 
 // What became of reading a file: how many bytes it has, or why it was not read.
 pub enum Loaded {
@@ -17,16 +18,28 @@ pub enum Loaded {
     Failed,
 }
 
-// What became of writing a file; `Taken`: a new file's name is that of another. Where it is not done, the target is as it was; `Unsure` alone says that the new file stands and its
-// folder could not be brought to the device.
+// What became of a file that was to be written. `Done` is done, or held so that it can be; where it is another, the target is as it was, but for `Unsure`, which says that the new file
+// stands and its folder could not be brought to the device.
 pub enum Stored {
     Done,
     BadName,
+    NotRegular,
+    ReadOnly,
+    Locked,
     Taken,
     NotMade,
     NotWritten,
     NotRenamed,
     Unsure,
+}
+
+// A target that this run alone may write: the file .lock beside it is this run's own. Links are followed, so that the target is the file that they lead to; what stands there was asked
+// under the lock. Where the state is not `Done`, nothing is held.
+pub struct Hold {
+    pub state: Stored,
+    pub target: Name,
+    pub node: Node,
+    pub fd: i32,
 }
 
 // What one read brought.
@@ -104,20 +117,6 @@ fn put(fd: i32, bytes: &[u8]) -> bool {
     whole & (synced == 0) & (closed == 0)
 }
 
-// How long a path's folder part is, its last slash included; 0 where there is none.
-fn folder_end(path: &[u8]) -> usize
-    ensures { λ r. ⌜ r ≤ length (now (path .entry)) ⌝ }
-{
-    let mut n = path.len();
-    while 0 < n {
-        if path[n - 1] == b'/' {
-            return n;
-        }
-        n -= 1;
-    }
-    0
-}
-
 fn sync_at(folder: &[u8]) -> bool {
     let fd = os::open_read(folder);
     if fd < 0 {
@@ -134,74 +133,151 @@ fn sync_folder(path: &[u8]) -> bool {
     if n == 0 {
         return sync_at(b".");
     }
-    sync_at(&path[..n])
+    sync_at(first(path, n))
 }
 
-// The new file over the target, or away.
-fn settle(path: &[u8], temp: &[u8], written: bool) -> Stored {
+// The lock's name, which is the new file's too: it lies in the target's folder, so that it can be renamed.
+pub fn lock_of(target: Name) -> Name {
+    let bytes = target.bytes;
+    joined(first(&bytes, target.size), b".lock")
+}
+
+// Whether a target may be written, by what stands there: nothing, or a regular file that its owner may write, and, where the file is to be new, nothing alone.
+fn judged(new: bool, node: Node) -> Stored {
+    if !node.there {
+        return Stored::Done;
+    }
+    if new {
+        return Stored::Taken;
+    }
+    if !node.is_regular() {
+        return Stored::NotRegular;
+    }
+    if !node.is_writable() {
+        return Stored::ReadOnly;
+    }
+    Stored::Done
+}
+
+fn not_held(state: Stored, target: Name, node: Node) -> Hold {
+    Hold {
+        state,
+        target,
+        node,
+        fd: -1,
+    }
+}
+
+// Nothing is held, for want of a name.
+pub fn nothing_held() -> Hold {
+    let target = joined(b"", b"");
+    not_held(Stored::BadName, target, node_of(b""))
+}
+
+// The lock goes, and nothing is written.
+pub fn release(hold: Hold) {
+    let lock = lock_of(hold.target);
+    let bytes = lock.bytes;
+    libc::close(hold.fd);
+    os::unlink(first(&bytes, lock.size));
+}
+
+// What stands at the target is asked again under the lock: it may have changed before.
+fn under_lock(new: bool, target: Name, fd: i32) -> Hold {
+    let bytes = target.bytes;
+    let node = node_of(first(&bytes, target.size));
+    let state = judged(new, node);
+    let hold = Hold {
+        state,
+        target,
+        node,
+        fd,
+    };
+    if let Stored::Done = state {
+        return hold;
+    }
+    release(hold);
+    hold
+}
+
+// The lock is made, which fails where it is there: of two runs one alone makes it.
+fn lock(new: bool, target: Name, node: Node) -> Hold {
+    let name = lock_of(target);
+    if name.size == 0 {
+        return not_held(Stored::BadName, target, node);
+    }
+    let bytes = name.bytes;
+    let fd = os::create(first(&bytes, name.size));
+    if 0 <= fd {
+        return under_lock(new, target, fd);
+    }
+    if os::errno() == libc::EEXIST {
+        return not_held(Stored::Locked, target, node);
+    }
+    not_held(Stored::NotMade, target, node)
+}
+
+// The target that a path leads to, held until it is stored or released; where it is to be new, nothing may stand there.
+pub fn hold_at(path: &[u8], new: bool) -> Hold {
+    let target = led_to(path);
+    let bytes = target.bytes;
+    let node = node_of(first(&bytes, target.size));
+    if target.size == 0 {
+        return not_held(Stored::BadName, target, node);
+    }
+    let state = judged(new, node);
+    if let Stored::Done = state {
+        return lock(new, target, node);
+    }
+    not_held(state, target, node)
+}
+
+// A file that is replaced keeps its mode; a new one has what the process's mask left.
+fn keep_mode(hold: Hold) -> bool {
+    let node = hold.node;
+    if !node.there {
+        return true;
+    }
+    libc::fchmod(hold.fd, node.mode & 0o7777) == 0
+}
+
+// The new file over the target, or away. Once it is renamed, the lock's name may be another run's.
+fn settle(target: &[u8], lock: &[u8], written: bool) -> Stored {
     if !written {
-        os::unlink(temp);
+        os::unlink(lock);
         return Stored::NotWritten;
     }
-    if os::rename(temp, path) != 0 {
-        os::unlink(temp);
+    if os::rename(lock, target) != 0 {
+        os::unlink(lock);
         return Stored::NotRenamed;
     }
-    if sync_folder(path) {
+    if sync_folder(target) {
         return Stored::Done;
     }
     Stored::Unsure
 }
 
-fn store_by(path: &[u8], temp: &mut [u8], bytes: &[u8]) -> Stored {
-    let fd = os::create_temp(temp);
-    if fd < 0 {
-        return Stored::NotMade;
-    }
-    libc::fchmod(fd, 0o644);
-    let written = put(fd, bytes);
-    settle(path, temp, written)
-}
-
-// The target's name and .XXXXXX behind it: the new file lies in the target's folder, so that it can be renamed.
-fn temp_name(path: &[u8], name: &mut [u8])
-    requires { ⌜ length (now path) + 7 ≤ length (now name) ⌝ }
-    ensures { λ _. ⌜ length (now (name .exit)) ≡ length (now (name .entry)) ⌝ }
-{
-    let n = path.len();
-    bytes::copy(path, name);
-    bytes::copy(b".XXXXXX", &mut name[n..]);
-}
-
-// The bytes as the whole file, by a new file beside it.
-pub fn store(path: &[u8], bytes: &[u8]) -> Stored {
-    let n = path.len();
-    if MOST_NAME < n {
-        return Stored::BadName;
-    }
-    let mut name = io::buffer();
-    temp_name(path, &mut name);
-    let end = n + BEHIND;
-    store_by(path, &mut name[..end], bytes)
-}
-
-// Whether a path names anything.
-fn is_taken(path: &[u8]) -> bool
-    requires { ⌜ length (now path) ≤ 4095 ⌝ }
-{
-    let mut name = io::buffer();
-    bytes::copy(path, &mut name);
-    name[libc::PATH_MAX - 1] = 0;
-    libc::access(&name, libc::F_OK) == 0
+// The bytes as the whole file that is held. Then it is held no longer.
+pub fn store(hold: Hold, bytes: &[u8]) -> Stored {
+    let kept = keep_mode(hold);
+    let written = put(hold.fd, bytes);
+    let target = hold.target;
+    let at = target.bytes;
+    let lock = lock_of(target);
+    let beside = lock.bytes;
+    settle(
+        first(&at, target.size),
+        first(&beside, lock.size),
+        kept & written,
+    )
 }
 
 // The bytes as a new file: a path that names something already keeps it.
 pub fn store_new(path: &[u8], bytes: &[u8]) -> Stored {
-    if MOST_NAME < path.len() {
-        return Stored::BadName;
+    let held = hold_at(path, true);
+    let state = held.state;
+    if let Stored::Done = state {
+        return store(held, bytes);
     }
-    if is_taken(path) {
-        return Stored::Taken;
-    }
-    store(path, bytes)
+    state
 }

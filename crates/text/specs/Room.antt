@@ -35,9 +35,21 @@ mostNoNumber = mostArgument + 18 + mostDecimal + 1
 abbrev pub mostNote : List ℕ → List ℕ → ℕ
 mostNote what why = 2 + 1 + length what + length why
 
+-- a line feed, besides the word and the line
+abbrev pub mostLed : List ℕ → List ℕ → ℕ
+mostLed lead line = length lead + 1 + length line
+
 -- `desk ` and a line feed, besides how a command is called
 abbrev pub mostUsage : List ℕ → ℕ
 mostUsage line = 5 + 1 + length line
+
+-- `unchanged ` and a line feed, besides why
+abbrev pub mostUnchanged : List ℕ → ℕ
+mostUnchanged why = 10 + 1 + length why
+
+-- `unchanged revision `, ` stands, give `, ` or more` and a line feed, and two numbers
+abbrev pub mostNotHigher : ℕ
+mostNotHigher = 19 + mostDecimal + 14 + mostDecimal + 9
 
 -- `total `, a number, a line feed
 abbrev pub mostTotal : ℕ

@@ -1,8 +1,8 @@
 -- What the programs print of an outcome, byte by byte. Assumes nothing.
 use mathlib.Core.Bool.{Bool, cond}
-use mathlib.Core.List.{List, [], _∷_, _++_}
+use mathlib.Core.List.{List, [], _∷_, _++_, map}
 use Prim.Native.Nat.{ℕ}
-use lib.Dec.{eqb}
+use lib.Dec.{eqb, ltb}
 use lib.IntN.{ℤ}
 use lib.ListN.{take, getD}
 use Rattle.book.specs.declared.Header.{Header}
@@ -42,6 +42,14 @@ statementText s count =
 
 -- The desk
 
+-- a byte of a name as it is printed: a control character is a question mark
+unfoldable pub shownByte : ℕ → ℕ
+shownByte b = cond (ltb b 32) 63 (cond (eqb b 127) 63 b)
+
+-- a name as it is printed
+unfoldable pub shownName : List ℕ → List ℕ
+shownName name = map shownByte name
+
 -- a refusal, and what it is about
 unfoldable pub refusedAboutText : ℕ → ℕ → List ℕ → List ℕ
 refusedAboutText number place what = refusalText number place ++ word " " ++ what ++ word "\n"
@@ -71,9 +79,21 @@ noNumberText i most = argumentText i ++ field ": no number up to " most ++ word 
 unfoldable pub noteText : List ℕ → List ℕ → List ℕ
 noteText what why = what ++ word ": " ++ why ++ word "\n"
 
+-- a word, and a line behind it
+abbrev pub ledText : List ℕ → List ℕ → List ℕ
+ledText lead line = lead ++ line ++ word "\n"
+
 -- how a command is called
 unfoldable pub usageText : List ℕ → List ℕ
-usageText line = word "desk " ++ line ++ word "\n"
+usageText line = ledText (word "desk ") line
+
+-- that nothing was changed, and why
+unfoldable pub unchangedText : List ℕ → List ℕ
+unchangedText why = ledText (word "unchanged ") why
+
+-- that nothing was changed, since this revision stands: the least that would do
+unfoldable pub notHigherText : ℕ → ℕ → List ℕ
+notHigherText stands least = field "unchanged revision " stands ++ field " stands, give " least ++ word " or more\n"
 
 -- the state of a call
 unfoldable pub stateText : ℕ → List ℕ

@@ -1,14 +1,15 @@
-// A refusal and what it is about; what failed, and why; an argument that is not taken; a remark; how a command is called.
+// A refusal and what it is about; what failed, and why; an argument that is not taken; a remark; how a command is called; that nothing was changed.
 use crate::put::put_refusal;
 use render::put_field;
 use render::put_word;
+ghost use mathlib.Core.Path.{_≡_};
 ghost use Prim.Native.Nat.{_+_, _≤_};
 ghost use lib.ListN.{length};
 ghost use Rattle.io.specs.Counts.{Counts};
 ghost use Rattle.render.specs.Inner.{Puts};
 ghost use Rattle.render.specs.Room.{Renders};
-ghost use Rattle.text.specs.Room.{mostRefusedAbout, mostFailed, mostArgument, mostBadArgument, mostNoNumber, mostNote, mostUsage};
-ghost use Rattle.text.specs.Texts.{whatText, refusedAboutText, failedText, argumentText, badArgumentText, noNumberText, noteText, usageText};
+ghost use Rattle.text.specs.Room.{mostRefusedAbout, mostFailed, mostArgument, mostBadArgument, mostNoNumber, mostNote, mostLed, mostUsage, mostUnchanged, mostNotHigher};
+ghost use Rattle.text.specs.Texts.{shownByte, shownName, whatText, refusedAboutText, failedText, argumentText, badArgumentText, noNumberText, noteText, ledText, usageText, unchangedText, notHigherText};
 
 // The most bytes of each, besides those of what is named.
 pub const MOST_REFUSED_ABOUT: usize = 51;
@@ -22,6 +23,46 @@ pub const MOST_NO_NUMBER: usize = 75;
 pub const MOST_NOTE: usize = 3;
 
 pub const MOST_USAGE: usize = 6;
+
+pub const MOST_UNCHANGED: usize = 11;
+
+pub const MOST_NOT_HIGHER: usize = 82;
+
+// A byte of a name as it is printed: a control character as `?`.
+fn shown_byte(b: u8) -> u8
+    ensures { λ r. ⌜ r ≡ shownByte b ⌝ }
+{
+    if b < 32 {
+        return b'?';
+    }
+    if b == 127 {
+        return b'?';
+    }
+    b
+}
+
+fn put_shown(out: &mut [u8], name: &[u8]) -> usize
+    requires { ⌜ length (now name) ≤ length (now out) ⌝ }
+    ensures { λ r. ⌜ Puts (length (now (name .entry))) (now (out .entry)) 0 (shownName (now (name .entry))) (now (out .exit)) r ⌝ }
+{
+    let mut k = 0;
+    while k < name.len() {
+        out[k] = shown_byte(name[k]);
+        k += 1;
+    }
+    k
+}
+
+// A name as it is printed: no line feed in it begins a line of its own.
+pub fn shown_text(name: &[u8], out: &mut [u8]) -> usize
+    ensures { λ r. ⌜ Renders (length (now (name .entry))) (shownName (now (name .entry))) (now (out .entry)) (now (out .exit)) r ⌝ }
+    ensures { λ r. ⌜ Counts r (now (out .exit)) ⌝ }
+{
+    if out.len() < name.len() {
+        return 0;
+    }
+    put_shown(out, name)
+}
 
 fn put_refused_about(out: &mut [u8], number: u32, place: usize, what: &[u8]) -> usize
     requires { ⌜ mostRefusedAbout (now what) ≤ length (now out) ⌝ }
@@ -163,11 +204,12 @@ pub fn note_text(what: &[u8], why: &[u8], out: &mut [u8]) -> usize
     put_note(out, what, why)
 }
 
-fn put_usage(out: &mut [u8], line: &[u8]) -> usize
-    requires { ⌜ mostUsage (now line) ≤ length (now out) ⌝ }
-    ensures { λ r. ⌜ Puts (mostUsage (now (line .entry))) (now (out .entry)) 0 (usageText (now (line .entry))) (now (out .exit)) r ⌝ }
+// A word, a line behind it, and the line's end.
+fn put_led(out: &mut [u8], lead: &[u8], line: &[u8]) -> usize
+    requires { ⌜ mostLed (now lead) (now line) ≤ length (now out) ⌝ }
+    ensures { λ r. ⌜ Puts (mostLed (now (lead .entry)) (now (line .entry))) (now (out .entry)) 0 (ledText (now (lead .entry)) (now (line .entry))) (now (out .exit)) r ⌝ }
 {
-    let a = put_word(out, 0, b"desk ");
+    let a = put_word(out, 0, lead);
     let b = put_word(out, a, line);
     put_word(out, b, b"\n")
 }
@@ -183,5 +225,39 @@ pub fn usage_text(line: &[u8], out: &mut [u8]) -> usize
     if out.len() - MOST_USAGE < line.len() {
         return 0;
     }
-    put_usage(out, line)
+    put_led(out, b"desk ", line)
+}
+
+// That nothing was changed, and why.
+pub fn unchanged_text(why: &[u8], out: &mut [u8]) -> usize
+    ensures { λ r. ⌜ Renders (mostUnchanged (now (why .entry))) (unchangedText (now (why .entry))) (now (out .entry)) (now (out .exit)) r ⌝ }
+    ensures { λ r. ⌜ Counts r (now (out .exit)) ⌝ }
+{
+    if out.len() < MOST_UNCHANGED {
+        return 0;
+    }
+    if out.len() - MOST_UNCHANGED < why.len() {
+        return 0;
+    }
+    put_led(out, b"unchanged ", why)
+}
+
+fn put_not_higher(out: &mut [u8], stands: u64, least: u64) -> usize
+    requires { ⌜ mostNotHigher ≤ length (now out) ⌝ }
+    ensures { λ r. ⌜ Puts mostNotHigher (now (out .entry)) 0 (notHigherText stands least) (now (out .exit)) r ⌝ }
+{
+    let a = put_field(out, 0, b"unchanged revision ", stands);
+    let b = put_field(out, a, b" stands, give ", least);
+    put_word(out, b, b" or more\n")
+}
+
+// That nothing was changed, since a revision stands that is as high: the least that would do.
+pub fn not_higher_text(stands: u32, out: &mut [u8]) -> usize
+    ensures { λ r. ⌜ Renders mostNotHigher (notHigherText stands (stands + 1)) (now (out .entry)) (now (out .exit)) r ⌝ }
+    ensures { λ r. ⌜ Counts r (now (out .exit)) ⌝ }
+{
+    if out.len() < MOST_NOT_HIGHER {
+        return 0;
+    }
+    put_not_higher(out, stands as u64, stands as u64 + 1)
 }

@@ -1,5 +1,6 @@
 use native.Mathlib.Omega.{arith}
 use Rattle.text.specs.Room.{mostUsage}
+use Rattle.text.specs.Texts.{usageText}
 use Rattle.render.proofs.Placed.{no-room, rendered}
 use borrow.Author.Needs.{needs}
 use Rattle.text.proofs.told.usage_text.Statement.{statement}
@@ -18,17 +19,29 @@ returns-2 c =
     let a = c .before .before .before .before .args in
     no-room (mostUsage (a .line .now)) _ (a .out .now) (omega arith)
 
-put-usage-requires : tie.Need-put-usage-requires
-put-usage-requires c κs = search needs
+slice-aggregate-put-led : tie.Need-slice-aggregate-put-led
+slice-aggregate-put-led c = search needs
+
+put-led-requires : tie.Need-put-led-requires
+put-led-requires c κs = search needs
 
 same-length : tie.Need-same-length
 same-length c = search needs
 
 returns-3 : tie.Need-returns-3
+unfolding usageText
 returns-3 c =
-    let a = c .before .before .before .before .before .before .before .before .args in
-    rendered (mostUsage (a .line .now)) (omega arith) (c .before .before .put-usage .ensures)
+    let a = c .before .before .before .before .before .before .before .before .before .args in
+    rendered (mostUsage (a .line .now)) (omega arith) (c .before .before .put-led .ensures)
 
 pub usage-text-spec : {M : Type 1} → statement M
 usage-text-spec =
-    tie.close (tie.spec returns sub-if2 returns-2 put-usage-requires same-length returns-3)
+    tie.close
+    (tie.spec
+    returns
+    sub-if2
+    returns-2
+    slice-aggregate-put-led
+    put-led-requires
+    same-length
+    returns-3)

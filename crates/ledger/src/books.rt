@@ -1,0 +1,282 @@
+// Books as files: checked, shown, joined, and one call looked up.
+use book::call_of;
+use book::header_of;
+use call::RECORD_SIZE;
+use call::layout::call_at;
+use clerk::args::Held;
+use clerk::args::Long;
+use clerk::args::Short;
+use clerk::args::first;
+use clerk::args::is_word_at;
+use clerk::args::long_at;
+use clerk::args::short_at;
+use clerk::print;
+use clerk::shelf::hold_at;
+use clerk::shelf::is_held;
+use clerk::shelf::is_same;
+use clerk::shelf::load_at;
+use clerk::shelf::note_at;
+use clerk::shelf::open;
+use clerk::shelf::opened_at;
+use clerk::shelf::put;
+use clerk::shelf::refused_at;
+use clerk::shelf::tell_failed;
+use files::Hold;
+use lookup::Place;
+use pair::screen;
+ghost use mathlib.Core.Path.{_≡_};
+ghost use Prim.Native.Nat.{_<_, _≤_};
+ghost use Rattle.book.specs.Book.{countAt};
+ghost use Rattle.book.specs.Check.{accepted, check};
+
+// Whose call, and which; or nothing, and one line has said why.
+pub enum Key {
+    Of(u16, u32),
+    Nothing,
+}
+
+// The key that arguments 4 and 5 say.
+pub fn whose() -> Key {
+    let Short::Number(member) = short_at(4) else {
+        return Key::Nothing;
+    };
+    let Long::Number(call) = long_at(5) else {
+        return Key::Nothing;
+    };
+    Key::Of(member, call)
+}
+
+pub fn check_book() {
+    let mut book = io::large_buffer();
+    if let Held::Bytes(_) = open(2, &mut book) {
+        print::done();
+    }
+}
+
+fn show_calls(book: &[u8], count: usize)
+    requires { ⌜ check (now book) ≡ accepted ⌝ }
+    requires { ⌜ count ≤ countAt (now book) ⌝ }
+{
+    let mut i: usize = 0;
+    while i < count {
+        print::call(call_of(book, i));
+        i += 1;
+    }
+}
+
+fn show(book: &[u8]) {
+    let o = opened_at(2, book);
+    if o.number != 0 {
+        return;
+    }
+    print::header(o.header, o.calls);
+    show_calls(book, o.calls);
+    print::done();
+}
+
+pub fn show_book() {
+    let mut book = io::large_buffer();
+    if let Held::Bytes(n) = load_at(2, &mut book) {
+        show(first(&book, n));
+    }
+}
+
+// The bytes to the front of a buffer that has room for them.
+fn keep(bytes: &[u8], all: &mut [u8]) -> Held {
+    if all.len() < bytes.len() {
+        return Held::Nothing;
+    }
+    Held::Bytes(bytes::copy(bytes, all))
+}
+
+// A second book joined into the first n bytes of `all`. Argument i is what a refusal is about: a book of another month, or one too many.
+pub fn join_bytes(i: usize, all: &mut [u8], n: usize, second: &[u8]) -> Held {
+    let mut out = io::large_buffer();
+    let w = join::join(first(all, n), second, &mut out);
+    if w.number != 0 {
+        refused_at(w.number, w.place, i);
+        return Held::Nothing;
+    }
+    keep(first(&out, w.length), all)
+}
+
+// The book of argument i joined to those before it.
+fn join_next(i: usize, all: &mut [u8], before: Held) -> Held {
+    let Held::Bytes(n) = before else {
+        return Held::Nothing;
+    };
+    let mut second = io::large_buffer();
+    let Held::Bytes(m) = open(i, &mut second) else {
+        return Held::Nothing;
+    };
+    join_bytes(i, all, n, first(&second, m))
+}
+
+// All books that are named from argument `from` on, joined.
+pub fn join_all(from: usize, all: &mut [u8]) -> Held
+    requires { ⌜ from < 10 ⌝ }
+{
+    let count = os::arg_count();
+    let mut held = open(from, all);
+    let mut i = from + 1;
+    while i < count {
+        held = join_next(i, all, held);
+        i += 1;
+    }
+    held
+}
+
+// Call i of a sound book.
+pub fn show_call(book: &[u8], i: usize) {
+    let o = header_of(book);
+    if o.number != 0 {
+        return;
+    }
+    if i < o.calls {
+        print::call(call_of(book, i));
+    }
+}
+
+// Whose month a sound book is of, and how many calls it has.
+pub fn tell_header(book: &[u8]) {
+    let o = header_of(book);
+    if o.number == 0 {
+        print::header(o.header, o.calls);
+    }
+}
+
+// Whether one of the arguments from `from` on names the file that is held.
+fn is_named(hold: Hold, from: usize) -> bool
+    requires { ⌜ from < 10 ⌝ }
+{
+    let count = os::arg_count();
+    let mut i = from;
+    while i < count {
+        if is_same(hold, i) {
+            return true;
+        }
+        i += 1;
+    }
+    false
+}
+
+// The books behind argument `out`, joined into the file that is held.
+fn join_held(hold: Hold, out: usize)
+    requires { ⌜ out < 9 ⌝ }
+{
+    let mut all = io::large_buffer();
+    let Held::Bytes(n) = join_all(out + 1, &mut all) else {
+        files::release(hold);
+        return;
+    };
+    if put(hold, out, first(&all, n)) {
+        tell_header(first(&all, n));
+        print::done();
+    }
+}
+
+// The books behind argument `out`, joined as the file that it names, which is held from before they are read; it may be there only where it is one of them, or where that is asked for.
+fn join_to(out: usize, forced: bool)
+    requires { ⌜ out < 9 ⌝ }
+{
+    if os::arg_count() < out + 2 {
+        print::failed(b"", b"no book to join");
+        return;
+    }
+    let hold = hold_at(out, false);
+    if !is_held(hold) {
+        return;
+    }
+    let node = hold.node;
+    if !node.there | forced | is_named(hold, out + 1) {
+        join_held(hold, out);
+        return;
+    }
+    tell_failed(
+        out,
+        b"is there already, and is none of the books (join -f writes over it)",
+    );
+    files::release(hold);
+}
+
+pub fn join_books() {
+    if is_word_at(2, b"-f") {
+        join_to(3, true);
+        return;
+    }
+    join_to(2, false);
+}
+
+// Where joining would refuse two books, nothing is found in them. The paper gives no number here, so that words say which book is at fault.
+fn tell_refused(number: u32) {
+    if number < 7 {
+        note_at(2, b"not a sound book, so nothing is found");
+        return;
+    }
+    if number == 7 {
+        note_at(
+            3,
+            b"of another month or area than the first book, so nothing is found",
+        );
+        return;
+    }
+    note_at(3, b"not a sound book, so nothing is found");
+}
+
+// Whether a book has a record of the key: of a book and itself it stands.
+fn has(book: &[u8], member: u16, call: u32) -> bool {
+    RECORD_SIZE <= lookup::find(book, book, member, call).len()
+}
+
+// No record stands: neither book has the call, or both have it and contradict each other.
+fn tell_none(one: &[u8], two: &[u8], member: u16, call: u32) {
+    if has(one, member, call) & has(two, member, call) {
+        note_at(
+            3,
+            b"both books have the call at one revision and contradict each other, so that neither stands",
+        );
+    } else {
+        note_at(3, b"neither this book nor the first has the call");
+    }
+    print::none();
+}
+
+// The record that stands for a key: which book has it, and its 32 bytes as they lie there.
+fn tell_found<'a>(first: &'a [u8], second: &'a [u8], member: u16, call: u32) {
+    let part = lookup::find(first, second, member, call);
+    if part.len() < RECORD_SIZE {
+        tell_none(first, second, member, call);
+        return;
+    }
+    match lookup::which(first, second, member, call) {
+        Place::Nowhere => print::none(),
+        Place::InFirst(_) => print::found(false, call_at(part, 0)),
+        Place::InSecond(_) => print::found(true, call_at(part, 0)),
+    }
+}
+
+fn find_in(one: &[u8], member: u16, call: u32) {
+    let mut book = io::large_buffer();
+    let Held::Bytes(n) = load_at(3, &mut book) else {
+        return;
+    };
+    let two = first(&book, n);
+    let v = screen(one, two);
+    if v.number != 0 {
+        tell_refused(v.number);
+        print::none();
+    } else {
+        tell_found(one, two, member, call);
+    }
+    print::done();
+}
+
+pub fn find_call() {
+    let Key::Of(member, call) = whose() else {
+        return;
+    };
+    let mut book = io::large_buffer();
+    if let Held::Bytes(n) = load_at(2, &mut book) {
+        find_in(first(&book, n), member, call);
+    }
+}

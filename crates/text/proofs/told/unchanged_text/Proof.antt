@@ -1,0 +1,47 @@
+use native.Mathlib.Omega.{arith}
+use Rattle.text.specs.Room.{mostUnchanged}
+use Rattle.text.specs.Texts.{unchangedText}
+use Rattle.render.proofs.Placed.{no-room, rendered}
+use borrow.Author.Needs.{needs}
+use Rattle.text.proofs.told.unchanged_text.Statement.{statement}
+use Rattle.text.proofs.told.unchanged_text.Tie as tie
+
+returns : tie.Need-returns
+returns c =
+    let a = c .before .before .before .args in
+    no-room (mostUnchanged (a .why .now)) _ (a .out .now) (omega arith)
+
+sub-if2 : tie.Need-sub-if2
+sub-if2 c = search needs
+
+returns-2 : tie.Need-returns-2
+returns-2 c =
+    let a = c .before .before .before .before .args in
+    no-room (mostUnchanged (a .why .now)) _ (a .out .now) (omega arith)
+
+slice-aggregate-put-led : tie.Need-slice-aggregate-put-led
+slice-aggregate-put-led c = search needs
+
+put-led-requires : tie.Need-put-led-requires
+put-led-requires c κs = search needs
+
+same-length : tie.Need-same-length
+same-length c = search needs
+
+returns-3 : tie.Need-returns-3
+unfolding unchangedText
+returns-3 c =
+    let a = c .before .before .before .before .before .before .before .before .before .args in
+    rendered (mostUnchanged (a .why .now)) (omega arith) (c .before .before .put-led .ensures)
+
+pub unchanged-text-spec : {M : Type 1} → statement M
+unchanged-text-spec =
+    tie.close
+    (tie.spec
+    returns
+    sub-if2
+    returns-2
+    slice-aggregate-put-led
+    put-led-requires
+    same-length
+    returns-3)
