@@ -9,7 +9,8 @@ ghost use Rattle.io.specs.Counts.{Counts};
 ghost use Rattle.render.specs.Inner.{Puts};
 ghost use Rattle.render.specs.Room.{Renders};
 ghost use Rattle.text.specs.Room.{mostRefusedAbout, mostFailed, mostArgument, mostBadArgument, mostNoNumber, mostNote, mostLed, mostUsage, mostUnchanged, mostNotHigher};
-ghost use Rattle.text.specs.Texts.{shownByte, shownName, whatText, refusedAboutText, failedText, argumentText, badArgumentText, noNumberText, noteText, ledText, usageText, unchangedText, notHigherText};
+ghost use Rattle.text.specs.Texts.{shownByte, shownName, whatText, refusedAboutText, failedText, argumentText};
+ghost use Rattle.text.specs.Texts.{badArgumentText, noNumberText, noteText, ledText, usageText, unchangedText, notHigherText};
 
 // The most bytes of each, besides those of what is named.
 pub const MOST_REFUSED_ABOUT: usize = 51;

@@ -167,12 +167,16 @@ module _ {M : Type 1} (𝓤 : URA M) (H : Heap 𝓤) (A : Atoms 𝓤) (W : Given
         -- [κ's token; true; the path; the path; true; the reference; the lender's part; ν's token; _5; …]
         move ! (2 ∷ 5 ∷ []) $ fjoin ! $ move ! (1 ∷ 6 ∷ []) $ fjoin ! $ use2 W (raw (Ask 𝓤 H A at-mem run .pre (to-ask l₂ ν δ h))) (goes-ask ends l₂ ν δ h) $
         -- [what `stat` asks; true; the path; true; the lender's part; _5; …; _4; …; _3; …; _2's end; _1; …; _0; …]
-        calls-at ! fm (Ask 𝓤 H A at-mem run) known-ask (to-ask l₂ ν δ h) (and-then ! (load ! (from ! (stop !)) (look ! 12 refl)) (and-then ! (load ! (from ! (stop !)) (look ! 5 refl)) (no-more !))) (λ w.
-        use1 W (later (some (λ (r : ℤ). ((‵ (flft κ q) ⊛ (‵ (flft (ν ∷ []) fullShare) ⊛ ‵ ftrue)) ⊛ ‵ (i32 .own r (w ∷ []))) ⊛ raw (ensured 𝓤 H A ask.ended (ask.clauses 𝓤 H A at-mem run) (κ, (ν ∷ [], tt)) (x, (lent l₂ ν δ h, tt)) tt r)))) (id⊢ 𝓤 _) $
+        calls-at ! fm (Ask 𝓤 H A at-mem run) known-ask (to-ask l₂ ν δ h)
+        (and-then ! (load ! (from ! (stop !)) (look ! 12 refl)) (and-then ! (load ! (from ! (stop !)) (look ! 5 refl)) (no-more !))) (λ w.
+        use1 W (later (some (λ (r : ℤ). ((‵ (flft κ q) ⊛ (‵ (flft (ν ∷ []) fullShare) ⊛ ‵ ftrue)) ⊛ ‵ (i32 .own r (w ∷ [])))
+        ⊛ raw (ensured 𝓤 H A ask.ended (ask.clauses 𝓤 H A at-mem run) (κ, (ν ∷ [], tt)) (x, (lent l₂ ν δ h, tt)) tt r)))) (id⊢ 𝓤 _) $
         await ! tt $ pick ! (λ r. split ! $ move ! (1 ∷ []) $
-        use1 W (some (λ (zs : Unit {0} × (stat × Unit {0})). ‵ (lasts ask.ended (κ, (ν ∷ [], tt)) (x, (lent l₂ ν δ h, tt)) zs) ⊛ raw (fact 𝓤 (Status r)))) (id⊢ 𝓤 _) $ pick ! (λ zs. split ! $ move ! (1 ∷ []) $ drop ! $ fsplit ! $ drop ! $ fsplit ! $
+        use1 W (some (λ (zs : Unit {0} × (stat × Unit {0})). ‵ (lasts ask.ended (κ, (ν ∷ [], tt)) (x, (lent l₂ ν δ h, tt)) zs) ⊛ raw (fact 𝓤 (Status r)))) (id⊢ 𝓤 _) $ pick ! (λ zs. split ! $
+        move ! (1 ∷ []) $ drop ! $ fsplit ! $ drop ! $ fsplit ! $
         -- [its last value; true; the tokens and the answer; true; the path; true; the lender's part; _5; …]
-        move ! (2 ∷ []) $ split ! $ move ! (1 ∷ []) $ peeks ! i32 (Is i32) (shows 𝓤 H A i32) r (w ∷ []) (λ is-r. land ! (from ! (stop !)) (init ! 12 refl (sint-lawful 𝓤 H A W w32 .typed r _ is-r .0)) $
+        move ! (2 ∷ []) $ split ! $ move ! (1 ∷ []) $
+        peeks ! i32 (Is i32) (shows 𝓤 H A i32) r (w ∷ []) (λ is-r. land ! (from ! (stop !)) (init ! 12 refl (sint-lawful 𝓤 H A W w32 .typed r _ is-r .0)) $
         move ! (1 ∷ []) $ split ! $ move ! (1 ∷ []) $ split ! $
         -- the lifetime is ended, and the struct comes back: [ν's token; true; κ's; the answer; its last value; true; true; the path; true; the lender's part; _5; …]
         lft-end ! tt $ move ! (0 ∷ 9 ∷ 4 ∷ []) $ use3 W (later (‵ (partAt R fullShare (zs .1 .0) l₂ 0))) (ref-back 𝓤 H A W R (ν ∷ []) δ (zs .1 .0) l₂ 0) $ await ! tt $ fpick ! (λ vs. fsplit ! $
@@ -182,17 +186,22 @@ module _ {M : Type 1} (𝓤 : URA M) (H : Heap 𝓤) (A : Atoms 𝓤) (W : Given
         -- [its cell; what it owns; true; κ's token; the answer; true; true; the path; true; _5; …; _4; …; _3; …; _2's end; _1; …; _0; …]
         forget ! 11 refl $ assigns ! (of-opd ! (load ! (from ! (stop !)) (look ! 0 refl))) (from ! (stop !)) (init ! 11 refl (typed (zs .1 .0) _ is′)) $
         move ! (4 ∷ 1 ∷ []) $ use2 W (raw (Told 𝓤 H A at-mem run .pre (to-told r w (zs .1 .0) (mach (zs .1 .0))))) (goes-told r w (zs .1 .0) (mach (zs .1 .0))) $
-        calls-at ! fm (Told 𝓤 H A at-mem run) known-told (to-told r w (zs .1 .0) (mach (zs .1 .0))) (and-then ! (load ! (from ! (stop !)) (look ! 12 refl)) (and-then ! (load ! (from ! (stop !)) (look ! 10 refl)) (no-more !))) (λ u.
-        use1 W (later (some (λ (n : Node). (‵ ftrue ⊛ ‵ (N.the-row .own n (u ∷ []))) ⊛ raw (ensured 𝓤 H A told.ended (told.clauses 𝓤 H A at-mem run) tt (r, (zs .1 .0, tt)) tt n)))) (id⊢ 𝓤 _) $ await ! tt $ pick ! (λ n.
-        split ! $ move ! (1 ∷ []) $ drop ! $ split ! $ drop ! $ peeks ! N.the-row (Is N.the-row) (shows 𝓤 H A N.the-row) n (u ∷ []) (λ is-n. land ! (from ! (stop !)) (init ! 17 refl (typed-node n u is-n)) $
+        calls-at ! fm (Told 𝓤 H A at-mem run) known-told (to-told r w (zs .1 .0) (mach (zs .1 .0)))
+        (and-then ! (load ! (from ! (stop !)) (look ! 12 refl)) (and-then ! (load ! (from ! (stop !)) (look ! 10 refl)) (no-more !))) (λ u.
+        use1 W (later (some (λ (n : Node). (‵ ftrue ⊛ ‵ (N.the-row .own n (u ∷ []))) ⊛ raw (ensured 𝓤 H A told.ended (told.clauses 𝓤 H A at-mem run) tt (r, (zs .1 .0, tt)) tt n)))) (id⊢ 𝓤 _) $
+        await ! tt $ pick ! (λ n.
+        split ! $ move ! (1 ∷ []) $ drop ! $ split ! $ drop ! $
+        peeks ! N.the-row (Is N.the-row) (shows 𝓤 H A N.the-row) n (u ∷ []) (λ is-n. land ! (from ! (stop !)) (init ! 17 refl (typed-node n u is-n)) $
         returns ! (look ! 17 refl) $ forget ! 1 refl $ forget ! 8 refl $ forget ! 10 refl $ forget ! 12 refl $ forget ! 15 refl $ forget ! 17 refl $
-        move ! (17 ∷ 18 ∷ []) $ free1 ! $ move ! (15 ∷ 16 ∷ []) $ free1 ! $ move ! (1 ∷ 14 ∷ []) $ free1 ! $ move ! (11 ∷ 12 ∷ []) $ free1 ! $ move ! (9 ∷ 10 ∷ []) $ free1 ! $ move ! (7 ∷ 8 ∷ []) $ free1 ! $ free0 ! $
+        move ! (17 ∷ 18 ∷ []) $ free1 ! $ move ! (15 ∷ 16 ∷ []) $ free1 ! $ move ! (1 ∷ 14 ∷ []) $ free1 ! $ move ! (11 ∷ 12 ∷ []) $ free1 ! $ move ! (9 ∷ 10 ∷ []) $ free1 ! $
+        move ! (7 ∷ 8 ∷ []) $ free1 ! $ free0 ! $
         keep ! (0 ∷ 2 ∷ 5 ∷ []) $ by ! (exits n u)))))))))))))))))))))
 
 module _ {M : Type 1} (𝓤 : URA M) (H : Heap 𝓤) (A : Atoms 𝓤) (W : Given 𝓤 H A) (at-mem : Memory → SProp 𝓤) (run : Routine → Fun 𝓤) where
   walks : (C : Calls 𝓤 H) (Λ : Loops 𝓤 H) → FmC 𝓤 H (W .laws) C → Triple 𝓤 (C #node·blank) (Blank 𝓤 H A at-mem run) → Triple 𝓤 (C #libc·stat) (Ask 𝓤 H A at-mem run)
       → Triple 𝓤 (C #node·told) (Told 𝓤 H A at-mem run) → Walks 𝓤 H A f.ended stayed (WpFn 𝓤 H C Λ code.function) (f.clauses 𝓤 H A at-mem run)
-  walks C Λ fm known-blank known-ask known-told = walked 𝓤 H A f.ended stayed (f.clauses 𝓤 H A at-mem run) (WpFn 𝓤 H C Λ code.function) (λ κs. (ptr-vals, tt)) (λ κs. (shr-tells (named 0) (κs .0) P, tt))
+  walks C Λ fm known-blank known-ask known-told = walked 𝓤 H A f.ended stayed (f.clauses 𝓤 H A at-mem run) (WpFn 𝓤 H C Λ code.function)
+      (λ κs. (ptr-vals, tt)) (λ κs. (shr-tells (named 0) (κs .0) P, tt))
       (λ κs qs bounds a g are. needs 𝓤 (Ended (a .0 .now)) _ (walk 𝓤 H A W at-mem run (κs .0) (qs .0) (a .0 .ptr .0) (a .0 .ptr .1) (a .0 .name) (a .0 .now) C Λ fm known-blank known-ask known-told))
 
 meets : {M : Type 1} (𝓤 : URA M) (H : Heap 𝓤) (A : Atoms 𝓤) → Given 𝓤 H A → (at-mem : Memory → SProp 𝓤) (run : Routine → Fun 𝓤) (𝓣 : Tables 𝓤 H)
