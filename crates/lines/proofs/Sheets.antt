@@ -1,26 +1,29 @@
 -- What a line's end and a text's end do to a reader's meaning. Assumes nothing.
-use mathlib.Core.Path.{_≡_, ap, sym, _∙_}
-use mathlib.Core.Bool.{true, false}
+use mathlib.Core.Path.{_≡_, refl, ap, sym, _∙_}
+use mathlib.Core.Bool.{Bool, true, false, not, _&&_}
 use mathlib.Core.List.{List, [], _∷_, _++_, map}
-use Prim.Native.Nat.{ℕ, _+_, _≤_, _<_}
+use Prim.Native.Nat.{ℕ, _+_, _-_, _≤_, _<_}
 use native.Mathlib.Omega.{arith}
-use lib.ListN.{drop, length, getD, drop-of-length-le}
-use borrow.Author.Tests.{ne-eqb, eq-eqb}
+use lib.Dec.{ltb, eqb}
+use lib.ListN.{drop, length, getD, set, length-set, drop-of-length-le}
+use borrow.Author.Tests.{ne-eqb, eq-eqb, eqb-true, eqb-false, ltb-true, ltb-false, not-true}
+use Rattle.le.proofs.Tests.{each}
 use Rattle.row.specs.declared.Row.{Row}
 use Rattle.row.specs.Numbers.{linesOf, isDigit, value, hold}
-use Rattle.row.specs.Meaning.{rowIsBegun, RowFresh, RowFollows}
+use Rattle.row.specs.Meaning.{mostColumns, rowIsBegun, rowNumbers, RowFresh, RowFollows}
 use Rattle.row.specs.Judging.{judged}
 use Rattle.row.proofs.Texts.{digit-is-not}
-use Rattle.row.proofs.Rows.{by-digit}
+use Rattle.row.proofs.Rows.{startRow, start-fresh, by-digit, by-separator, by-spoiling, foreign, parted-early, parted-late}
 use Rattle.row.proofs.Left.{next-byte, left-fresh, left-feed, left-byte}
-use Rattle.row.proofs.Judging.{judged-alike}
+use Rattle.row.proofs.Judging.{judged-alike, with-refused, with-bad, with-full, with-sound}
 use Rattle.share.specs.declared.Line.{Line}
+use Rattle.share.specs.Sharing.{mostNumber}
 use Rattle.share.specs.Forms.{sharedArray, nothingShared}
 use Rattle.lines.specs.declared.sheet.Sheet.{Sheet}
 use Rattle.lines.specs.declared.Reader.{Reader}
 use Rattle.lines.specs.declared.Taken.{Taken}
 use Rattle.lines.specs.Text.{space, asLine, lineOf, textLines, readText, takenShared, sharingLines}
-use Rattle.lines.specs.Meaning.{rowLine, wholeLine, linesLeft, sheetOutcome, meaning, LineFollows}
+use Rattle.lines.specs.Meaning.{rowLine, lineIn, wholeLine, linesLeft, sheetSoFar, sheetOutcome, meaning, LineFollows}
 use Rattle.lines.proofs.Lines.{lawful, holds}
 
 -- A byte
@@ -63,27 +66,97 @@ module _ (b : List ℕ) (i : ℕ) (first : Reader) where
       → (rest : List ℕ) → meaning s rest ≡ meaning first (b ++ rest)
   feed-end s h inv rest = ap (λ (l : List ℕ). meaning s (l ++ rest)) (sym (drop-of-length-le b h)) ∙ inv rest
 
--- the byte is a line feed
-pub line-arm : (row row' fresh : Row) (s s' r : Sheet) (b : ℕ) → b ≡ 10 → s' ≡ r → row' ≡ fresh → RowFresh fresh → ((ls : List Line) → sheetOutcome r ls ≡ sheetOutcome s (rowLine row [] ∷ ls))
-    → (rest : List ℕ) → meaning (record { row = row'; sheet = s' }) rest ≡ meaning (record { row = row; sheet = s }) (b ∷ rest)
-line-arm row row' fresh s s' r b e p q f c rest = (λ i. meaning (record { row = q i; sheet = p i }) rest) ∙ step-feed row fresh s r b e f c rest
+-- The sheet after a line's end, changed where it stands
 
--- it is another byte
-pub other-arm : (row row' r : Row) (s s' : Sheet) (b : ℕ) → (b ≡ 10 → ⊥) → s' ≡ s → row' ≡ r → LineFollows row b r
-    → (rest : List ℕ) → meaning (record { row = row'; sheet = s' }) rest ≡ meaning (record { row = row; sheet = s }) (b ∷ rest)
-other-arm row row' r s s' b ne p q f rest = (λ i. meaning (record { row = q i; sheet = p i }) rest) ∙ step-other row r s b ne f rest
+-- no line was refused, and the line's number and the room are enough
+abbrev isTaken : Sheet → Line → Bool
+isTaken s l = not (s .refused) && ltb (s .before) (l .number) && ltb (s .count) mostNumber
+
+pub has-room : (s : Sheet) (l : Line) → isTaken s l ≡ true → s .count < mostNumber
+has-room s l h = ltb-true (s .count) mostNumber (each (not (s .refused)) (ltb (s .before) (l .number) ∷ ltb (s .count) mostNumber ∷ []) h .1 .1 .0)
+
+module _ (row : Row) (s : Sheet) (l : Line) (fair : l ≡ lineIn row) where
+  pub in-place : isTaken s l ≡ true → (ls : List Line)
+      → sheetOutcome (record { refused = s .refused; before = l .number; count = s .count + 1; lines = set (s .lines) (s .count) l }) ls ≡ sheetOutcome s (rowLine row [] ∷ ls)
+  in-place h ls =
+      let p = each (not (s .refused)) (ltb (s .before) (l .number) ∷ ltb (s .count) mostNumber ∷ []) h in
+      let on = not-true (s .refused) (p .0) in
+      (λ i. sheetOutcome (record { refused = on i; before = l .number; count = s .count + 1; lines = set (s .lines) (s .count) l }) ls)
+      ∙ with-sound sharingLines lawful (sheetSoFar s) (rowLine row []) on l fair (ltb-true (s .before) (l .number) (p .1 .0)) (has-room s l h) ls
+
+  abbrev shut : Sheet
+  shut = record { refused = true; before = s .before; count = s .count; lines = s .lines }
+
+  pub out-of-place : isTaken s l ≡ false → (ls : List Line) → sheetOutcome shut ls ≡ sheetOutcome s (rowLine row [] ∷ ls)
+  out-of-place h ls = go (s .refused) (ltb (s .before) (l .number)) refl refl h
+    where
+      go : (t u : Bool) → s .refused ≡ t → ltb (s .before) (l .number) ≡ u → (not t && u && ltb (s .count) mostNumber) ≡ false → sheetOutcome shut ls ≡ sheetOutcome s (rowLine row [] ∷ ls)
+      go true u e k m =
+          (λ i. sheetOutcome (record { refused = sym e i; before = s .before; count = s .count; lines = s .lines }) ls)
+          ∙ with-refused sharingLines lawful (sheetSoFar s) (rowLine row []) e ls
+      go false false e k m =
+          with-bad sharingLines lawful (sheetSoFar s) (rowLine row []) e l fair (sheetSoFar shut) (refl, refl) (ltb-false (s .before) (l .number) k) ls
+      go false true e k m = with-full sharingLines lawful (sheetSoFar s) (rowLine row []) e (sheetSoFar shut) (refl, refl) (ltb-false (s .count) mostNumber m) ls
+
+-- One byte more, by what it is
+
+-- a row and a sheet after a byte
+pub record ByteRead (row : Row) (s : Sheet) (b : ℕ) (row' : Row) (s' : Sheet) : Type 0 where
+  pub long : length (row' .ended) ≡ length (row .ended)
+  pub says : (rest : List ℕ) → meaning (record { row = row'; sheet = s' }) rest ≡ meaning (record { row = row; sheet = s }) (b ∷ rest)
 
 -- the row's numbers after a byte are its line's
 pub line-follows : {row r : Row} {b : ℕ} → RowFollows space 4 row b r → LineFollows row b r
 line-follows f = record { begun = f .begun; line = λ rest. ap asLine (f .line rest) }
 
--- it is a digit
-pub digit-arm : (row row' : Row) (s s' : Sheet) (b v : ℕ) → isDigit b ≡ true → s' ≡ s
-    → row' ≡ record { bad = row .bad; digit = true; at = row .at; value = v; ended = row .ended }
-    → ((rest : List ℕ) → hold (value v rest) ≡ hold (value (row .value) (b ∷ rest)))
-    → (rest : List ℕ) → meaning (record { row = row'; sheet = s' }) rest ≡ meaning (record { row = row; sheet = s }) (b ∷ rest)
-digit-arm row row' s s' b v d p q h =
-    other-arm row row' _ s s' b (digit-is-not b 10 d (omega arith)) p q (line-follows (by-digit space 4 row b v (digit-is-not b space d (omega arith)) d h))
+-- the byte is a blank behind a number that others follow
+abbrev parts : Row → ℕ → Bool
+parts row b = eqb b space && row .digit && ltb (row .at) 4
+
+pub early : (row : Row) (b : ℕ) → parts row b ≡ true → row .at < 4
+early row b h = ltb-true (row .at) 4 (each (eqb b space) (row .digit ∷ ltb (row .at) 4 ∷ []) h .1 .1 .0)
+
+module _ (row row' : Row) (s s' : Sheet) (b : ℕ) where
+  -- a line feed
+  pub line-arm : (r : Sheet) → b ≡ 10 → s' ≡ r → row' ≡ startRow (row .ended) → ((ls : List Line) → sheetOutcome r ls ≡ sheetOutcome s (rowLine row [] ∷ ls)) → ByteRead row s b row' s'
+  line-arm r e p q c =
+      record {
+        long = ap (λ (x : Row). length (x .ended)) q;
+        says = λ rest. (λ i. meaning (record { row = q i; sheet = p i }) rest) ∙ step-feed row (startRow (row .ended)) s r b e (start-fresh (row .ended)) c rest;
+      }
+
+  -- another byte
+  other-arm : (r : Row) → (b ≡ 10 → ⊥) → s' ≡ s → row' ≡ r → length (r .ended) ≡ length (row .ended) → RowFollows space 4 row b r → ByteRead row s b row' s'
+  other-arm r ne p q long f =
+      record {
+        long = ap (λ (x : Row). length (x .ended)) q ∙ long;
+        says = λ rest. (λ i. meaning (record { row = q i; sheet = p i }) rest) ∙ step-other row r s b ne (line-follows f) rest;
+      }
+
+  -- a digit
+  pub digit-arm : (v : ℕ) → isDigit b ≡ true → s' ≡ s → row' ≡ record { bad = row .bad; digit = true; at = row .at; value = v; ended = row .ended }
+      → ((rest : List ℕ) → hold (value v rest) ≡ hold (value (row .value) (b ∷ rest))) → ByteRead row s b row' s'
+  digit-arm v d p q h =
+      other-arm _ (digit-is-not b 10 d (omega arith)) p q refl (by-digit space 4 row b v (digit-is-not b space d (omega arith)) d h)
+
+  -- a blank behind a number that others follow
+  pub blank-arm : (v : ℕ) → length (row .ended) ≡ mostColumns - 1 → parts row b ≡ true → s' ≡ s
+      → row' ≡ record { bad = row .bad; digit = false; at = row .at + 1; value = 0; ended = set (row .ended) (row .at) v } → v ≡ hold (row .value) → ByteRead row s b row' s'
+  blank-arm v long h p q e =
+      let t = each (eqb b space) (row .digit ∷ ltb (row .at) 4 ∷ []) h in
+      let is : b ≡ space = eqb-true b space (t .0) in
+      let room = early row b h in
+      other-arm _ (λ n. omega (arith, is, n)) p q (length-set (row .ended) (row .at) v) (rw is (by-separator 4 row (t .1 .0) (omega (arith, long, room)) v e space))
+
+  -- a byte that spoils its line: a foreign one, or a blank that parts no numbers
+  pub bad-arm : (b ≡ 10 → ⊥) → isDigit b ≡ false → parts row b ≡ false → s' ≡ s
+      → row' ≡ record { bad = true; digit = row .digit; at = row .at; value = row .value; ended = row .ended } → ByteRead row s b row' s'
+  bad-arm ne d h p q = other-arm _ ne p q refl (by-spoiling space 4 row _ b refl (go (eqb b space) (row .digit) refl refl h))
+    where
+      go : (t u : Bool) → eqb b space ≡ t → row .digit ≡ u → (t && u && ltb (row .at) 4) ≡ false → (rest : List ℕ) → rowNumbers space 4 row (b ∷ rest) ≡ []
+      go false u e k m rest = foreign space 4 row b (eqb-false b space e) d rest
+      go true false e k m rest = rw (eqb-true b space e) (parted-early space 4 row k rest)
+      go true true e k m rest = rw (eqb-true b space e) (parted-late space 4 row (ltb-false (row .at) 4 m) rest)
 
 -- The start of the text
 

@@ -2,10 +2,12 @@
 mod line;
 mod sheet;
 
+use line::LAST;
 use line::best;
-use line::stepped;
+use line::line_in;
 use row::Row;
 use row::grown;
+use row::hold;
 use row::is_digit;
 use share::Line;
 use share::Shared;
@@ -53,22 +55,12 @@ impl Reader {
         ensures { λ r. ⌜ ((text : List ℕ) → HasRead self text → HasRead r (text ++ b ∷ [])) ⌝ }
         ensures { λ r. ⌜ GoesOn self (b ∷ []) r ⌝ }
     {
-        let row = self.row;
-        let sheet = self.sheet;
-        if b == b'\n' {
-            let closed = sheet.with(row);
-            let fresh = Row::start();
-            return Reader {
-                row: fresh,
-                sheet: closed,
-            };
-        }
-        let next = stepped(row, b);
-        Reader { row: next, sheet }
+        let one = [b];
+        self.feed(&one)
     }
 
-    // The reader after some bytes more. The sheet is large: between line feeds only the row moves, and of the row at a digit only the open
-    // number, so that no array is copied for each byte.
+    // The reader after some bytes more. Row and sheet are changed where they stand: by a call that takes and returns them their arrays would
+    // be copied for each byte, or for each line. Numbers of an earlier line may stay in the row: none is read that has not ended in this one.
     pub fn feed(self, bytes: &[u8]) -> Reader
         ensures { λ r. ⌜ ((text : List ℕ) → HasRead self text → HasRead r (text ++ now (bytes .entry))) ⌝ }
         ensures { λ r. ⌜ GoesOn self (now (bytes .entry)) r ⌝ }
@@ -82,10 +74,27 @@ impl Reader {
                 row.digit = true;
                 row.value = grown(row.value, b);
             } else if b == b'\n' {
-                sheet = sheet.with(row);
-                row = Row::start();
+                let l = line_in(row);
+                let at = sheet.count;
+                if !sheet.refused & (sheet.before < l.number) & (at < MOST_LINES) {
+                    sheet.before = l.number;
+                    sheet.count = at + 1;
+                    sheet.lines[at] = l;
+                } else {
+                    sheet.refused = true;
+                }
+                row.bad = false;
+                row.digit = false;
+                row.at = 0;
+                row.value = 0;
+            } else if (b == b' ') & row.digit & (row.at < LAST) {
+                let at = row.at;
+                row.ended[at] = hold(row.value);
+                row.at = at + 1;
+                row.value = 0;
+                row.digit = false;
             } else {
-                row = stepped(row, b);
+                row.bad = true;
             }
             i += 1;
         }

@@ -18,7 +18,7 @@ ghost use Rattle.lines.specs.Meaning.{fairLine, fiveOf, lineIn, rowLine,
 const COLUMNS: usize = 5;
 
 // Which of them is the last, from 0 on.
-const LAST: usize = COLUMNS - 1;
+pub const LAST: usize = COLUMNS - 1;
 
 // The row after a byte of its line.
 pub fn stepped(row: Row, b: u8) -> Row

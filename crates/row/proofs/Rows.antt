@@ -122,12 +122,13 @@ module _ (last : ℕ) (row : Row) (digit : row .digit ≡ true) (room : row .at 
 
 -- The start of a line
 
-abbrev startRow : Row
-startRow = record { bad = false; digit = false; at = 0; value = 0; ended = replicate (mostColumns - 1) 0 }
+-- before any byte, whatever numbers of an earlier line are behind its place
+abbrev pub startRow : List ℕ → Row
+startRow ended = record { bad = false; digit = false; at = 0; value = 0; ended = ended }
 
-start-at : (last : ℕ) (p : List ℕ) (ps : List (List ℕ)) → rowAt last startRow p ps ≡ map hold (numbersIn (suc last) (p ∷ ps))
+start-at : (ended : List ℕ) (last : ℕ) (p : List ℕ) (ps : List (List ℕ)) → rowAt last (startRow ended) p ps ≡ map hold (numbersIn (suc last) (p ∷ ps))
 unfolding numbersIn
-start-at last p ps =
+start-at ended last p ps =
     let many : eqb (0 + length ps) last ≡ eqb (suc (length ps)) (suc last) = rw zero-add (sym (eqb·suc-suc (length ps) last)) in
     rw many (go (numbers (p ∷ ps) && eqb (suc (length ps)) (suc last)) (map (value 0) (p ∷ ps)))
   where
@@ -135,13 +136,13 @@ start-at last p ps =
     go true ns = refl
     go false ns = refl
 
-pub start-fresh : (row : Row) → row ≡ startRow → RowFresh row
+pub start-fresh : (ended : List ℕ) → RowFresh (startRow ended)
 unfolding rowNumbers numbersOf
-start-fresh row e =
+start-fresh ended =
     record {
-      unread = ap (λ (r : Row). rowIsBegun r) e;
-      line = λ separator last rest. ap (λ (r : Row). rowNumbers separator last r rest) e
-          ∙ by-parts separator (λ ps. rowParts last startRow ps ≡ map hold (numbersIn (suc last) ps)) (start-at last) rest;
+      unread = refl;
+      line = λ separator last rest.
+          by-parts separator (λ ps. rowParts last (startRow ended) ps ≡ map hold (numbersIn (suc last) ps)) (start-at ended last) rest;
     }
 
 -- The end of a line

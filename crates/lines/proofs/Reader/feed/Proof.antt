@@ -1,25 +1,28 @@
 use mathlib.Core.Path.{_≡_, refl, sym, _∙_}
 use mathlib.Core.List.{List, _++_}
 use mathlib.Core.Logic.{⊎-elim}
-use Prim.Native.Nat.{ℕ, _-_, _≤_}
+use Prim.Native.Nat.{ℕ, _-_, _≤_, _<_}
 use native.Mathlib.Omega.{arith}
 use lib.ListN.{length, drop, getD}
-use Rattle.lines.specs.declared.Reader.{Reader}
+use borrow.Author.Needs.{needs}
+use Rattle.row.specs.Meaning.{mostColumns}
+use Rattle.share.specs.Sharing.{mostNumber}
 use Rattle.lines.specs.Meaning.{meaning}
 use Rattle.lines.proofs.Stream.{read-on}
-use Rattle.lines.proofs.Sheets.{feed-on, feed-end, digit-arm, line-arm, other-arm}
+use Rattle.lines.proofs.Sheets.{feed-on, feed-end, has-room, early, in-place, out-of-place, ByteRead, digit-arm, line-arm, blank-arm, bad-arm}
 use Rattle.lines.proofs.Reader.feed.Statement.{statement}
 use Rattle.lines.proofs.Reader.feed.Tie as tie
 
 abbrev Inv-loop : tie.InvT-loop
 Inv-loop bytes row₀ sheet₀ i₀ row sheet i =
-    (i ≤ length bytes) × ((rest : List ℕ) → meaning (record { row = row; sheet = sheet }) (drop i bytes ++ rest) ≡ meaning (record { row = row₀; sheet = sheet₀ }) (bytes ++ rest))
+    (i ≤ length bytes) × (length (row .ended) ≡ mostColumns - 1)
+    × ((rest : List ℕ) → meaning (record { row = row; sheet = sheet }) (drop i bytes ++ rest) ≡ meaning (record { row = row₀; sheet = sheet₀ }) (bytes ++ rest))
 
 abbrev μ-loop : tie.MeasureT-loop
 μ-loop bytes row₀ sheet₀ i₀ row sheet i = length bytes - i
 
 loop-holds : tie.Need-loop-holds Inv-loop μ-loop
-loop-holds c = (omega arith, λ rest. refl)
+loop-holds c = (omega arith, search needs, λ rest. refl)
 
 shared-slice-read-b : tie.Need-shared-slice-read-b Inv-loop μ-loop
 shared-slice-read-b c = omega arith
@@ -30,14 +33,38 @@ is-digit-requires c κs = tt
 grown-requires : tie.Need-grown-requires Inv-loop μ-loop
 grown-requires c κs = sym (c .before .is-digit .ensures) ∙ c .if1 .taken
 
-with-requires : tie.Need-with-requires Inv-loop μ-loop
-with-requires c κs = tt
+line-in-requires : tie.Need-line-in-requires Inv-loop μ-loop
+line-in-requires c κs = tt
 
-start-requires : tie.Need-start-requires Inv-loop μ-loop
-start-requires c κs = tt
+not-full : (c : tie.Then3 Inv-loop μ-loop) → c .before .before .before .before .before .before .before .before .loop .sheet .count < mostNumber
+not-full c = has-room (c .before .before .before .before .before .before .before .before .loop .sheet) (c .before .before .line-in .result) (c .if3 .taken)
 
-stepped-requires : tie.Need-stepped-requires Inv-loop μ-loop
-stepped-requires c κs = tt
+add-sheet : tie.Need-add-sheet Inv-loop μ-loop
+add-sheet c = omega (arith, not-full c)
+
+mul-l : tie.Need-mul-l Inv-loop μ-loop
+mul-l c = omega (arith, not-full c)
+
+element-set-from-l : tie.Need-element-set-from-l Inv-loop μ-loop
+element-set-from-l c = omega (arith, not-full c)
+
+not-last : (c : tie.Then4 Inv-loop μ-loop) → c .before .before .before .before .before .before .loop .row .at < 4
+not-last c =
+    let l = c .before .before .before .before .before .before .loop in
+    let a = c .before .before .before .before .before .before .before .before .before .before .args in
+    early (l .row) (getD (a .bytes .now) (l .i) 0) (c .if4 .taken)
+
+hold-requires : tie.Need-hold-requires Inv-loop μ-loop
+hold-requires c κs = tt
+
+mul-row : tie.Need-mul-row Inv-loop μ-loop
+mul-row c = omega (arith, not-last (c .before))
+
+element-write-row : tie.Need-element-write-row Inv-loop μ-loop
+element-write-row c = omega (arith, not-last (c .before))
+
+add-row : tie.Need-add-row Inv-loop μ-loop
+add-row c = omega (arith, not-last (c .before))
 
 add-i : tie.Need-add-i Inv-loop μ-loop
 add-i c = omega arith
@@ -48,28 +75,32 @@ loop-less c = omega arith
 loop-again : tie.Need-loop-again Inv-loop μ-loop
 loop-again c =
     let a = c .before .before .before .before .before .before .before .before .args in
-    let b = a .bytes .now in
     let l = c .before .before .before .before .loop in
+    let b = a .bytes .now in
     let x = getD b (l .i) 0 in
     let is = c .before .is-digit .ensures in
     let t = c .if1 in
-    let s : Reader = record { row = l .row; sheet = l .sheet } in (
+    let step : ByteRead (l .row) (l .sheet) x (t .row) (t .sheet) =
+    ⊎-elim
+    (λ w. digit-arm _ _ _ _ x (w .1 .result) (sym is ∙ w .0 .taken) (w .3) (w .2) (w .1 .ensures))
+    (⊎-elim
+    (λ w. line-arm _ _ _ _ x _ (w .1 .taken) (w .6) (w .5) (in-place (l .row) (l .sheet) (w .2 .result) (w .2 .ensures) (w .4 .taken)))
+    (⊎-elim
+    (λ w. line-arm _ _ _ _ x _ (w .1 .taken) (w .6) (w .5) (out-of-place (l .row) (l .sheet) (w .2 .result) (w .2 .ensures) (w .4 .left)))
+    (⊎-elim
+    (λ w. blank-arm _ _ _ _ x (w .3 .result) (l .inv .1) (w .2 .taken) (w .5) (w .4) (w .3 .ensures))
+    (λ w. bad-arm _ _ _ _ x (w .1 .left) (sym is ∙ w .0 .left) (w .2 .left) (w .4) (w .3)))))
+    (t .came) in (
       omega arith,
-      feed-on b (l .i) (a .self) s (record { row = t .row; sheet = t .sheet }) (omega arith)
-          (⊎-elim
-          (λ w. digit-arm (l .row) (t .row) (l .sheet) (t .sheet) x (w .1 .result) (sym is ∙ w .0 .taken) (w .3) (w .2) (w .1 .ensures))
-          (⊎-elim
-          (λ w. line-arm (l .row) (t .row) (w .3 .result) (l .sheet) (t .sheet) (w .2 .result) x (w .1 .taken) (w .5) (w .4) (w .3 .ensures) (w .2 .ensures))
-          (λ w. other-arm (l .row) (t .row) (w .2 .result) (l .sheet) (t .sheet) x (w .1 .left) (w .4) (w .3) (w .2 .ensures)))
-          (t .came))
-          (l .inv .1),
+      step .long ∙ l .inv .1,
+      feed-on b (l .i) (a .self) (record { row = l .row; sheet = l .sheet }) (record { row = t .row; sheet = t .sheet }) (omega arith) (step .says) (l .inv .2),
     )
 
 returns : tie.Need-returns Inv-loop μ-loop
 returns c =
     let a = c .before .before .before .before .before .args in
     let l = c .before .loop in
-    read-on (a .self) _ (a .bytes .now) (feed-end (a .bytes .now) (l .i) (a .self) (record { row = l .row; sheet = l .sheet }) (omega arith) (l .inv .1))
+    read-on (a .self) _ (a .bytes .now) (feed-end (a .bytes .now) (l .i) (a .self) (record { row = l .row; sheet = l .sheet }) (omega arith) (l .inv .2))
 
 pub feed-spec : {M : Type 1} → statement M
 feed-spec =
@@ -81,9 +112,14 @@ feed-spec =
     shared-slice-read-b
     is-digit-requires
     grown-requires
-    with-requires
-    start-requires
-    stepped-requires
+    line-in-requires
+    add-sheet
+    mul-l
+    element-set-from-l
+    hold-requires
+    mul-row
+    element-write-row
+    add-row
     add-i
     loop-less
     loop-again

@@ -1,10 +1,9 @@
-use mathlib.Core.Path.{refl}
 use Rattle.row.proofs.Rows.{start-fresh}
 use Rattle.row.proofs.Row.start.Statement.{statement}
 use Rattle.row.proofs.Row.start.Tie as tie
 
 returns : tie.Need-returns
-returns c = start-fresh _ refl
+returns c = start-fresh _
 
 pub start-spec : {M : Type 1} → statement M
 start-spec = tie.close (tie.spec returns)
