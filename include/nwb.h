@@ -11,6 +11,8 @@
  *  - Buffers and cells must not overlap one another.
  *  - A length of 0 may come with a null pointer. Any address will do for bytes (a series is aligned as uint32_t asks).
  *    Lengths of bytes are in bytes, the length of a series is in values.
+ *  - A stack of 4 KiB is enough for every function, its return address and stack arguments included; how much each one takes is
+ *    the table of bench/README.md, "The stack". There is no heap, and nothing is kept between calls.
  *
  * The refusal numbers, when each comes and what its place counts, are the table of docs/FORMAT.md, "Refusal numbers";
  * the order in which a function asks them is said at the function.

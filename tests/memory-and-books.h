@@ -83,12 +83,19 @@ static inline int area_holds(const struct area *a, const void *contents, size_t 
     return 1;
 }
 
-/* A touched guard page ends the program; `report` may print what was being done. */
+/* A touched guard page ends the program; `report` may print what was being done. It has a stack of its own: the one in use may be what ran out. */
 static inline void on_touched_guard(void (*report)(int))
 {
+    static uint8_t space[GUARD];
+    stack_t own;
+    memset(&own, 0, sizeof own);
+    own.ss_sp = space;
+    own.ss_size = sizeof space;
+    sigaltstack(&own, NULL);
     struct sigaction act;
     memset(&act, 0, sizeof act);
     act.sa_handler = report;
+    act.sa_flags = SA_ONSTACK;
     sigemptyset(&act.sa_mask);
     sigaction(SIGSEGV, &act, NULL);
     sigaction(SIGBUS, &act, NULL);

@@ -1,160 +1,256 @@
-/* How much stack each function of the library takes: it runs on a stack of its own, filled with one byte, and what was overwritten is counted.
- * The inputs are full books, a full month, 64 lines and 60 actions, accepted and refused, so that every part of the library is entered. Prints a line a
- * function, and fails where one takes more than its bound, which docs/PROMISES.md names. */
+/* What takes the most of the stack: every function of nwb.h on its fullest inputs (512 + 512 records, a month of 31 days, 64 lines, 60 actions), accepted and with each
+ * refusal. Linked with tests/small-stack.c, so that each call has 4 KiB and a guard page below them. Fails where an answer is not the one meant, so that each path is
+ * seen to be gone, and names the call where a guard page was touched. */
 #define _DEFAULT_SOURCE
 #include "memory-and-books.h"
 #include "nwb.h"
-#include <ucontext.h>
 
-enum { STACK = 1 << 20, FILL = 0xa5, QUARTERS = 2976 };
+enum { FULL = 512, QUARTERS = 2976, LINES = 64, ACTIONS = 60 };
 
-static uint8_t *stack;
-static uint8_t first[BOOK_MOST], second[BOOK_MOST], damaged[BOOK_MOST], out[2 * BOOK_MOST], lines[24 * 65], actions[24 * 61];
-static size_t first_len, second_len, lines_len;
+static struct call calls[FULL + 1];
+static uint8_t first[BOOK_MOST], second[BOOK_MOST], spoilt[BOOK_MOST + 32], out[2 * BOOK_MOST], lines[24 * (LINES + 1)], actions[24 * (ACTIONS + 1)];
+static size_t first_len, second_len;
 static uint32_t series[QUARTERS];
 static uint64_t place, length, grains, fen, offset;
 static int64_t gap;
+static int failed, line_now;
 
-static void check(void)
+static void want(uint32_t got, uint32_t number)
 {
-    nwb_check(first, first_len, &place);
-    nwb_check(damaged, first_len, &place);
+    if (got != number) {
+        printf("stack: tests/stack.c:%d answered %u, not %u\n", line_now, got, number);
+        failed = 1;
+    }
 }
 
-static void none(void)
+#define WANT(number, call) (line_now = __LINE__, want(call, number))
+
+static void touched(int sig)
 {
-    nwb_none(1, 2026, 1, out, sizeof out, &place, &length);
-    nwb_none(0, 2026, 1, out, sizeof out, &place, &length);
+    printf("stack: tests/stack.c:%d: signal %d, more than 4 KiB of stack is needed, or another guard page was touched\n", line_now, sig);
+    fflush(stdout);
+    _exit(1);
 }
 
-static void one(void)
+/* ---- books ---- */
+
+/* A sound call of a service that is open to coal. */
+static struct call call_of(uint16_t member, uint32_t number, uint8_t service, uint16_t start)
 {
-    nwb_one(1, 2026, 1, 1, 3, 0, 9, 1, 0, 240, 0, 0, 0, out, sizeof out, &place, &length);
-    nwb_one(1, 2026, 1, 65, 3, 0, 9, 1, 0, 240, 0, 0, 0, out, sizeof out, &place, &length);
+    struct call c = {member, service, 0, number, 1, 0, 0, 0, 0, 0};
+    if (service >= 1 && service <= 4)
+        c.start = start, c.minutes = 15;
+    if (service == 2)
+        c.a = 200000;
+    if (service == 8)
+        c.start = start, c.a = 1000000000, c.b = 1000000000;
+    if (service == 9)
+        c.minutes = 40000;
+    if (service == 6 || service == 7 || service == 9)
+        c.b = c.c = 9901;
+    if (service == 6 || service == 7)
+        c.c = 0;
+    return c;
 }
 
-static void join(void)
+/* Books of 512 calls over 64 members and all services; half of the second's are of another revision, some contradict. */
+static void fill_books(void)
 {
-    nwb_join(first, first_len, first, first_len, out, sizeof out, &place, &length);
-    nwb_join(first, first_len, second, second_len, out, sizeof out, &place, &length);
-    nwb_join(second, second_len, first, 16 + 32 * 256, out, sizeof out, &place, &length);
-    nwb_join(first, first_len, damaged, first_len, out, sizeof out, &place, &length);
+    for (int i = 0; i < FULL; i++)
+        calls[i] = call_of((uint16_t)(i / 8 + 1), (uint32_t)i, (uint8_t)(i % 10 + 1), (uint16_t)(15 * (i % 100)));
+    first_len = put_book(first, 1, 2026, 1, calls, FULL);
+    for (int i = 0; i < FULL; i++) {
+        calls[i].revision = (uint32_t)(i % 2 + 1);
+        if (i % 3 == 0 && calls[i].service == 3)
+            calls[i].minutes = 30;
+        if (i % 7 == 0)
+            calls[i] = (struct call){calls[i].participant, 0, (uint8_t)(1 + i % 2), calls[i].number, 3, 0, 0, 0, 0, 0};
+    }
+    second_len = put_book(second, 1, 2026, 1, calls, FULL);
 }
 
-static void find(void)
+/* The first book with one fault, by the refusal that it is for; the fault is as far behind as it can be. */
+static size_t spoil(uint32_t number)
 {
-    nwb_find(first, first_len, second, second_len, 1, 511, &offset);
-    nwb_find(first, first_len, second, second_len, 2, 300, &offset);
-    nwb_find(first, first_len, damaged, first_len, 1, 1, &offset);
+    memcpy(spoilt, first, first_len);
+    switch (number) {
+    case 1: return first_len - 1;
+    case 2: spoilt[0] = 'M'; break;
+    case 3: spoilt[4] = 3; break;
+    case 4: spoilt[8] = 13; break;
+    case 5: spoilt[16 + 32 * 511 + 31] = 1; break;
+    case 6: memcpy(spoilt + 16 + 32 * 511, spoilt + 16 + 32 * 510, 32); break;
+    case 7: spoilt[8] = 3; break;
+    }
+    return first_len;
+}
+
+static void books(void)
+{
+    WANT(0, nwb_check(first, first_len, &place));
+    WANT(0, nwb_check(second, second_len, &place));
+    WANT(1, nwb_check(NULL, 0, &place));
+    for (uint32_t n = 1; n <= 6; n++)
+        WANT(n, nwb_check(spoilt, spoil(n), &place));
+    WANT(0, nwb_none(1, 2026, 1, out, sizeof out, &place, &length));
+    WANT(4, nwb_none(0, 2026, 1, out, sizeof out, &place, &length));
+    WANT(9, nwb_none(1, 2026, 1, NULL, 0, &place, &length));
+    for (uint8_t service = 0; service <= 10; service++)
+        for (uint8_t state = 0; state <= 2; state++) {
+            struct call c = call_of(64, UINT32_MAX, service, 30);
+            uint32_t no = (service == 0) == (state == 0) ? 5 : 0;
+            WANT(no, nwb_one(1, 2026, 1, 64, service, state, c.number, c.revision, c.start, c.minutes, c.a, c.b, c.c, out, sizeof out, &place, &length));
+        }
+    WANT(4, nwb_one(1, 2026, 13, 1, 3, 0, 9, 1, 0, 240, 0, 0, 0, out, sizeof out, &place, &length));
+    WANT(5, nwb_one(1, 2026, 1, 65, 3, 0, 9, 1, 0, 240, 0, 0, 0, out, sizeof out, &place, &length));
+    WANT(9, nwb_one(1, 2026, 1, 1, 3, 0, 9, 1, 0, 240, 0, 0, 0, out, 47, &place, &length));
+}
+
+/* ---- two books ---- */
+
+/* A part of the first book: one call in `step`, from `from` on. */
+static size_t part(uint8_t *book, int from, int step)
+{
+    size_t n = 0;
+    for (int i = from; i < FULL; i += step, n++)
+        memcpy(book + 16 + 32 * n, first + 16 + 32 * i, 32);
+    memcpy(book, first, 16);
+    put_bytes(book + 10, n, 2);
+    return 16 + 32 * n;
+}
+
+static void two_books(void)
+{
+    static uint8_t odd[BOOK_MOST], even[BOOK_MOST], last[BOOK_MOST];
+    size_t odd_len = part(odd, 1, 2), even_len = part(even, 0, 2), last_len = part(last, 511, 1);
+    WANT(0, nwb_join(first, first_len, first, first_len, out, sizeof out, &place, &length));
+    WANT(0, nwb_join(first, first_len, second, second_len, out, 16 + 32 * FULL, &place, &length));
+    WANT(0, nwb_join(second, second_len, first, first_len, out, sizeof out, &place, &length));
+    WANT(0, nwb_join(odd, odd_len, even, even_len, out, sizeof out, &place, &length));
+    WANT(0, nwb_join(last, last_len, second, second_len, out, sizeof out, &place, &length));
+    for (uint32_t n = 1; n <= 7; n++) {
+        WANT(n, nwb_join(spoilt, spoil(n), second, second_len, out, sizeof out, &place, &length));
+        WANT(n < 7 ? n + 20 : 7, nwb_join(first, first_len, spoilt, spoil(n), out, sizeof out, &place, &length));
+        WANT(0, nwb_find(spoilt, spoil(n), second, second_len, 64, 511, &offset));
+        WANT(0, nwb_find(first, first_len, spoilt, spoil(n), 64, 511, &offset));
+    }
+    put_bytes(last + 16 + 4, UINT32_MAX, 4); /* a call more than 512 */
+    WANT(8, nwb_join(first, first_len, last, last_len, out, sizeof out, &place, &length));
+    WANT(9, nwb_join(first, first_len, second, second_len, out, 15 + 32 * FULL, &place, &length));
+    WANT(9, nwb_join(odd, odd_len, even, even_len, NULL, 0, &place, &length));
+    for (uint32_t number = 0; number <= FULL; number++) {
+        line_now = __LINE__;
+        nwb_find(first, first_len, second, second_len, (uint16_t)(number / 8 + 1), number, &offset);
+        nwb_find(odd, odd_len, even, even_len, (uint16_t)(number / 8 + 1), number, &offset);
+    }
+}
+
+/* ---- pay ---- */
+
+/* The first member's calls, n of them made by `call_of`: of one service, or of every one in turn where it is 0. */
+static size_t month_of(uint8_t *book, int n, uint8_t service)
+{
+    for (int i = 0; i < n; i++)
+        calls[i] = call_of(1, (uint32_t)i, service ? service : (uint8_t)(i % 10 + 1), (uint16_t)(15 * i));
+    return put_book(book, 1, 2026, 1, calls, (size_t)n);
 }
 
 static void score(void)
 {
     for (unsigned kind = 0; kind <= 8; kind++)
-        for (uint16_t member = 1; member <= 64; member++)
+        for (uint16_t member = 0; member <= 65; member++) {
+            line_now = __LINE__;
             nwb_score(member, (uint8_t)kind, 300001, first, first_len, series, QUARTERS, &place, &grains, &fen);
-    nwb_score(1, 1, 300001, first, first_len, series, QUARTERS - 1, &place, &grains, &fen);
+        }
+    for (uint32_t n = 1; n <= 6; n++)
+        WANT(n, nwb_score(64, 1, 300001, spoilt, spoil(n), series, QUARTERS, &place, &grains, &fen));
+    size_t len = month_of(spoilt, 10, 0);
+    WANT(0, nwb_score(1, 1, 300001, spoilt, len, series, QUARTERS, &place, &grains, &fen));
+    for (uint8_t service = 1; service <= 10; service++) {
+        len = month_of(spoilt, FULL, service);
+        int fits = service <= 4 || service == 8 || service == 10;
+        WANT(fits ? 0 : 13, nwb_score(1, 1, 4000000, spoilt, len, series, QUARTERS, &place, &grains, &fen));
+        WANT(service == 1 || service == 2 || service == 3 || service == 4 || service == 6 || service == 8 ? 12 : fits ? 0 : 13,
+             nwb_score(1, 4, 4000000, spoilt, len, series, QUARTERS, &place, &grains, &fen));
+    }
+    calls[0] = (struct call){1, 1, 0, 0, 1, 0, 44640, 0, 0, 0}; /* a deep window of the whole month, and reserve beside it */
+    calls[1] = (struct call){1, 2, 0, 1, 1, 0, 44640, 299999, 0, 0};
+    len = put_book(spoilt, 1, 2026, 1, calls, 2);
+    WANT(0, nwb_score(1, 1, 300001, spoilt, len, series, QUARTERS, &place, &grains, &fen));
+    calls[1] = (struct call){1, 0, 1, 1, 1, 0, 0, 0, 0, 0};
+    len = put_book(spoilt, 1, 2026, 1, calls, 2);
+    WANT(14, nwb_score(1, 1, 300001, spoilt, len, series, QUARTERS, &place, &grains, &fen));
+    WANT(11, nwb_score(1, 1, 300001, spoilt, len, series, QUARTERS - 1, &place, &grains, &fen));
+    series[QUARTERS - 1] = 5000001;
+    WANT(11, nwb_score(1, 1, 300001, spoilt, len, series, QUARTERS, &place, &grains, &fen));
+    WANT(10, nwb_score(1, 1, 4000001, spoilt, len, series, QUARTERS, &place, &grains, &fen));
+}
+
+/* The longest moves at an index that does not come out even; then each fault in the last action. */
+static void ramp(void)
+{
+    static const struct { uint8_t at; uint32_t value; } faults[] = {{0, 5000001}, {4, 5000001}, {8, 5000001}, {8, 0}, {12, 301}, {16, 1000001}, {20, 0}, {20, 999982}};
+    struct action hour[ACTIONS + 1];
+    for (uint32_t i = 0; i <= ACTIONS; i++)
+        hour[i] = (struct action){0, 5000000 - i, 5000000, i, 999999 - i, 999983};
+    put_actions(actions, hour, ACTIONS + 1);
+    for (size_t n = 0; n <= ACTIONS; n++)
+        for (uint32_t rated = 1; rated <= 4000000; rated = 3 * rated + 1)
+            WANT(0, nwb_ramp(1, (uint8_t)(1 + n % 3), rated, actions, 24 * n, &place, &grains));
+    WANT(10, nwb_ramp(1, 1, 4000000, actions, 24 * (ACTIONS + 1), &place, &grains));
+    WANT(1, nwb_ramp(1, 1, 4000000, actions, 24 * ACTIONS - 1, &place, &grains));
+    WANT(10, nwb_ramp(0, 1, 4000000, actions, 24 * ACTIONS, &place, &grains));
+    WANT(12, nwb_ramp(1, 4, 4000000, actions, 24 * ACTIONS, &place, &grains));
+    for (size_t i = 0; i < sizeof faults / sizeof *faults; i++) {
+        put_actions(actions, hour, ACTIONS);
+        put_bytes(actions + 24 * (ACTIONS - 1) + faults[i].at, faults[i].value, 4);
+        WANT(10, nwb_ramp(1, 1, 4000000, actions, 24 * ACTIONS, &place, &grains));
+    }
+    fen = nwb_fen(UINT64_MAX);
+}
+
+/* ---- sharing ---- */
+
+/* 64 lines: energies that are all different, or all equal; what is shared is paid out, collected, or nothing. */
+static size_t fill_lines(uint32_t step, uint64_t compensation, uint32_t assessment)
+{
+    struct line l[LINES + 1];
+    for (uint32_t i = 0; i <= LINES; i++)
+        l[i] = (struct line){(uint16_t)(i + 1), (uint8_t)(i % 3), 5000000 - step * i, compensation - i * step, assessment};
+    return put_lines(lines, l, LINES + 1) - 24;
 }
 
 static void share(void)
 {
-    nwb_share(lines, lines_len, out, sizeof out, &place, &gap);
-    nwb_share(lines, lines_len, out, 0, &place, &gap);
-    nwb_share(lines, lines_len + 24, out, sizeof out, &place, &gap);
-}
-
-static void ramp(void)
-{
-    nwb_ramp(1, 1, 300001, actions, 24 * 60, &place, &grains);
-    nwb_ramp(1, 1, 300001, actions, 24 * 61, &place, &grains);
-    nwb_ramp(1, 4, 300001, actions, 24 * 60, &place, &grains);
-}
-
-static void in_fen(void) { fen = nwb_fen(grains); }
-
-static void nothing(void) {}
-
-static ucontext_t home, there;
-static void (*job)(void);
-
-static void away(void) { job(); }
-
-/* The bytes of the stack that a job overwrites. */
-static size_t taken(void (*what)(void))
-{
-    size_t kept = 0;
-    job = what;
-    memset(stack, FILL, STACK);
-    if (getcontext(&there) != 0)
-        exit(2);
-    there.uc_stack.ss_sp = stack;
-    there.uc_stack.ss_size = STACK;
-    there.uc_link = &home;
-    makecontext(&there, away, 0);
-    if (swapcontext(&home, &there) != 0)
-        exit(2);
-    while (kept < STACK && stack[kept] == FILL)
-        kept++;
-    return STACK - kept;
-}
-
-/* 512 calls over members 1 to 64 of every service, so that scoring pays, refuses and compares. */
-static void fill(void)
-{
-    static struct call calls[512];
-    for (int i = 0; i < 512; i++) {
-        struct call c = {(uint16_t)(i / 8 + 1), (uint8_t)(i % 10 + 1), 0, (uint32_t)i, 1, 0, 0, 0, 0, 0};
-        if (c.service <= 4) {
-            c.start = (uint16_t)(15 * (i % 100));
-            c.minutes = 15;
-        }
-        if (c.service == 9)
-            c.minutes = 40000;
-        if (c.service >= 6 && c.service <= 9)
-            c.b = 9900;
-        calls[i] = c;
+    for (uint32_t step = 0; step <= 3; step++) {
+        WANT(0, nwb_share(lines, fill_lines(step, 1500000007, 0), out, sizeof out, &place, &gap));
+        WANT(0, nwb_share(lines, fill_lines(step, 1000, 9999991), out, 16 * LINES, &place, &gap));
+        WANT(0, nwb_share(lines, fill_lines(step, 7000000, 7000000), out, sizeof out, &place, &gap));
     }
-    first_len = put_book(first, 1, 2026, 1, calls, 512);
-    for (int i = 0; i < 512; i++)
-        calls[i].revision = i % 2 + 1;
-    for (int i = 0; i < 512; i += 5)
-        if (calls[i].service == 3)
-            calls[i].minutes = 30;
-    second_len = put_book(second, 1, 2026, 1, calls, 512);
-    memcpy(damaged, first, first_len);
-    damaged[16 + 32 * 511 + 31] = 1;
-    for (int i = 0; i < QUARTERS; i++)
-        series[i] = (uint32_t)(i * 97 % 300000);
-    struct line l[65];
-    for (int i = 0; i < 65; i++)
-        l[i] = (struct line){(uint16_t)(i + 1), (uint8_t)(i % 3), 5000000u - (uint32_t)i, 1000000007u + (uint64_t)i * 3, (uint32_t)i * 7};
-    lines_len = put_lines(lines, l, 64);
-    put_lines(lines + lines_len, l + 64, 1);
-    struct action hour[61]; /* the longest moves at an index that does not come out even */
-    for (uint32_t i = 0; i < 61; i++)
-        hour[i] = (struct action){0, 5000000 - i, 5000000, i, 999999 - i, 999983};
-    put_actions(actions, hour, 61);
+    size_t len = fill_lines(1, 1500000007, 0);
+    WANT(9, nwb_share(lines, len, out, 16 * LINES - 1, &place, &gap));
+    WANT(10, nwb_share(lines, len + 24, out, sizeof out, &place, &gap));
+    WANT(1, nwb_share(lines, len - 1, out, sizeof out, &place, &gap));
+    for (int i = 0; i < LINES; i++)
+        put_bytes(lines + 24 * i + 4, 0, 4);
+    WANT(16, nwb_share(lines, len, out, sizeof out, &place, &gap));
+    put_bytes(lines + 24 * (LINES - 1) + 8, 100000000000, 8);
+    WANT(15, nwb_share(lines, len, out, sizeof out, &place, &gap));
+    lines[24 * (LINES - 1) + 23] = 1;
+    WANT(10, nwb_share(lines, len, out, sizeof out, &place, &gap));
+    WANT(0, nwb_share(NULL, 0, NULL, 0, &place, &gap));
 }
 
 int main(void)
 {
-    static const struct { const char *name; void (*job)(void); size_t most; } jobs[] = {
-        {"nwb_check", check, 256}, {"nwb_none", none, 256}, {"nwb_one", one, 512}, {"nwb_join", join, 512},
-        {"nwb_find", find, 512}, {"nwb_score", score, 512}, {"nwb_share", share, 2048},
-        {"nwb_ramp", ramp, 4096}, {"nwb_fen", in_fen, 256},
-    };
-    int failed = 0;
-    stack = mmap(NULL, STACK, PROT_READ | PROT_WRITE, MAP_PRIVATE | MAP_ANONYMOUS, -1, 0);
-    if (stack == MAP_FAILED)
-        return 2;
-    fill();
-    size_t least = taken(nothing);
-    for (size_t i = 0; i < sizeof jobs / sizeof jobs[0]; i++) {
-        size_t bytes = taken(jobs[i].job) - least;
-        printf("stack: %s %zu bytes, at most %zu\n", jobs[i].name, bytes, jobs[i].most);
-        failed |= bytes > jobs[i].most;
-    }
-    if (failed)
-        fprintf(stderr, "stack: a function takes more than its bound\n");
+    on_touched_guard(touched);
+    for (int i = 0; i < QUARTERS; i++)
+        series[i] = (uint32_t)(i * 97 % 300000);
+    fill_books();
+    books();
+    two_books();
+    score();
+    ramp();
+    share();
     return failed;
 }
