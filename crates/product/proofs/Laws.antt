@@ -18,15 +18,27 @@ pub parts-le : (n w : ℕ) {all q r : ℕ} → Parts (n * w) all q r → w ≤ a
 parts-le n w {all} {q} {r} p h =
     le-of-mul-le-mul-right {k = all} (omega (arith, p .sum, mul-le-mul-left n h)) (omega (arith, p .small))
 
--- Halving: the parts of m · w give those of n · w where n is 2 m or 2 m + 1.
-pub parts-none : (n w all : ℕ) → n ≡ 0 → 0 < all → Parts (n * w) all 0 0
-parts-none n w all e h = record { sum = omega (arith, ap (λ (x : ℕ). x * w) e); small = h }
+-- A product on its way: n times S, of which D is done and n is left, goes on with half of n and twice S.
+pub half-even : (n h S S′ D : ℕ) → n ≡ h * 2 → S′ ≡ S + S → D + h * S′ ≡ D + n * S
+half-even n h S S′ D e s = omega (arith, ap (λ (x : ℕ). x * S) e, ap (λ (x : ℕ). h * x) s)
 
-pub parts-even : (n m w : ℕ) {all q r q′ r′ : ℕ} → n ≡ m * 2 → Parts (m * w) all q r → Parts ((q * all + r) * 2 + 0) all q′ r′ → Parts (n * w) all q′ r′
-parts-even n m w e p d = record { sum = omega (arith, d .sum, p .sum, ap (λ (x : ℕ). x * w) e); small = d .small }
+pub half-odd : (n h S S′ D D′ : ℕ) → n ≡ h * 2 + 1 → S′ ≡ S + S → D′ ≡ D + S → D′ + h * S′ ≡ D + n * S
+half-odd n h S S′ D D′ e s d = omega (arith, ap (λ (x : ℕ). x * S) e, ap (λ (x : ℕ). h * x) s, d)
 
-pub parts-odd : (n m w : ℕ) {all q r q′ r′ : ℕ} → n ≡ m * 2 + 1 → Parts (m * w) all q r → Parts ((q * all + r) * 2 + w) all q′ r′ → Parts (n * w) all q′ r′
-parts-odd n m w e p d = record { sum = omega (arith, d .sum, p .sum, ap (λ (x : ℕ). x * w) e); small = d .small }
+-- Its quotients are at most n, where w is at most what it is divided by.
+pub done-le : (n w all q r X : ℕ) → w ≤ all → 0 < all → q * all + r + X ≡ n * w → q ≤ n
+done-le n w all q r X h z e = le-of-mul-le-mul-right {k = all} (omega (arith, e, mul-le-mul-left n h)) z
+
+pub step-le : (n w all left q r D : ℕ) → w ≤ all → 0 < all → 0 < left → D + left * (q * all + r) ≡ n * w → q ≤ n
+step-le n w all left q r D h z some e =
+    le-of-mul-le-mul-right {k = all} (omega (arith, e, mul-le-mul-left n h, mul-le-mul-right (q * all + r) some)) z
+
+-- At the start nothing is done, at the end nothing is left.
+pub at-start : (n w all : ℕ) → 0 < all → 0 * all + 0 + n * (w / all * all + w % all) ≡ n * w
+at-start n w all z = omega (arith, ap (λ (x : ℕ). n * x) (div-add-mod' w all))
+
+pub at-end : (n w all left S q r : ℕ) → left ≡ 0 → q * all + r + left * S ≡ n * w → r < all → Parts (n * w) all q r
+at-end n w all left S q r z e h = record { sum = omega (arith, e, ap (λ (x : ℕ). x * S) z); small = h }
 
 -- a product that fits: n times w is at most m where n is at most m over w
 pub product-fits : (n w m : ℕ) → n ≤ m / w → n * w ≤ m

@@ -2,6 +2,7 @@
 ghost use mathlib.Core.Path.{_≡_};
 ghost use Prim.Native.Nat.{_+_, _*_, _^_, _<_, _≤_};
 ghost use Rattle.product.specs.Product.{Parts};
+ghost use Rattle.product.specs.Inner.{whole, Goes, Went};
 
 // Quotient and remainder.
 pub struct Quot {
@@ -9,22 +10,16 @@ pub struct Quot {
     pub r: u64,
 }
 
-// Twice the product of which `h` are the parts, and x more.
-fn double(h: Quot, x: u64, all: u64) -> Quot
-    requires { ⌜ h .r < all ⌝ }
-    requires { ⌜ x ≤ all ⌝ }
+// The parts of a sum, from the parts of what is added.
+fn plus(a: Quot, b: Quot, all: u64) -> Quot
+    requires { ⌜ (a .r < all) × (a .q < 2 ^ 63) ⌝ }
+    requires { ⌜ (b .r < all) × (b .q < 2 ^ 63) ⌝ }
     requires { ⌜ all < 2 ^ 62 ⌝ }
-    requires { ⌜ h .q + 1 < 2 ^ 63 ⌝ }
-    ensures { λ r. ⌜ Parts ((h .q * all + h .r) * 2 + x) all (r .q) (r .r) ⌝ }
+    ensures { λ r. ⌜ Parts (whole all a + whole all b) all (r .q) (r .r) ⌝ }
 {
-    let q = h.q * 2;
-    let r = h.r * 2 + x;
-    if all * 2 <= r {
-        Quot {
-            q: q + 2,
-            r: r - all * 2,
-        }
-    } else if all <= r {
+    let q = a.q + b.q;
+    let r = a.r + b.r;
+    if all <= r {
         Quot {
             q: q + 1,
             r: r - all,
@@ -34,7 +29,35 @@ fn double(h: Quot, x: u64, all: u64) -> Quot
     }
 }
 
-// n times w over all, by halving n: no number on the way is above three times `all` or above n.
+// A product on its way: what is done, and `left` times `step` to come.
+struct Going {
+    left: u64,
+    step: Quot,
+    done: Quot,
+}
+
+// One halving of what is left, where there is any.
+fn next(g: Going, all: u64) -> Going
+    requires { ⌜ Goes all g ⌝ }
+    requires { ⌜ all < 2 ^ 62 ⌝ }
+    ensures { λ r. ⌜ Went all g r ⌝ }
+{
+    let before = g.step;
+    let done = g.done;
+    let left = g.left / 2;
+    let step = plus(before, before, all);
+    if g.left % 2 == 0 {
+        return Going { left, step, done };
+    }
+    let more = plus(done, before, all);
+    Going {
+        left,
+        step,
+        done: more,
+    }
+}
+
+// n times w over all, by halving n: no number on the way is above twice `all` or above twice n.
 fn mul_div(n: u64, w: u64, all: u64) -> Quot
     requires { ⌜ n < 2 ^ 63 ⌝ }
     requires { ⌜ 0 < all ⌝ }
@@ -42,15 +65,18 @@ fn mul_div(n: u64, w: u64, all: u64) -> Quot
     requires { ⌜ all < 2 ^ 62 ⌝ }
     ensures { λ r. ⌜ Parts (n * w) all (r .q) (r .r) ⌝ }
 {
-    if n == 0 {
-        return Quot { q: 0, r: 0 };
+    let mut g = Going {
+        left: n,
+        step: Quot {
+            q: w / all,
+            r: w % all,
+        },
+        done: Quot { q: 0, r: 0 },
+    };
+    while 0 < g.left {
+        g = next(g, all);
     }
-    let h = mul_div(n / 2, w, all);
-    if n % 2 == 0 {
-        double(h, 0, all)
-    } else {
-        double(h, w, all)
-    }
+    g.done
 }
 
 // The same: at once where the product fits 64 bits, as it does for every amount in fen up to 10^11.
