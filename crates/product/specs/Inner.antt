@@ -1,4 +1,4 @@
--- A product on its way, for the proofs of this crate alone.
+-- What inner contracts speak of: a product on its way. Assumes nothing.
 use mathlib.Core.Path.{_≡_}
 use Prim.Native.Nat.{ℕ, _+_, _*_, _/_, _^_, _<_}
 use Rattle.product.specs.declared.Quot.{Quot}
