@@ -18,8 +18,8 @@ use units::calendar::quarters_of;
 
 pub mod answer;
 mod records;
-mod refusal;
-mod series;
+pub mod refusal;
+pub mod series;
 
 // The grains of a sound register line over a sound book.
 fn sound_earned(member: Member, b: &[u8], series: &[u32]) -> Earned

@@ -1,0 +1,10 @@
+pub mod Sums
+pub mod OneWindow
+pub mod Apart
+pub mod Places
+pub mod Minutes
+pub mod OtherPay
+pub mod Given
+pub mod Answers
+pub mod BothWays
+pub mod Cases

@@ -1,0 +1,40 @@
+use borrow.Author.Tests.{not-true, not-false}
+use mathlib.Core.Path.{_≡_, sym, _∙_, ap}
+use mathlib.Core.Bool.{true}
+use Rattle.book.specs.declared.Verdict.{Verdict}
+use Rattle.book.specs.Check.{check}
+use Rattle.book.proofs.Judged.{zero-accepted}
+use Rattle.pay.specs.Member.{memberIsSound}
+use Rattle.reckon.proofs.Answers.{reckoned-10, reckoned-book, reckoned-sound}
+use borrow.Author.Needs.{needs}
+use Rattle.reckon.proofs.grains_reckoned.Statement.{statement}
+use Rattle.reckon.proofs.grains_reckoned.Tie as tie
+
+line-is : (c : tie.Else1) → memberIsSound (c .before .before .before .before .args .member) ≡ true
+line-is c = sym (c .before .is-sound .ensures) ∙ not-false _ (c .if1 .left)
+
+book-is : (c : tie.Else2) → check (c .before .before .before .before .before .before .args .b .now) .number ≡ 0
+book-is c = sym (ap (λ (v : Verdict). v .number) (c .before .check .ensures)) ∙ c .if2 .left
+
+is-sound-requires : tie.Need-is-sound-requires
+is-sound-requires c κs = search needs
+
+returns : tie.Need-returns
+returns c = sym (reckoned-10 _ _ _ (sym (c .before .is-sound .ensures) ∙ not-true _ (c .if1 .taken)))
+
+check-requires : tie.Need-check-requires
+check-requires c κs = search needs
+
+returns-2 : tie.Need-returns-2
+returns-2 c = sym (reckoned-book _ _ _ (line-is (c .before .before)) (c .before .check .result) (c .before .check .ensures) (c .if2 .taken))
+
+sound-reckoned-requires : tie.Need-sound-reckoned-requires
+sound-reckoned-requires c κs = (line-is (c .before .before), zero-accepted _ (book-is c))
+
+returns-3 : tie.Need-returns-3
+returns-3 c = c .sound-reckoned .ensures ∙ sym (reckoned-sound _ _ _ (line-is (c .before .before .before)) (book-is (c .before)))
+
+pub grains-reckoned-spec : {M : Type 1} → statement M
+grains-reckoned-spec =
+    tie.close
+    (tie.spec is-sound-requires returns check-requires returns-2 sound-reckoned-requires returns-3)

@@ -1,0 +1,46 @@
+use native.Mathlib.Omega.{arith}
+use mathlib.Core.Path.{sym, _∙_}
+use mathlib.Core.List.{[]}
+use borrow.Author.Tests.{not-true, not-false}
+use Rattle.book.specs.Book.{recordAt}
+use Rattle.score.proofs.Energy.{idle-turned}
+use borrow.Author.Needs.{needs}
+use Rattle.reckon.proofs.refusing.refusal_of.Statement.{statement}
+use Rattle.reckon.proofs.refusing.refusal_of.Tie as tie
+
+record-at-requires : tie.Need-record-at-requires
+record-at-requires c κs = search needs
+
+is-own-live-requires : tie.Need-is-own-live-requires
+is-own-live-requires c κs = search needs
+
+idle-refusal-requires : tie.Need-idle-refusal-requires
+idle-refusal-requires c κs = search needs
+
+returns : tie.Need-returns
+returns c =
+    let s = c .before .before .before .before .before in
+    let a = s .args in
+    let e = c .before .before .before .record-at .ensures in
+    let h = rw e at (sym (c .before .before .is-own-live .ensures) ∙ not-true (c .before .before .is-own-live .result) (c .before .if1 .taken)) in
+    idle-turned (a .month) (a .member) [] (recordAt (a .b .now)) (a .i) (s .pre .1 .0) h (c .idle-refusal .result) (rw (← e) (c .idle-refusal .ensures)) .refusal
+
+refusal-at-requires : tie.Need-refusal-at-requires
+refusal-at-requires c κs =
+    let s = c .before .before .before .before in
+    let e = c .before .before .record-at .ensures in
+    (omega arith, (e, (s .pre .1 .1, sym (c .before .is-own-live .ensures) ∙ not-false (c .before .is-own-live .result) (c .if1 .left))))
+
+returns-2 : tie.Need-returns-2
+returns-2 c = search needs
+
+pub refusal-of-spec : {M : Type 1} → statement M
+refusal-of-spec =
+    tie.close
+    (tie.spec
+    record-at-requires
+    is-own-live-requires
+    idle-refusal-requires
+    returns
+    refusal-at-requires
+    returns-2)

@@ -1,0 +1,3 @@
+pub mod Reckoning
+pub mod Inner
+pub mod Cases
