@@ -14,6 +14,7 @@ use Rattle.call.specs.declared.Call.{Call}
 use Rattle.call.specs.Services.{deepPeak, reserve}
 use Rattle.book.specs.Book.{recordAt}
 use Rattle.pay.specs.declared.Member.{Member}
+use Rattle.pay.specs.Member.{mostRated}
 use Rattle.pay.specs.Kinds.{coal, gas, hydro}
 use Rattle.pay.specs.Window.{lacking, deepPeakMinute, coalBand, coalMinute, gasHydroMinute, reserveMinute, minutePay}
 use Rattle.pay.specs.Event.{calledUp}
@@ -67,7 +68,7 @@ module _ (m : Member) (x : Call) (p : ℕ) where
   unfolding windowMinute minutePay
   window-other d r = simp (ne-eqb (x .service) deepPeak d, ne-eqb (x .service) reserve r)
 
-  pub window-most : m .rated .0 < 4294967296 → calledUp (x .a) < 4294967296 → windowMinute m x p ≤ mostMinute
+  pub window-most : m .rated .0 ≤ mostRated → calledUp (x .a) < 4294967296 → windowMinute m x p ≤ mostMinute
   unfolding windowMinute
   window-most h k = omega (arith, minute-most m (x .service) (calledUp (x .a)) p)
 

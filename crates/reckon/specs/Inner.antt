@@ -15,9 +15,9 @@ use Rattle.score.specs.Scoring.{whOf, whAt}
 use Rattle.reckon.specs.declared.windows.Windows.{Windows}
 use Rattle.reckon.specs.Reckoning.{isWindow, otherPay, otherAt}
 
--- no minute pays more, whatever 32 bits say of the rating and the called power
+-- no minute pays more, whatever 32 bits say of the called power
 abbrev pub mostMinute : ℕ
-mostMinute = 80000000000000
+mostMinute = 16000000000000
 
 -- the places of the windows among the first n records
 unfoldable pub placesOf : Member → ℕ → (ℕ → Call) → ℕ → List ℕ

@@ -32,8 +32,8 @@ use units::calendar::quarters_of;
 mod minute;
 mod others;
 mod refusing;
-mod walk;
-mod windows;
+pub mod walk;
+pub mod windows;
 
 // The month's grains: service 1, service 2, and the others.
 fn reckoned_grains(member: Member, b: &[u8], series: &[u32]) -> Grains

@@ -1,6 +1,7 @@
 // What one minute of a window pays at an output, by the paper's rule.
 ghost use mathlib.Core.Path.{_≡_};
 ghost use Prim.Native.Nat.{_≤_};
+ghost use Rattle.pay.specs.Member.{mostRated};
 ghost use Rattle.pay.specs.Window.{lacking, deepPeakMinute, coalBand, coalMinute, gasHydroMinute, reserveMinute};
 ghost use Rattle.reckon.specs.Reckoning.{windowMinute};
 ghost use Rattle.reckon.specs.Inner.{mostMinute};
@@ -89,6 +90,7 @@ fn reserve_minute(kind: u8, rated: Kw, top: Kw, p: Kw) -> Grains
 
 // A minute of window x at output p.
 pub fn window_minute(member: Member, x: Call, p: Kw) -> Grains
+    requires { ⌜ member .rated .0 ≤ mostRated ⌝ }
     ensures { λ r. ⌜ (r .0 ≡ windowMinute member x (p .0)) × (r .0 ≤ mostMinute) ⌝ }
 {
     let top = called_up(x.a);

@@ -3,6 +3,7 @@ ghost use mathlib.Core.Path.{_≡_};
 ghost use Prim.Native.Nat.{_*_, _≤_};
 ghost use lib.ListN.{getD, length};
 ghost use Rattle.book.specs.Book.{sizeOf, recordAt, callsFrom};
+ghost use Rattle.pay.specs.Member.{mostRated};
 ghost use Rattle.pay.specs.Sum.{total};
 ghost use Rattle.reckon.specs.Reckoning.{windowsOf, outputAt, minuteAt};
 ghost use Rattle.reckon.specs.Inner.{Placed, callsAt, mostMinute};
@@ -32,7 +33,8 @@ pub fn output_at(series: &[u32], minute: u32) -> Kw
 }
 
 // What a minute pays: by the first of the windows at these places that covers it, or nothing.
-fn minute_at(member: Member, b: &[u8], places: &[usize], series: &[u32], minute: u32) -> Grains
+pub fn minute_at(member: Member, b: &[u8], places: &[usize], series: &[u32], minute: u32) -> Grains
+    requires { ⌜ member .rated .0 ≤ mostRated ⌝ }
     requires { ⌜ Placed (now b) (now places) ⌝ }
     ensures { λ r. ⌜ (r .0 ≡ minuteAt member (now (series .entry)) (callsAt (now (b .entry)) (now (places .entry))) minute) × (r .0 ≤ mostMinute) ⌝ }
 {
@@ -56,6 +58,7 @@ fn minutes_walked(
     series: &[u32],
     minutes: u32,
 ) -> Grains
+    requires { ⌜ member .rated .0 ≤ mostRated ⌝ }
     requires { ⌜ Placed (now b) (now places) ⌝ }
     requires { ⌜ minutes ≤ 44640 ⌝ }
     ensures { λ r. ⌜ (r .0 ≡ total (minuteAt member (now (series .entry)) (callsAt (now (b .entry)) (now (places .entry)))) 0 minutes) × (r .0 ≤ minutes * mostMinute) ⌝ }
@@ -79,6 +82,7 @@ pub fn walked(
     series: &[u32],
     minutes: u32,
 ) -> Grains
+    requires { ⌜ member .rated .0 ≤ mostRated ⌝ }
     requires { ⌜ sizeOf n ≤ length (now b) ⌝ }
     requires { ⌜ n ≤ 512 ⌝ }
     requires { ⌜ minutes ≤ 44640 ⌝ }

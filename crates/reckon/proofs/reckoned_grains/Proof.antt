@@ -6,6 +6,7 @@ use Rattle.units.specs.Month.{minutesOf}
 use Rattle.units.proofs.Laws.{minutes-most}
 use Rattle.book.specs.declared.Header.{Header}
 use Rattle.book.specs.Book.{sizeOf, callsOf}
+use Rattle.pay.specs.Member.{mostRated}
 use Rattle.pay.proofs.Within.{line-of}
 use Rattle.reckon.specs.Reckoning.{walked, reckonedGrains}
 use Rattle.reckon.proofs.Given.{BookGiven, book-given, series-given}
@@ -17,12 +18,13 @@ book : (s : tie.Start) → BookGiven (s .args .b .now)
 book s = book-given (s .args .b .now) (s .pre .1 .0)
 
 -- the records are there and few, and so are the minutes
-ready : (c : tie.After-minutes-of) → (sizeOf (c .before .count-at .result) ≤ length (c .before .before .before .before .before .args .b .now))
-    × ((c .before .count-at .result ≤ 512) × (c .minutes-of .result ≤ 44640))
+ready : (c : tie.After-minutes-of) → (c .before .before .before .before .before .args .member .rated .0 ≤ mostRated)
+    × ((sizeOf (c .before .count-at .result) ≤ length (c .before .before .before .before .before .args .b .now)) × ((c .before .count-at .result ≤ 512) × (c .minutes-of .result ≤ 44640)))
 ready c =
-    let g = book (c .before .before .before .before .before) in
+    let s = c .before .before .before .before .before in
+    let g = book s in
     let n = c .before .count-at .ensures .0 in
-    (omega (arith, g .size), (omega (arith, g .few), rw (c .minutes-of .ensures) (minutes-most _ _)))
+    (line-of (s .args .member) (s .pre .0) .rated .1, (omega (arith, g .size), (omega (arith, g .few), rw (c .minutes-of .ensures) (minutes-most _ _))))
 
 header-at-requires : tie.Need-header-at-requires
 header-at-requires c κs = book (c .before .before) .long
@@ -45,14 +47,14 @@ others-earned-requires c κs =
     let r = ready (c .before .before) in
     let n = c .before .before .before .count-at .ensures .0 in
     let g = series-given (s .args .b .now) (s .args .series .now) (s .pre .1 .0) (s .pre .1 .1) in
-    ((line-of (s .args .member) (s .pre .0) .rated .1, g .short), (r .0, (r .1 .0, λ i l. g .sound i (omega arith))))
+    ((r .0, g .short), (r .1 .0, (r .1 .1 .0, λ i l. g .sound i (omega arith))))
 
 add-sum : tie.Need-add-sum
 add-sum c =
     let r = ready (c .before .before .before .before .before) in
     let a = c .before .before .before .before .walked .ensures .1 in
     let b = c .before .before .before .walked2 .ensures .1 in
-    omega (arith, r .1 .1)
+    omega (arith, r .1 .1 .1)
 
 add-sum-2 : tie.Need-add-sum-2
 add-sum-2 c =
@@ -60,7 +62,7 @@ add-sum-2 c =
     let a = c .before .before .before .before .before .walked .ensures .1 in
     let b = c .before .before .before .before .walked2 .ensures .1 in
     let o = c .before .before .before .others-earned .ensures .most in
-    omega (arith, r .1 .0, r .1 .1)
+    omega (arith, r .1 .1 .0, r .1 .1 .1)
 
 month-pay-requires : tie.Need-month-pay-requires
 month-pay-requires c κs =
@@ -68,7 +70,7 @@ month-pay-requires c κs =
     let a = c .before .before .before .before .before .walked .ensures .1 in
     let b = c .before .before .before .before .walked2 .ensures .1 in
     let o = c .before .before .before .others-earned .ensures in
-    (omega (arith, r .1 .0, r .1 .1, o .most), o .span)
+    (omega (arith, r .1 .1 .0, r .1 .1 .1, o .most), o .span)
 
 returns : tie.Need-returns
 unfolding reckonedGrains walked callsOf

@@ -26,7 +26,7 @@ shared-slice-read-place : tie.Need-shared-slice-read-place Inv-loop μ-loop
 shared-slice-read-place c = omega arith
 
 record-at-requires : tie.Need-record-at-requires Inv-loop μ-loop
-record-at-requires c κs = c .before .before .before .before .before .before .pre (c .before .before .loop .k) (omega arith)
+record-at-requires c κs = c .before .before .before .before .before .before .pre .1 (c .before .before .loop .k) (omega arith)
 
 covers-requires : tie.Need-covers-requires Inv-loop μ-loop
 covers-requires c κs = search needs

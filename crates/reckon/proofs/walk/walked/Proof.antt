@@ -20,7 +20,7 @@ minutes-walked-requires : tie.Need-minutes-walked-requires
 minutes-walked-requires c κs =
     let s = c .before .before .before .before .before in
     let f = c .before .before .windows-of .ensures in
-    (rw (f .places) (places-placed (s .args .member) (s .args .service) (s .args .b .now) (s .args .n) (s .pre .0)), s .pre .1 .1)
+    (s .pre .0, (rw (f .places) (places-placed (s .args .member) (s .args .service) (s .args .b .now) (s .args .n) (s .pre .1 .0)), s .pre .1 .1 .1))
 
 returns : tie.Need-returns
 returns c =
