@@ -1,0 +1,3 @@
+pub mod Year
+pub mod Verdict
+pub mod Inner
