@@ -4,3 +4,6 @@ pub mod Adding
 pub mod Statements
 pub mod Members
 pub mod Taking
+pub mod Exact
+pub mod Orders
+pub mod Highest

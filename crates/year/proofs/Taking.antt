@@ -105,7 +105,7 @@ most-in-turn before (s ∷ ss) t h =
     omega (arith, more, few, most-in-turn (before ++ s ∷ []) ss (t .1) (omega (arith, more, few)))
 
 -- the lines of a member among a month's: they fit, and there is at most one
-of-none : (number month before : ℕ) (ls : List YearLine) → linesAreSound before ls ≡ true → number ≤ before → ofMember number month ls ≡ []
+pub of-none : (number month before : ℕ) (ls : List YearLine) → linesAreSound before ls ≡ true → number ≤ before → ofMember number month ls ≡ []
 unfolding ofMember linesAreSound
 of-none number month before [] s h = refl
 of-none number month before (l ∷ ls) s h =

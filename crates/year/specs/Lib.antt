@@ -1,3 +1,4 @@
 pub mod Year
 pub mod Verdict
+pub mod Present
 pub mod Inner

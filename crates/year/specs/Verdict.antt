@@ -67,3 +67,9 @@ GoesOnAt ss k = GoesOn (take k ss) (getD ss k blankStatement)
 pub data YearVerdict (ss : List MonthStatement) (o : Year) : Type 0 where
   ten : (p : ℕ) → p < length ss → ((k : ℕ) → k < p → GoesOnAt ss k) → (GoesOnAt ss p → ⊥) → o ≡ yearRefused 10 p → YearVerdict ss o
   taken : ((k : ℕ) → k < length ss → GoesOnAt ss k) → o ≡ yearTaken ss → YearVerdict ss o
+
+-- statements that are accepted, said of the whole list: each within the limits, all of one year, their months rising
+pub record Acceptable (ss : List MonthStatement) : Type 0 where
+  pub fit : (k : ℕ) → k < length ss → StatementFits (getD ss k blankStatement)
+  pub year : (k : ℕ) → k < length ss → getD ss k blankStatement .year ≡ yearIn ss
+  pub months : (j k : ℕ) → j < k → k < length ss → getD ss j blankStatement .month < getD ss k blankStatement .month
