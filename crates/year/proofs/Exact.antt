@@ -11,7 +11,7 @@ use lib.Seq.{append-snoc}
 use Rattle.le.proofs.Tests.{refuted}
 use Rattle.year.specs.declared.MonthStatement.{MonthStatement}
 use Rattle.year.specs.declared.Year.{Year}
-use Rattle.year.specs.Year.{goesOn, firstBadStatement, yearRefused, yearTaken, yearOf}
+use Rattle.year.specs.Year.{goesOn, firstBadStatement, yearRefused, yearOf}
 use Rattle.year.specs.Verdict.{blankStatement, GoesOn, GoesOnAt, YearVerdict, ten, taken}
 use Rattle.year.proofs.Statements.{goes-on, on-goes}
 use Rattle.year.proofs.Taking.{bad-le, refused-is, taken-is}

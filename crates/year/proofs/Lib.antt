@@ -7,3 +7,6 @@ pub mod Taking
 pub mod Exact
 pub mod Orders
 pub mod Highest
+pub mod Zero
+pub mod Present
+pub mod Promises

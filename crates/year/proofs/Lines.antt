@@ -1,5 +1,5 @@
 -- Lines within the limits, by their tests and by their conditions. Assumes nothing.
-use mathlib.Core.Path.{_≡_, refl, sym, _∙_, ap}
+use mathlib.Core.Path.{_≡_, refl}
 use mathlib.Core.Bool.{Bool, true, false, _&&_}
 use mathlib.Core.List.{List, [], _∷_}
 use Prim.Native.Nat.{ℕ, zero, suc, _≤_, _<_}
@@ -8,12 +8,11 @@ use native.Mathlib.Omega.{arith}
 use borrow.Author.Tests.{ltb-true, leb-true, lt-ltb, le-leb}
 use lib.Dec.{ltb, leb}
 use lib.IntN.{ℤ, natAbs}
-use lib.ListN.{length, getD}
 use Rattle.le.proofs.Tests.{each, all}
 use Rattle.share.specs.Sharing.{mostNumber, mostCompensation, mostAssessment}
 use Rattle.year.specs.declared.YearLine.{YearLine}
 use Rattle.year.specs.Year.{mostEitherWay, isWithin, yearLineIsSound, linesAreSound}
-use Rattle.year.specs.Verdict.{blankLine, LineFits, numberBefore, LinesFit}
+use Rattle.year.specs.Verdict.{LineFits, numberBefore, LinesFit}
 
 pub within-yes : (z : ℤ) → isWithin z ≡ true → natAbs z ≤ mostEitherWay
 unfolding isWithin

@@ -5,11 +5,11 @@ use mathlib.Core.List.{List, [], _∷_, _++_, map, append-assoc, append-nil}
 use Prim.Native.Nat.{ℕ, zero, suc, _+_, _-_, _*_, _≤_, _<_}
 use native.Mathlib.Nat.{add-zero, suc-add, add-suc}
 use native.Mathlib.Omega.{arith}
-use borrow.Author.Tests.{eq-eqb, ne-eqb, eqb-true, eqb-false, le-leb}
-use lib.Dec.{eqb, leb}
-use lib.IntN.{ℤ, pos, natAbs, _+ℤ_}
+use borrow.Author.Tests.{eq-eqb, ne-eqb, le-leb}
+use lib.Dec.{eqb}
+use lib.IntN.{ℤ, natAbs, _+ℤ_}
 use lib.Signed.{ltZ}
-use lib.ListN.{length, getD, set, length-append}
+use lib.ListN.{length, getD, set}
 use Rattle.units.specs.Month.{monthsPerYear}
 use Rattle.share.specs.Sharing.{mostCompensation, mostAssessment}
 use Rattle.year.specs.declared.YearLine.{YearLine}
@@ -118,16 +118,16 @@ pub signed-exact : (a b : ℤ) → natAbs a ≤ mostStatements * mostEitherWay �
 unfolding signedPlus
 signed-exact a b h = rw (le-leb (natAbs a) (mostStatements * mostEitherWay) h)
 
-abbrev compensationOf : MonthLine → ℕ
+abbrev pub compensationOf : MonthLine → ℕ
 compensationOf e = e .line .compensation .0
 
-abbrev assessmentOf : MonthLine → ℕ
+abbrev pub assessmentOf : MonthLine → ℕ
 assessmentOf e = e .line .assessment .0
 
-abbrev shareOf : MonthLine → ℤ
+abbrev pub shareOf : MonthLine → ℤ
 shareOf e = e .line .share .0
 
-abbrev amountOf : MonthLine → ℤ
+abbrev pub amountOf : MonthLine → ℤ
 amountOf e = e .line .amount .0
 
 module _ (es : List MonthLine) (e : MonthLine) (f : AllFit es) (few : length es ≤ mostStatements) where

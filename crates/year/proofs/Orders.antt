@@ -1,22 +1,19 @@
 -- Statements that are accepted: each sound, all of one year, months rising; a member's lines rise with them. Assumes nothing.
 use mathlib.Core.Path.{_≡_, refl, sym, _∙_, ap, subst}
-use mathlib.Core.Bool.{Bool, true, false, cond}
-use mathlib.Core.List.{List, [], _∷_, _++_, append-nil}
+use mathlib.Core.Bool.{true}
+use mathlib.Core.List.{List, [], _∷_, _++_}
 use mathlib.Core.Logic.{_↔_}
 use Prim.Native.Nat.{ℕ, zero, suc, _+_, _≤_, _<_}
 use native.Mathlib.Decide.{decLt}
 use native.Mathlib.Omega.{arith}
-use lib.Dec.{eqb}
 use lib.ListN.{length, getD, length-append}
 use lib.Seq.{append-snoc}
-use borrow.Author.Tests.{eqb-true}
-use Rattle.year.specs.declared.YearLine.{YearLine}
 use Rattle.year.specs.declared.MonthStatement.{MonthStatement}
 use Rattle.year.specs.declared.Year.{Year}
-use Rattle.year.specs.Year.{mostStatements, linesIn, linesAreSound, statementIsSound, yearIn, lastMonth, goesOn, firstBadStatement, MonthLine, ofMember, presentIn, yearRefused, yearTaken, yearOf}
-use Rattle.year.specs.Verdict.{blankStatement, StatementFits, GoesOn, Acceptable}
-use Rattle.year.proofs.Statements.{statement-fits, fits-statement, lines-tested, turn-sound, goes-on, on-goes}
-use Rattle.year.proofs.Taking.{bad-le, refused-is, taken-is, InTurn, in-turn, turn-in, last-more, of-none, of-one}
+use Rattle.year.specs.Year.{mostStatements, statementIsSound, yearIn, lastMonth, firstBadStatement, yearRefused, yearTaken, yearOf}
+use Rattle.year.specs.Verdict.{blankStatement, StatementFits, Acceptable}
+use Rattle.year.proofs.Statements.{statement-fits, fits-statement, turn-sound, goes-on, on-goes}
+use Rattle.year.proofs.Taking.{bad-le, refused-is, taken-is, InTurn, in-turn, turn-in, last-more}
 
 -- months above m, rising
 abbrev pub Rises : ℕ → List MonthStatement → Type 0

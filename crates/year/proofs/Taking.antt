@@ -8,8 +8,8 @@ use native.Mathlib.Decide.{decLt}
 use native.Mathlib.Omega.{arith}
 use borrow.Author.Tests.{eq-eqb, ne-eqb, eqb-true, lt-ltb, le-ltb, ltb-true}
 use lib.Dec.{ltb, eqb}
-use lib.IntN.{ℤ, pos, natAbs, _+ℤ_}
-use lib.ListN.{length, take, replicate, length-append}
+use lib.IntN.{ℤ, pos, natAbs}
+use lib.ListN.{length, replicate, length-append}
 use lib.Seq.{append-snoc}
 use Rattle.le.proofs.Tests.{each}
 use Rattle.year.specs.declared.YearLine.{YearLine}
@@ -18,12 +18,12 @@ use Rattle.year.specs.declared.MemberYear.{MemberYear}
 use Rattle.year.specs.declared.Year.{Year}
 use Rattle.year.specs.Year.{mostStatements, mostMembers, mostEitherWay, linesIn, linesAreSound, yearLineIsSound, sumℤ, statementIsSound, yearIn, lastMonth, goesOn, firstBadStatement}
 use Rattle.year.specs.Year.{MonthLine, ofMember, presentIn, monthsFrom, hasMonth, sumℕ, sumsOf, largestOf, memberYear, noMonths, membersFrom, yearRefused, yearTaken, yearOf, HasTaken}
-use Rattle.year.specs.Verdict.{LineFits, StatementFits, GoesOn}
+use Rattle.year.specs.Verdict.{LineFits, GoesOn}
 use Rattle.year.specs.Inner.{IsMonth, signedPlus, withLines, yearTakes, yearTaking, yearWith}
 use Rattle.year.proofs.Signs.{abs-plus, sum-more}
 use Rattle.year.proofs.Lines.{line-fits, two}
 use Rattle.year.proofs.Statements.{statement-fits, lines-tested, turn-sound, goes-on}
-use Rattle.year.proofs.Members.{Fit, AllFit, fit-behind, signed-exact, membersBy, members-same, Ready, with-lines}
+use Rattle.year.proofs.Members.{AllFit, fit-behind, signed-exact, membersBy, members-same, with-lines}
 
 -- The first bad statement
 
@@ -181,7 +181,7 @@ unfolding yearIn
 year-more [] s h = refl
 year-more (x ∷ ss) s h = h (omega arith)
 
-abbrev userOf : MonthStatement → ℤ
+abbrev pub userOf : MonthStatement → ℤ
 userOf s = s .user .0
 
 users-most : (before ss : List MonthStatement) → InTurn before ss → natAbs (sumℤ (map userOf ss)) ≤ length ss * mostEitherWay

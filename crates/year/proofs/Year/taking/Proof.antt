@@ -1,6 +1,5 @@
 use Prim.Native.Nat.{_+_}
 use native.Mathlib.Omega.{arith}
-use Rattle.year.specs.declared.MonthStatement.{MonthStatement}
 use Rattle.year.specs.Inner.{yearTaking}
 use Rattle.year.proofs.Statements.{statement-fits, lines-tested}
 use Rattle.year.proofs.Taking.{takes-sound}

@@ -1,6 +1,5 @@
-use mathlib.Core.Path.{_≡_}
 use mir.Syntax.{w64}
-use mir.Val.{SFits, toZ, ofZ}
+use mir.Val.{SFits}
 use mir.ValLaws.{toZ-ofZ}
 use borrow.Author.Needs.{needs}
 use Rattle.year.specs.Year.{mostEitherWay, isWithin}
