@@ -10,3 +10,4 @@ pub mod Highest
 pub mod Zero
 pub mod Present
 pub mod Promises
+pub mod Examples
