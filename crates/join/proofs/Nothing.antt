@@ -35,7 +35,7 @@ use Rattle.join.proofs.Orders.{calls, any-order}
 use Rattle.join.proofs.Without.{keys-of}
 
 -- a record that is above another of its key stands against it
-upper-stands : {m : ℕ} (x y : Call) → CallWithin m x → CallWithin m y → callKey x ≡ callKey y → Below y x → standing x y ≡ x
+pub upper-stands : {m : ℕ} (x y : Call) → CallWithin m x → CallWithin m y → callKey x ≡ callKey y → Below y x → standing x y ≡ x
 upper-stands x y p q k b = go b (stood x y p q k)
   where
     go : Below y x → Stood x y → standing x y ≡ x
@@ -95,7 +95,7 @@ module _ (m : ℕ) (own : List Call) (bs : List (List Call)) (sounds : Sounds m 
           let b = stand-right r c w (within-in m own c (sounds own (here refl) .within) (f .0)) (h .1 ∙ sym (f .1)) in
           rw g (subst (λ (z : Call). Below c z) (a .2) b)
 
-  rule-same : (k : ℕ) → ruleOver (own ∷ bs) k ≡ ruleOver bs k
+  pub rule-same : (k : ℕ) → ruleOver (own ∷ bs) k ≡ ruleOver bs k
   rule-same k =
       let l = rule-least m bs k others in
       least-one (own ∷ bs) (own ∷ bs) k _ _ (λ b i. i) (λ b i. i) (rule-least m (own ∷ bs) k sounds)

@@ -46,7 +46,7 @@ fn key_at(b: &[u8], i: usize) -> u64
     key_of(participant, number)
 }
 
-fn index_of(key: u64, b: &[u8]) -> Index
+pub fn index_of(key: u64, b: &[u8]) -> Index
     requires { ⌜ IsAccepted (now b) ⌝ }
     ensures { λ r. ⌜ r ≡ indexOf key (now (b .entry)) ⌝ }
 {

@@ -39,7 +39,7 @@ unfolding withdrawnAt
 withdrawn-key r c = refl
 
 -- is a record of that key
-rule-keyed : (bs : List (List Call)) → Keyed (ruleOver bs)
+pub rule-keyed : (bs : List (List Call)) → Keyed (ruleOver bs)
 unfolding ruleOver ruleFor ruling
 rule-keyed bs k c h = go (those isWithdrawn cs) (those top cs) refl refl h
   where
@@ -82,11 +82,11 @@ or-none bs k = go (recordsOf k bs) refl
         let f = records-in k bs d (subst (λ (l : List Call). In d l) (sym e) (here refl)) in
         inr (in-different bs (f .0) k (f .1) (d, f .2))
 
-rule-find : (bs : List (List Call)) (k : ℕ) → recordOf k (ruleCalls bs) ≡ ruleOver bs k
+pub rule-find : (bs : List (List Call)) (k : ℕ) → recordOf k (ruleCalls bs) ≡ ruleOver bs k
 unfolding ruleCalls
 rule-find bs k = at-find (ruleOver bs) (rule-keyed bs) k (differentKeys bs) (or-none bs k)
 
-rule-rises : (bs : List (List Call)) → Rises 0 (ruleCalls bs)
+pub rule-rises : (bs : List (List Call)) → Rises 0 (ruleCalls bs)
 unfolding ruleCalls
 rule-rises bs = at-rises (ruleOver bs) (rule-keyed bs) 0 (differentKeys bs) (different-rise bs)
 

@@ -39,7 +39,7 @@ module _ (month : Month) (m : Member) (book : ℕ → Call) (i : ℕ) where
       refuse-live month m book i (eqb-true _ _ (p .0)) (eqb-true _ _ (p .1 .0)) o a d f
 
   -- not a live call of the member
-  idle-refusal : book i .state ≤ withdrawn → isOwnLive m (book i) ≡ false → refusalAt month m book i ≡ idleRefusal (m .number) (book i)
+  pub idle-refusal : book i .state ≤ withdrawn → isOwnLive m (book i) ≡ false → refusalAt month m book i ≡ idleRefusal (m .number) (book i)
   unfolding isOwnLive idleRefusal
   idle-refusal s h = go (eqb (book i .participant) (m .number)) (eqb (book i .state) contested) (eqb (book i .state) live) refl refl refl h
     where

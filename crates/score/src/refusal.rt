@@ -40,7 +40,7 @@ fn is_once(service: u8) -> bool
         | (service == AVC)
 }
 
-fn clashes(number: u16, x: Call, y: Call) -> bool
+pub fn clashes(number: u16, x: Call, y: Call) -> bool
     ensures { λ r. ⌜ r ≡ clashes number x y ⌝ }
 {
     let one = (y.participant == number) & (y.state == LIVE) & (y.service == x.service);

@@ -1,0 +1,4 @@
+pub mod Stale
+pub mod Refused
+pub mod Nothing
+pub mod Inner
