@@ -1,15 +1,15 @@
--- What is listed of a book, record by record. Assumes nothing.
+-- A record's turn in the list of what does not stand. Assumes nothing.
 use mathlib.Core.Path.{_≡_, refl, sym, _∙_, ap, subst}
 use mathlib.Core.Bool.{Bool, true, false, not}
-use mathlib.Core.List.{List, [], _∷_}
+use mathlib.Core.List.{List}
 use mathlib.Core.Option.{Option, none, some}
-use Prim.Native.Nat.{ℕ, suc, _+_, _-_, _<_, _≤_}
+use Prim.Native.Nat.{ℕ, _<_}
 use native.Mathlib.Omega.{arith}
 use borrow.Author.Tests.{ne-eqb, eq-eqb}
 use Rattle.call.specs.declared.Call.{Call}
 use Rattle.call.specs.Key.{callKey}
 use Rattle.book.specs.declared.Verdict.{Verdict}
-use Rattle.book.specs.Book.{countAt, recordAt, callsFrom, callsOf}
+use Rattle.book.specs.Book.{countAt, recordAt, callsOf}
 use Rattle.rule.specs.Standing.{sameCall}
 use Rattle.rule.specs.Keys.{recordOf}
 use Rattle.pair.specs.Screening.{screen}
@@ -23,28 +23,7 @@ use Rattle.drawer.specs.declared.stale.Why.the-variants.{Other}
 use Rattle.drawer.specs.declared.stale.StaleRecord.{StaleRecord}
 use Rattle.drawer.specs.declared.stale.NextStale.{NextStale}
 use Rattle.drawer.specs.declared.stale.NextStale.the-variants.{BadBooks}
-use Rattle.drawer.specs.Stale.{isThis, isStale, whyNot, whyOf, staleAt, listedFrom, staleOf, firstStale, nextStale}
-
--- Record i of a book: it is listed, or not; and behind the last one
-module _ (book joined : List ℕ) (i : ℕ) where
-  pub listed-hit : i < countAt book → isStale (callsOf joined) (recordAt book i) ≡ true
-      → staleOf book joined i ≡ staleAt joined i (recordAt book i) ∷ staleOf book joined (i + 1)
-  unfolding staleOf listedFrom callsFrom
-  listed-hit l e =
-      let h : countAt book - i ≡ suc (countAt book - (i + 1)) = omega arith in
-      let s : i + 1 ≡ suc i = omega arith in
-      rw (h, e, s) refl
-
-  pub listed-miss : i < countAt book → isStale (callsOf joined) (recordAt book i) ≡ false → staleOf book joined (i + 1) ≡ staleOf book joined i
-  unfolding staleOf listedFrom callsFrom
-  listed-miss l e =
-      let h : countAt book - i ≡ suc (countAt book - (i + 1)) = omega arith in
-      let s : i + 1 ≡ suc i = omega arith in
-      rw (h, e, s) refl
-
-  pub listed-end : countAt book ≤ i → staleOf book joined i ≡ []
-  unfolding staleOf listedFrom callsFrom
-  listed-end l = let h : countAt book - i ≡ 0 = omega arith in rw h refl
+use Rattle.drawer.specs.Stale.{isThis, isStale, whyNot, whyOf, isStaleAt, staleAt, staleOf, firstStale, nextStale}
 
 -- the index that a search finds is that of a record
 pub index-in : (b : List ℕ) (k : ℕ) (r : Index) → r ≡ indexOf k b → (j : ℕ) → r ≡ At j → j < countAt b
@@ -66,21 +45,20 @@ some-of b k j e = go (in-book b k)
     go (found i l p q) = let h : i ≡ j = cc in q ∙ ap (λ (n : ℕ). some (recordAt b n)) h
 
 -- Record i's turn, by the index r of the record that stands
-module _ (joined : List ℕ) (i : ℕ) (x c : Call) (is : x ≡ c) (k : ℕ) (key : k ≡ callKey x) (r : Index) (at : r ≡ indexOf k joined) where
-  its : r ≡ indexOf (callKey c) joined
+module _ (book joined : List ℕ) (i : ℕ) (x : Call) (is : x ≡ recordAt book i) (k : ℕ) (key : k ≡ callKey x) (r : Index) (at : r ≡ indexOf k joined) where
+  its : r ≡ indexOf (callKey (recordAt book i)) joined
   its = at ∙ ap (λ (n : ℕ). indexOf n joined) (key ∙ ap callKey is)
 
-  pub turn-missing : r ≡ Missing
-      → (true ≡ isStale (callsOf joined) c) × (_≡_ {A = StaleRecord} (record { place = i; stands = r; why = Other }) (staleAt joined i c))
-  unfolding isStale isThis staleAt whyOf
-  turn-missing e = let f = none-of joined (callKey c) (sym its ∙ e) in (rw f refl, rw (f, ← its) refl)
+  pub turn-missing : r ≡ Missing → (true ≡ isStaleAt book joined i) × (_≡_ {A = StaleRecord} (record { place = i; stands = r; why = Other }) (staleAt book joined i))
+  unfolding isStaleAt isStale isThis staleAt whyOf
+  turn-missing e = let f = none-of joined (callKey (recordAt book i)) (sym its ∙ e) in (rw f refl, rw (f, ← its) refl)
 
   pub turn-found : (j : ℕ) → r ≡ At j → (y : Call) → y ≡ recordAt joined j → (same : Bool) → same ≡ sameCall y x → (why : Why) → why ≡ whyNot y x
-      → (not same ≡ isStale (callsOf joined) c) × (_≡_ {A = StaleRecord} (record { place = i; stands = At j; why = why }) (staleAt joined i c))
-  unfolding isStale isThis staleAt whyOf
+      → (not same ≡ isStaleAt book joined i) × (_≡_ {A = StaleRecord} (record { place = i; stands = At j; why = why }) (staleAt book joined i))
+  unfolding isStaleAt isStale isThis staleAt whyOf
   turn-found j e y d same s why w =
       let g = sym its ∙ e in
-      let f = some-of joined (callKey c) j g in
+      let f = some-of joined (callKey (recordAt book i)) j g in
       (rw (f, s, d, is) refl, rw (f, g, w, d, is) refl)
 
 -- The refusal of two books

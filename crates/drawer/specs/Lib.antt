@@ -1,3 +1,4 @@
+pub mod Told
 pub mod Stale
 pub mod Refused
 pub mod Nothing

@@ -1,14 +1,17 @@
 -- Records of a book that are not the one that stands for their key. Assumes nothing.
-use mathlib.Core.Bool.{Bool, false, cond, not, _&&_}
-use mathlib.Core.List.{List, [], _∷_}
+use mathlib.Core.Path.{_≡_}
+use mathlib.Core.Bool.{Bool, true, false, cond, not, _&&_}
+use mathlib.Core.List.{List, [], _∷_, map, List·Memᴰ as In}
 use mathlib.Core.Option.{Option, none, some}
-use Prim.Native.Nat.{ℕ, suc, _-_}
+use Prim.Native.Nat.{ℕ, _-_, _<_}
 use lib.Dec.{ltb}
 use Rattle.call.specs.declared.Call.{Call}
 use Rattle.call.specs.Key.{callKey}
-use Rattle.book.specs.Book.{countAt, callsFrom, callsOf}
+use Rattle.call.specs.Revising.{callContested}
+use Rattle.book.specs.Book.{countAt, recordAt, callsOf}
 use Rattle.rule.specs.Standing.{sameCall, isContested, isWithdrawn}
 use Rattle.rule.specs.Keys.{recordOf}
+use Rattle.rule.specs.Whole.{ruleOver}
 use Rattle.pair.specs.Screening.{passes, screen}
 use Rattle.lookup.specs.Lookup.{indexOf}
 use Rattle.drawer.specs.declared.stale.Why.{Why}
@@ -16,6 +19,7 @@ use Rattle.drawer.specs.declared.stale.Why.the-variants.{Withdrawn, High
 use Rattle.drawer.specs.declared.stale.StaleRecord.{StaleRecord}
 use Rattle.drawer.specs.declared.stale.NextStale.{NextStale}
 use Rattle.drawer.specs.declared.stale.NextStale.the-variants.{BadBooks, NoneLeft, Next}
+use Rattle.drawer.specs.Told.{toldFrom}
 
 -- the record that stands for a key, where there is one, is this one
 unfoldable pub isThis : Option Call → Call → Bool
@@ -38,18 +42,22 @@ unfoldable pub whyOf : Option Call → Call → Why
 whyOf none c = Other
 whyOf (some r) c = whyNot r c
 
--- what is told of record i, which is c: where the record that stands lies in the joined book, and why c does not
-unfoldable pub staleAt : List ℕ → ℕ → Call → StaleRecord
-staleAt joined i c = record { place = i; stands = indexOf (callKey c) joined; why = whyOf (recordOf (callKey c) (callsOf joined)) c }
+-- record k of a book is listed
+unfoldable pub isStaleAt : List ℕ → List ℕ → ℕ → Bool
+isStaleAt book joined k = isStale (callsOf joined) (recordAt book k)
 
--- what is listed of calls of which the first is record i
-unfoldable pub listedFrom : List ℕ → ℕ → List Call → List StaleRecord
-listedFrom joined i [] = []
-listedFrom joined i (c ∷ cs) = cond (isStale (callsOf joined) c) (staleAt joined i c ∷ listedFrom joined (suc i) cs) (listedFrom joined (suc i) cs)
+-- what is told of it: where the record that stands lies in the joined book, and why this one does not stand
+unfoldable pub staleAt : List ℕ → List ℕ → ℕ → StaleRecord
+staleAt book joined k =
+    record {
+      place = k;
+      stands = indexOf (callKey (recordAt book k)) joined;
+      why = whyOf (recordOf (callKey (recordAt book k)) (callsOf joined)) (recordAt book k);
+    }
 
 -- what is listed of a book, from record i on
 unfoldable pub staleOf : List ℕ → List ℕ → ℕ → List StaleRecord
-staleOf book joined i = listedFrom joined i (callsFrom book i (countAt book - i))
+staleOf book joined i = toldFrom (isStaleAt book joined) (staleAt book joined) i (countAt book - i)
 
 -- the first of them
 unfoldable pub firstStale : List StaleRecord → NextStale
@@ -61,3 +69,24 @@ unfoldable pub nextStale : List ℕ → List ℕ → ℕ → NextStale
 nextStale book joined i =
     cond (passes (screen book joined)) (firstStale (staleOf book joined i))
     (BadBooks (screen book joined .number) (screen book joined .place))
+
+-- What the promises speak of
+
+-- nothing is listed of any of the books
+abbrev pub NothingListed : List ℕ → List (List ℕ) → Type 0
+NothingListed joined bs = (b : List ℕ) → In b bs → staleOf b joined 0 ≡ []
+
+-- each book agrees with what stands: each of its records is the one that the rule over all of them gives
+abbrev pub EachStands : List (List ℕ) → Type 0
+EachStands bs = (b : List ℕ) → In b bs → (c : Call) → In c (callsOf b) → ruleOver (map callsOf bs) (callKey c) ≡ some c
+
+-- no two of them have different records for one key
+abbrev pub NoneDiffer : List (List ℕ) → Type 0
+NoneDiffer bs =
+    (b : List ℕ) → In b bs → (d : List ℕ) → In d bs → (x : Call) → In x (callsOf b) → (y : Call) → In y (callsOf d) → callKey x ≡ callKey y → x ≡ y
+
+-- why c does not stand where r does, a row each
+pub data Reason (r c : Call) (why : Why) : Type 0 where
+  withdrawn-elsewhere : why ≡ Withdrawn → isWithdrawn r ≡ true → isWithdrawn c ≡ false → Reason r c why
+  revised-elsewhere : why ≡ Higher → isWithdrawn r ≡ isWithdrawn c → c .revision < r .revision → Reason r c why
+  contested-here : why ≡ Contested → isWithdrawn c ≡ false → r ≡ callContested c → Reason r c why

@@ -18,6 +18,7 @@ ghost use Rattle.call.specs.Revising.{withdrawn};
 ghost use Rattle.book.specs.Book.{HasRecord, sizeOf, recordAt};
 ghost use Rattle.book.specs.Check.{check, accepted};
 ghost use Rattle.score.specs.Refusing.{refusalAt};
+ghost use Rattle.score.specs.Scoring.{monthAt};
 ghost use Rattle.score.specs.Inner.{NoneBefore};
 ghost use Rattle.drawer.specs.Refused.{firstAgainst, refusedAt, refusedOf, firstRefusal, nextRefused};
 
@@ -68,7 +69,8 @@ fn refusal_of(month: Month, member: Member, b: &[u8], first: usize, i: usize) ->
 // What is told of record i, which is refused with a number.
 fn refused_at(member: Member, b: &[u8], i: usize, number: u32) -> RefusedRecord
     requires { ⌜ HasRecord (now b) i ⌝ }
-    ensures { λ r. ⌜ r ≡ refusedAt member (recordAt (now (b .entry))) i number ⌝ }
+    requires { ⌜ number ≡ refusalAt (monthAt (now b)) member (recordAt (now b)) i ⌝ }
+    ensures { λ r. ⌜ r ≡ refusedAt member (now (b .entry)) i ⌝ }
 {
     let x = record_at(b, i);
     let against = first_against(b, i, member.number, x);

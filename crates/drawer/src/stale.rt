@@ -9,10 +9,10 @@ use lookup::index_of;
 use pair::screen;
 ghost use mathlib.Core.Path.{_≡_};
 ghost use Prim.Native.Nat.{_<_};
-ghost use Rattle.book.specs.Book.{countAt, recordAt, callsOf};
+ghost use Rattle.book.specs.Book.{countAt};
 ghost use Rattle.rule.specs.Standing.{sameCall};
 ghost use Rattle.pair.specs.Screening.{IsAccepted};
-ghost use Rattle.drawer.specs.Stale.{isStale, whyNot, staleAt, staleOf, firstStale, nextStale};
+ghost use Rattle.drawer.specs.Stale.{whyNot, isStaleAt, staleAt, staleOf, firstStale, nextStale};
 
 // Why a record does not stand: the call is withdrawn, there is a higher revision, it is contested at this revision; for none of these where
 // the record that stands does not come from joining it.
@@ -80,8 +80,8 @@ fn stale_turn(book: &[u8], joined: &[u8], i: usize) -> StaleTurn
     requires { ⌜ IsAccepted (now book) ⌝ }
     requires { ⌜ IsAccepted (now joined) ⌝ }
     requires { ⌜ i < countAt (now book) ⌝ }
-    ensures { λ r. ⌜ r .listed ≡ isStale (callsOf (now (joined .entry))) (recordAt (now (book .entry)) i) ⌝ }
-    ensures { λ r. ⌜ r .told ≡ staleAt (now (joined .entry)) i (recordAt (now (book .entry)) i) ⌝ }
+    ensures { λ r. ⌜ r .listed ≡ isStaleAt (now (book .entry)) (now (joined .entry)) i ⌝ }
+    ensures { λ r. ⌜ r .told ≡ staleAt (now (book .entry)) (now (joined .entry)) i ⌝ }
 {
     let x = record_at(book, i);
     let index = index_of(x.key(), joined);

@@ -81,7 +81,7 @@ module _ (number : ℕ) (x y : Call) where
   abbrev rest : List Bool
   rest = eqb (y .state) live ∷ eqb (y .service) (x .service) ∷ (shared || isOnce (x .service)) ∷ []
 
-  against-of : clashes number x y ≡ true → Against number x y
+  pub against-of : clashes number x y ≡ true → Against number x y
   unfolding clashes overlaps
   against-of h =
       let p = each (eqb (y .participant) number) rest h in

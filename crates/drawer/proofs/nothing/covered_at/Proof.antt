@@ -56,14 +56,15 @@ returns c =
 returns-2 : tie.Need-returns-2
 unfolding recordAt
 returns-2 c =
-    let a = c .before .before .before .before .before .before .before .before .before .before .before .before .args in
-    let x = c .before .before .before .before .before .before .before .before .before .record-at in
-    let k = c .before .before .before .before .before .before .before .before .key in
-    let r = c .before .before .before .before .before .before .before .index-of in
+    let j = c .before .before .before .before .before in
+    let a = j .before .before .before .before .before .before .before .args in
+    let x = j .before .before .before .before .record-at in
+    let k = j .before .before .before .key in
+    let r = j .before .before .index-of in
     let d = c .before .decide-at in
-    c .is-first .ensures
-    ∙ covered-found _ (x .result) _ (x .ensures) (k .result) (k .ensures) (r .result) (r .ensures) (c .before .before .before .before .before .index .given .0 .0) (c .before .before .before .before .before .index .given .1) (d .result)
-    (d .ensures ∙ ap₂ (λ (p q : ℕ). decide (callAt (a .others .now) p) (callAt (a .book .now) q)) (c .before .before .before .place-of .ensures) (c .before .before .place-of2 .ensures))
+    let of-both = ap₂ (λ (p q : ℕ). decide (callAt (a .others .now) p) (callAt (a .book .now) q)) (c .before .before .before .place-of .ensures) (c .before .before .place-of2 .ensures) in
+    let covered = covered-found _ (x .result) _ (x .ensures) (k .result) (k .ensures) (r .result) (r .ensures) (j .index .given .0 .0) (j .index .given .1) (d .result) in
+    c .is-first .ensures ∙ covered (d .ensures ∙ of-both)
 
 pub covered-at-spec : {M : Type 1} → statement M
 covered-at-spec =

@@ -1,4 +1,4 @@
-use mathlib.Core.Path.{_≡_, refl, _∙_, ap}
+use mathlib.Core.Path.{refl}
 use native.Mathlib.Omega.{arith}
 use Rattle.drawer.specs.Refused.{refusedAt}
 use borrow.Author.Needs.{needs}
@@ -13,7 +13,7 @@ first-against-requires c κs = omega arith
 
 returns : tie.Need-returns
 unfolding refusedAt
-returns c = rw (c .first-against .ensures, c .before .record-at .ensures) refl
+returns c = rw (c .first-against .ensures, c .before .record-at .ensures, c .before .before .before .pre .1) refl
 
 pub refused-at-spec : {M : Type 1} → statement M
 refused-at-spec = tie.close (tie.spec record-at-requires first-against-requires returns)

@@ -12,8 +12,9 @@ use Rattle.score.proofs.Checked.{all-sound}
 use Rattle.lookup.proofs.Places.{fits}
 use Rattle.join.proofs.Books.{long, size}
 use Rattle.drawer.specs.declared.refused.NextRefused.the-variants.{Next}
-use Rattle.drawer.specs.Refused.{refusedAt, refusedOf, firstRefusal}
-use Rattle.drawer.proofs.Refusals.{refused-hit, refused-miss, refused-end}
+use Rattle.drawer.specs.Refused.{isRefusedAt, refusedAt, refusedOf, firstRefusal}
+use Rattle.drawer.proofs.Telling.{told-hit, told-miss, told-end}
+use Rattle.drawer.proofs.Refusals.{is-refused, not-refused}
 use Rattle.drawer.proofs.refused.refused_from.Statement.{statement}
 use Rattle.drawer.proofs.refused.refused_from.Tie as tie
 
@@ -41,11 +42,13 @@ inside c = omega (arith, c .before .before .before .count-at .ensures .0)
 
 -- the refusal is one of record `at` in the book's month
 number-is : (c : tie.After-refusal-of Inv-loop μ-loop)
-    → c .refusal-of .result ≡ refusalAt (monthAt (c .before .before .before .before .before .before .before .args .b .now)) (c .before .before .before .before .before .before .before .args .member) (recordAt (c .before .before .before .before .before .before .before .args .b .now)) (c .before .before .loop .at)
+    → let a = c .before .before .before .before .before .before .before .args in
+    c .refusal-of .result ≡ refusalAt (monthAt (a .b .now)) (a .member) (recordAt (a .b .now)) (c .before .before .loop .at)
 number-is c =
     let a = c .before .before .before .before .before .before .before .args in
+    let at = c .before .before .loop .at in
     c .refusal-of .ensures
-    ∙ ap (λ (h : Header). refusalAt (record { year = h .year; month = h .month }) (a .member) (recordAt (a .b .now)) (c .before .before .loop .at)) (c .before .before .before .before .before .header-at .ensures)
+    ∙ ap (λ (h : Header). refusalAt (record { year = h .year; month = h .month }) (a .member) (recordAt (a .b .now)) at) (c .before .before .before .before .before .header-at .ensures)
 
 refusal-of-requires : tie.Need-refusal-of-requires Inv-loop μ-loop
 refusal-of-requires c κs =
@@ -56,15 +59,17 @@ refusal-of-requires c κs =
     )
 
 refused-at-requires : tie.Need-refused-at-requires Inv-loop μ-loop
-refused-at-requires c κs = fits _ _ (c .before .before .before .before .before .before .before .before .pre) (inside (c .before .before)) .1
+refused-at-requires c κs = (fits _ _ (c .before .before .before .before .before .before .before .before .pre) (inside (c .before .before)) .1, number-is (c .before))
 
 returns : tie.Need-returns Inv-loop μ-loop
-unfolding firstRefusal
+unfolding refusedOf firstRefusal
 returns c =
     let t = c .before .before in
+    let a = t .before .before .before .before .before .before .before .args in
     let l = c .before .before .before .before .loop in
-    ap Next (c .refused-at .ensures)
-    ∙ ap firstRefusal (sym (refused-hit _ _ (l .at) (inside (c .before .before .before)) (t .refusal-of .result) (number-is t) (c .before .if1 .taken)) ∙ l .inv)
+    let its = is-refused (a .member) (a .b .now) (l .at) (t .refusal-of .result) (number-is t) (c .before .if1 .taken) in
+    let hit = told-hit (isRefusedAt (a .member) (a .b .now)) (refusedAt (a .member) (a .b .now)) _ (l .at) (inside (c .before .before .before)) its in
+    ap Next (c .refused-at .ensures) ∙ ap firstRefusal (sym hit ∙ l .inv)
 
 add-at : tie.Need-add-at Inv-loop μ-loop
 add-at c = omega arith
@@ -73,15 +78,20 @@ loop-less : tie.Need-loop-less Inv-loop μ-loop
 loop-less c = omega arith
 
 loop-again : tie.Need-loop-again Inv-loop μ-loop
+unfolding refusedOf
 loop-again c =
+    let a = c .before .before .before .before .before .before .before .before .args in
     let l = c .before .before .before .loop in
-    refused-miss _ _ (l .at) (inside (c .before .before)) (sym (number-is (c .before)) ∙ c .if1 .left) ∙ l .inv
+    let its = not-refused (a .member) (a .b .now) (l .at) (c .before .refusal-of .result) (number-is (c .before)) (c .if1 .left) in
+    told-miss (isRefusedAt (a .member) (a .b .now)) (refusedAt (a .member) (a .b .now)) _ (l .at) (inside (c .before .before)) its ∙ l .inv
 
 returns-2 : tie.Need-returns-2 Inv-loop μ-loop
-unfolding firstRefusal
+unfolding refusedOf firstRefusal
 returns-2 c =
+    let a = c .before .before .before .before .before .before .args in
     let l = c .before .loop in
-    ap firstRefusal (sym (refused-end _ _ (l .at) (omega (arith, c .before .before .before .count-at .ensures .0))) ∙ l .inv)
+    let end = told-end (isRefusedAt (a .member) (a .b .now)) (refusedAt (a .member) (a .b .now)) (countAt (a .b .now)) (l .at) (omega (arith, c .before .before .before .count-at .ensures .0)) in
+    ap firstRefusal (sym end ∙ l .inv)
 
 pub refused-from-spec : {M : Type 1} → statement M
 refused-from-spec =

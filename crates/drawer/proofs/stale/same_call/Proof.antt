@@ -16,7 +16,8 @@ b-fits c = search needs
 returns : tie.Need-returns
 unfolding sameCall
 returns c =
-    let s = c .before .before .before .before .before .before .before .before .before .before .before .before .before .before .before .before .before .before .before .before .before .before .before .before .before .before in
+    let h = c .before .before .before .before .before .before .before .before .before .before .before .before .before in
+    let s = h .before .before .before .before .before .before .before .before .before .before .before .before .before in
     rw (toZ-ofZ w32 (s .args .x .a) (a-fits s), toZ-ofZ w32 (s .args .y .a) (b-fits s)) refl
 
 pub same-call-spec : {M : Type 1} → statement M

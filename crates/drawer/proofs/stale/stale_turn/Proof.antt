@@ -36,17 +36,18 @@ returns c =
     let x = c .before .before .before .before .record-at in
     let k = c .before .before .before .key in
     let r = c .before .before .index-of in
-    turn-missing _ (c .before .before .before .before .before .before .before .args .i) (x .result) _ (x .ensures) (k .result) (k .ensures) (r .result) (r .ensures) (c .enum-told .given .1)
+    turn-missing _ _ (c .before .before .before .before .before .before .before .args .i) (x .result) (x .ensures) (k .result) (k .ensures) (r .result) (r .ensures) (c .enum-told .given .1)
 
 returns-2 : tie.Need-returns-2
 returns-2 c =
-    let x = c .before .before .before .before .before .before .before .before .record-at in
-    let k = c .before .before .before .before .before .before .before .key in
-    let r = c .before .before .before .before .before .before .index-of in
     let y = c .before .before .record-at2 in
     let s = c .before .same-call in
-    turn-found _ (c .before .before .before .before .before .before .before .before .before .before .before .args .i) (x .result) _ (x .ensures) (k .result) (k .ensures) (r .result) (r .ensures)
-    (c .before .before .before .before .index .given .0 .0) (c .before .before .before .before .index .given .1) (y .result) (y .ensures) (s .result) (s .ensures) (c .why-not .result) (c .why-not .ensures)
+    let d = c .before .before .before .before in
+    let r = d .before .before .index-of in
+    let k = d .before .before .before .key in
+    let x = d .before .before .before .before .record-at in
+    turn-found _ _ (d .before .before .before .before .before .before .before .args .i) (x .result) (x .ensures) (k .result) (k .ensures) (r .result) (r .ensures)
+    (d .index .given .0 .0) (d .index .given .1) (y .result) (y .ensures) (s .result) (s .ensures) (c .why-not .result) (c .why-not .ensures)
 
 pub stale-turn-spec : {M : Type 1} → statement M
 stale-turn-spec =
