@@ -16,7 +16,8 @@ use Rattle.year.specs.declared.YearLine.{YearLine}
 use Rattle.year.specs.declared.MemberYear.{MemberYear}
 use Rattle.year.specs.Year.{yearLineIsSound, linesAreSound, sumℤ, amountsOf, addsToZero, noMonths}
 use Rattle.year.specs.Verdict.{blankLine, LineFits}
-use Rattle.year.specs.Inner.{mostSum, memberWith, putLine, withLines}
+use Rattle.year.specs.Every.{memberWith, putLine, withLines}
+use Rattle.year.specs.Inner.{mostSum}
 use Rattle.year.proofs.Signs.{zero-bits}
 use Rattle.year.proofs.Lines.{lines-step, lines-bad, lines-fit}
 

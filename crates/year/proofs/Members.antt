@@ -17,8 +17,8 @@ use Rattle.year.specs.declared.Largest.{Largest}
 use Rattle.year.specs.declared.MemberYear.{MemberYear}
 use Rattle.year.specs.Year.{mostStatements, mostMembers, mostEitherWay, yearLineIsSound, linesAreSound, sumℤ, MonthLine, ofMember, hasMonth, monthsFrom, sumℕ, sumsOf, amountIn}
 use Rattle.year.specs.Year.{largestFrom, largestOf, memberYear, noMonths}
-use Rattle.year.specs.Verdict.{LineFits}
-use Rattle.year.specs.Inner.{IsMonth, fenPlus, thousandthsPlus, signedPlus, sumsWith, largestWith, memberWith, putLine, withLines}
+use Rattle.year.specs.Verdict.{LineFits, IsMonth}
+use Rattle.year.specs.Every.{fenPlus, thousandthsPlus, signedPlus, sumsWith, largestWith, memberWith, putLine, withLines}
 use Rattle.year.proofs.Signs.{abs-plus, sum-more}
 use Rattle.year.proofs.Lines.{line-fits, two}
 

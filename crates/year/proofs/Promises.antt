@@ -17,7 +17,8 @@ use Rattle.year.specs.declared.Year.{Year}
 use Rattle.year.specs.Year.{mostMembers, linesIn, sumℤ, yearIn, lastMonth, firstBadStatement, MonthLine, presentIn, hasMonth, monthsFrom, sumℕ, sumsOf, amountIn, largestOf}
 use Rattle.year.specs.Year.{memberYear, noMonths, yearRefused, yearTaken, yearOf, HasTaken}
 use Rattle.year.specs.Present.{LineOf, ownLine}
-use Rattle.year.specs.Inner.{IsMonth, yearWith}
+use Rattle.year.specs.Verdict.{IsMonth}
+use Rattle.year.specs.Every.{yearWith}
 use Rattle.year.proofs.Members.{members-at}
 use Rattle.year.proofs.Taking.{bad-le, bad-stays, refused-is, taken-is, InTurn, in-turn, turn-in, members-by, present-behind}
 use Rattle.year.proofs.Orders.{Rises, AllOf, Sounds, turn-rises, turn-sounds, turn-year, all-turn, accepted-all, all-accepted}

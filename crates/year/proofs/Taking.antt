@@ -18,8 +18,8 @@ use Rattle.year.specs.declared.MemberYear.{MemberYear}
 use Rattle.year.specs.declared.Year.{Year}
 use Rattle.year.specs.Year.{mostStatements, mostMembers, mostEitherWay, linesIn, linesAreSound, yearLineIsSound, sumℤ, statementIsSound, yearIn, lastMonth, goesOn, firstBadStatement}
 use Rattle.year.specs.Year.{MonthLine, ofMember, presentIn, monthsFrom, hasMonth, sumℕ, sumsOf, largestOf, memberYear, noMonths, membersFrom, yearRefused, yearTaken, yearOf, HasTaken}
-use Rattle.year.specs.Verdict.{LineFits, GoesOn}
-use Rattle.year.specs.Inner.{IsMonth, signedPlus, withLines, yearTakes, yearTaking, yearWith}
+use Rattle.year.specs.Verdict.{LineFits, GoesOn, IsMonth}
+use Rattle.year.specs.Every.{signedPlus, withLines, yearTakes, yearTaking, yearWith}
 use Rattle.year.proofs.Signs.{abs-plus, sum-more}
 use Rattle.year.proofs.Lines.{line-fits, two}
 use Rattle.year.proofs.Statements.{statement-fits, lines-tested, turn-sound, goes-on}

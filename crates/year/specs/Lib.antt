@@ -1,4 +1,5 @@
 pub mod Year
 pub mod Verdict
 pub mod Present
+pub mod Every
 pub mod Inner

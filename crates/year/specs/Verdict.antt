@@ -43,10 +43,14 @@ numberBefore first ls (suc k) = getD ls k blankLine .number
 abbrev pub LinesFit : ℕ → List YearLine → Type 0
 LinesFit first ls = (k : ℕ) → k < length ls → LineFits (getD ls k blankLine) × (numberBefore first ls k < getD ls k blankLine .number)
 
+-- a month of a year
+abbrev pub IsMonth : ℕ → Type 0
+IsMonth month = (1 ≤ month) × (month ≤ monthsPerYear)
+
 -- a statement within the limits, whose amounts add up to zero
 pub record StatementFits (s : MonthStatement) : Type 0 where
   pub year : (firstYear ≤ s .year) × (s .year ≤ lastYear)
-  pub month : (1 ≤ s .month) × (s .month ≤ monthsPerYear)
+  pub month : IsMonth (s .month)
   pub few : s .count ≤ mostMembers
   pub user : natAbs (s .user .0) ≤ mostEitherWay
   pub lines : LinesFit 0 (linesIn s)

@@ -7,15 +7,15 @@ ghost use mathlib.Core.Bool.{true};
 ghost use mathlib.Core.List.{List, [], _∷_, _++_};
 ghost use Rattle.year.specs.declared.MonthStatement.{MonthStatement};
 ghost use Rattle.year.specs.Year.{yearRefused, HasTaken};
-ghost use Rattle.year.specs.Inner.{yearTakes, yearTaking, yearWith};
+ghost use Rattle.year.specs.Every.{yearTakes, yearTaking, yearWith};
 
+mod judging;
 mod member;
-mod statement;
 
+use judging::statement_is_sound;
 use member::no_members;
 use member::signed_plus;
 use member::with_lines;
-use statement::statement_is_sound;
 
 // The most statements, which are as many as a year has months, and the most members.
 pub const MOST_STATEMENTS: usize = 12;

@@ -15,8 +15,9 @@ ghost use lib.IntN.{natAbs, _+ℤ_};
 ghost use lib.ListN.{take, set, replicate};
 ghost use Rattle.share.specs.Sharing.{mostCompensation, mostAssessment};
 ghost use Rattle.year.specs.Year.{mostMembers, mostEitherWay, linesAreSound, noMonths};
-ghost use Rattle.year.specs.Verdict.{LineFits};
-ghost use Rattle.year.specs.Inner.{IsMonth, mostSum, fenPlus, thousandthsPlus, signedPlus, sumsWith, largestWith, memberWith, withLines};
+ghost use Rattle.year.specs.Verdict.{LineFits, IsMonth};
+ghost use Rattle.year.specs.Every.{fenPlus, thousandthsPlus, signedPlus, sumsWith, largestWith, memberWith, withLines};
+ghost use Rattle.year.specs.Inner.{mostSum};
 
 // What twelve statements can come to.
 const MOST_YEAR_FEN: u64 = 1_200_000_000_000;

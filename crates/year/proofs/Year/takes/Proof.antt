@@ -1,5 +1,5 @@
 use borrow.Author.Needs.{needs}
-use Rattle.year.specs.Inner.{yearTakes}
+use Rattle.year.specs.Every.{yearTakes}
 use Rattle.year.proofs.Year.takes.Statement.{statement}
 use Rattle.year.proofs.Year.takes.Tie as tie
 

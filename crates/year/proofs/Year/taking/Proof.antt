@@ -1,6 +1,6 @@
 use Prim.Native.Nat.{_+_}
 use native.Mathlib.Omega.{arith}
-use Rattle.year.specs.Inner.{yearTaking}
+use Rattle.year.specs.Every.{yearTaking}
 use Rattle.year.proofs.Statements.{statement-fits, lines-tested}
 use Rattle.year.proofs.Taking.{takes-sound}
 use Rattle.year.proofs.Year.taking.Statement.{statement}

@@ -1,6 +1,6 @@
 use borrow.Author.Needs.{needs}
 use borrow.Author.Tests.{le-leb, lt-leb}
-use Rattle.year.specs.Inner.{fenPlus}
+use Rattle.year.specs.Every.{fenPlus}
 use Rattle.year.proofs.member.fen_plus.Statement.{statement}
 use Rattle.year.proofs.member.fen_plus.Tie as tie
 

@@ -6,7 +6,7 @@ use mir.Syntax.{w64}
 use mir.Val.{SFits}
 use mir.ValLaws.{toZ-ofZ}
 use borrow.Author.Needs.{needs}
-use Rattle.year.specs.Inner.{largestWith}
+use Rattle.year.specs.Every.{largestWith}
 use Rattle.year.proofs.member.largest_with.Statement.{statement}
 use Rattle.year.proofs.member.largest_with.Tie as tie
 

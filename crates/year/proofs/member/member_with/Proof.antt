@@ -1,5 +1,5 @@
 use borrow.Author.Needs.{needs}
-use Rattle.year.specs.Inner.{memberWith}
+use Rattle.year.specs.Every.{memberWith}
 use Rattle.year.proofs.member.member_with.Statement.{statement}
 use Rattle.year.proofs.member.member_with.Tie as tie
 

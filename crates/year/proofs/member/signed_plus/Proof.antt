@@ -10,7 +10,7 @@ use mir.ValLaws.{toZ-ofZ}
 use borrow.Author.Needs.{needs}
 use borrow.Author.Tests.{leb-true}
 use Rattle.year.specs.Year.{mostStatements, mostEitherWay}
-use Rattle.year.specs.Inner.{signedPlus}
+use Rattle.year.specs.Every.{signedPlus}
 use Rattle.year.proofs.Signs.{either-way}
 use Rattle.year.proofs.member.signed_plus.Statement.{statement}
 use Rattle.year.proofs.member.signed_plus.Tie as tie

@@ -1,5 +1,5 @@
 use borrow.Author.Needs.{needs}
-use Rattle.year.specs.Inner.{sumsWith}
+use Rattle.year.specs.Every.{sumsWith}
 use Rattle.year.proofs.member.sums_with.Statement.{statement}
 use Rattle.year.proofs.member.sums_with.Tie as tie
 

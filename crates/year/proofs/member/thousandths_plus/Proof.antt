@@ -1,6 +1,6 @@
 use borrow.Author.Needs.{needs}
 use borrow.Author.Tests.{le-leb, lt-leb}
-use Rattle.year.specs.Inner.{thousandthsPlus}
+use Rattle.year.specs.Every.{thousandthsPlus}
 use Rattle.year.proofs.member.thousandths_plus.Statement.{statement}
 use Rattle.year.proofs.member.thousandths_plus.Tie as tie
 

@@ -5,7 +5,7 @@ use lib.ListN.{length, getD, take, drop, length-set}
 use borrow.Author.Needs.{needs}
 use Rattle.year.specs.Year.{mostMembers}
 use Rattle.year.specs.Verdict.{blankLine, LineFits}
-use Rattle.year.specs.Inner.{withLines}
+use Rattle.year.specs.Every.{withLines}
 use Rattle.year.proofs.Adding.{fits-at, lines-on, lines-end}
 use Rattle.year.proofs.member.with_lines.Statement.{statement}
 use Rattle.year.proofs.member.with_lines.Tie as tie

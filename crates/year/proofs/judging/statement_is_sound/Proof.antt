@@ -3,8 +3,8 @@ use native.Mathlib.Omega.{arith}
 use borrow.Author.Needs.{needs}
 use borrow.Author.Tests.{not-true, not-false}
 use Rattle.year.proofs.Statements.{undated, too-many, user-beyond, by-lines}
-use Rattle.year.proofs.statement.statement_is_sound.Statement.{statement}
-use Rattle.year.proofs.statement.statement_is_sound.Tie as tie
+use Rattle.year.proofs.judging.statement_is_sound.Statement.{statement}
+use Rattle.year.proofs.judging.statement_is_sound.Tie as tie
 
 date-is-sound-requires : tie.Need-date-is-sound-requires
 date-is-sound-requires c κs = search needs

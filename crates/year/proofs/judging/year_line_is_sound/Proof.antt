@@ -1,7 +1,7 @@
 use borrow.Author.Needs.{needs}
 use Rattle.year.specs.Year.{yearLineIsSound}
-use Rattle.year.proofs.statement.year_line_is_sound.Statement.{statement}
-use Rattle.year.proofs.statement.year_line_is_sound.Tie as tie
+use Rattle.year.proofs.judging.year_line_is_sound.Statement.{statement}
+use Rattle.year.proofs.judging.year_line_is_sound.Tie as tie
 
 cast-result : tie.Need-cast-result
 cast-result c = search needs

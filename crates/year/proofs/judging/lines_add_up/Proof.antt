@@ -11,8 +11,8 @@ use Rattle.year.specs.Verdict.{blankLine}
 use Rattle.year.proofs.Signs.{abs-plus}
 use Rattle.year.proofs.Lines.{line-fits, within-yes}
 use Rattle.year.proofs.Adding.{sound-on, sound-off, sum-on, zero-told}
-use Rattle.year.proofs.statement.lines_add_up.Statement.{statement}
-use Rattle.year.proofs.statement.lines_add_up.Tie as tie
+use Rattle.year.proofs.judging.lines_add_up.Statement.{statement}
+use Rattle.year.proofs.judging.lines_add_up.Tie as tie
 
 abbrev Inv-loop : tie.InvT-loop
 Inv-loop count user lines before₀ sum₀ i₀ before sum i =

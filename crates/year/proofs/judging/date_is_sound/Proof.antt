@@ -1,7 +1,7 @@
 use borrow.Author.Needs.{needs}
 use Rattle.year.specs.Year.{dateIsSound}
-use Rattle.year.proofs.statement.date_is_sound.Statement.{statement}
-use Rattle.year.proofs.statement.date_is_sound.Tie as tie
+use Rattle.year.proofs.judging.date_is_sound.Statement.{statement}
+use Rattle.year.proofs.judging.date_is_sound.Tie as tie
 
 returns : tie.Need-returns
 unfolding dateIsSound

@@ -4,8 +4,8 @@ use mir.ValLaws.{toZ-ofZ}
 use borrow.Author.Needs.{needs}
 use Rattle.year.specs.Year.{mostEitherWay, isWithin}
 use Rattle.year.proofs.Signs.{either-way}
-use Rattle.year.proofs.statement.is_within.Statement.{statement}
-use Rattle.year.proofs.statement.is_within.Tie as tie
+use Rattle.year.proofs.judging.is_within.Statement.{statement}
+use Rattle.year.proofs.judging.is_within.Tie as tie
 
 fen-fits : (c : tie.After-struct-told) → SFits w64 (c .before .args .fen .0)
 fen-fits c = search needs
