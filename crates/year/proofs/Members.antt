@@ -87,7 +87,7 @@ module _ (f : MonthLine → ℕ) where
   sum-snoc [] e = omega arith
   sum-snoc (x ∷ es) e = omega (arith, sum-snoc es e)
 
-  sum-most : (limit : ℕ) → ((e : MonthLine) → Fit e → f e ≤ limit) → (es : List MonthLine) → AllFit es → sumℕ (map f es) ≤ length es * limit
+  pub sum-most : (limit : ℕ) → ((e : MonthLine) → Fit e → f e ≤ limit) → (es : List MonthLine) → AllFit es → sumℕ (map f es) ≤ length es * limit
   unfolding sumℕ
   sum-most limit each [] g = omega arith
   sum-most limit each (e ∷ es) g = omega (arith, each e (g .0), sum-most limit each es (g .1))
@@ -100,7 +100,7 @@ module _ (f : MonthLine → ℤ) where
       go [] = refl
       go (x ∷ es) = ap (λ (zs : List ℤ). f x ∷ zs) (go es)
 
-  signed-most : (limit : ℕ) → ((e : MonthLine) → Fit e → natAbs (f e) ≤ limit) → (es : List MonthLine) → AllFit es → natAbs (sumℤ (map f es)) ≤ length es * limit
+  pub signed-most : (limit : ℕ) → ((e : MonthLine) → Fit e → natAbs (f e) ≤ limit) → (es : List MonthLine) → AllFit es → natAbs (sumℤ (map f es)) ≤ length es * limit
   unfolding sumℤ
   signed-most limit each [] g = omega arith
   signed-most limit each (e ∷ es) g = omega (arith, abs-plus (f e) (sumℤ (map f es)), each e (g .0), signed-most limit each es (g .1))

@@ -3,24 +3,26 @@ use mathlib.Core.Path.{_≡_, refl, sym, _∙_, ap, subst}
 use mathlib.Core.Bool.{true, false}
 use mathlib.Core.List.{List, [], _∷_, _++_, map, List·Memᴰ as In, List·Memᴰ·head as here}
 use mathlib.Core.Logic.{_↔_, _≢_}
-use Prim.Native.Nat.{ℕ, _+_, _-_, _≤_, _<_}
+use Prim.Native.Nat.{ℕ, _+_, _-_, _*_, _≤_, _<_}
 use native.Mathlib.Decide.{decLt}
 use native.Mathlib.Omega.{arith}
+use lib.IntN.{natAbs}
 use lib.Signed.{_≤ℤ_, _<ℤ_}
 use lib.ListN.{length, getD, length-append}
 use Rattle.units.specs.Month.{monthsPerYear}
+use Rattle.share.specs.Sharing.{mostCompensation, mostAssessment}
 use Rattle.year.specs.declared.YearLine.{YearLine}
 use Rattle.year.specs.declared.MonthStatement.{MonthStatement}
 use Rattle.year.specs.declared.Largest.{Largest}
 use Rattle.year.specs.declared.MemberYear.{MemberYear}
 use Rattle.year.specs.declared.Year.{Year}
-use Rattle.year.specs.Year.{mostMembers, linesIn, sumℤ, yearIn, lastMonth, firstBadStatement, MonthLine, presentIn, hasMonth, monthsFrom, sumℕ, sumsOf, amountIn, largestOf}
+use Rattle.year.specs.Year.{mostStatements, mostMembers, mostEitherWay, linesIn, sumℤ, yearIn, lastMonth, firstBadStatement, MonthLine, presentIn, hasMonth, monthsFrom, sumℕ, sumsOf, amountIn, largestOf}
 use Rattle.year.specs.Year.{memberYear, noMonths, yearRefused, yearTaken, yearOf, HasTaken}
 use Rattle.year.specs.Present.{LineOf, ownLine}
 use Rattle.year.specs.Verdict.{IsMonth}
 use Rattle.year.specs.Every.{yearWith}
-use Rattle.year.proofs.Members.{members-at}
-use Rattle.year.proofs.Taking.{bad-le, bad-stays, refused-is, taken-is, InTurn, in-turn, turn-in, members-by, present-behind}
+use Rattle.year.proofs.Members.{members-at, compensationOf, assessmentOf, shareOf, amountOf, sum-most, signed-most}
+use Rattle.year.proofs.Taking.{bad-le, bad-stays, refused-is, taken-is, InTurn, in-turn, turn-in, members-by, present-behind, present-fit, most-in-turn, users-most}
 use Rattle.year.proofs.Orders.{Rises, AllOf, Sounds, turn-rises, turn-sounds, turn-year, all-turn, accepted-all, all-accepted}
 use Rattle.year.proofs.Highest.{largest-top, largest-one, largest-earliest}
 use Rattle.year.proofs.Present.{present-exactly, present-rises, months-at, month-in, sum-over, signed-over, of-absent}
@@ -98,6 +100,19 @@ module _ (ss : List MonthStatement) (accepted : yearOf ss .number ≡ 0) (number
   unfolding memberYear sumsOf
   amount-sum = ap (λ (x : MemberYear). x .sums .amount .0) member-is ∙ signed-over number (λ l. l .amount .0) refl ss (turn-sounds [] ss turns)
 
+  -- What the sums can come to: twelve times a month's limit.
+  pub sums-within : (m .sums .compensation .0 ≤ mostStatements * mostCompensation) × (m .sums .assessment .0 ≤ mostStatements * mostAssessment)
+      × (natAbs (m .sums .share .0) ≤ mostStatements * mostEitherWay) × (natAbs (m .sums .amount .0) ≤ mostStatements * mostEitherWay)
+  unfolding memberYear sumsOf
+  sums-within =
+      let f = present-fit number [] ss turns in
+      let few = most-in-turn [] ss turns (omega arith) in
+      let c = sum-most compensationOf mostCompensation (λ x g. g .1 .compensation) lines (f .0) in
+      let a = sum-most assessmentOf mostAssessment (λ x g. g .1 .assessment) lines (f .0) in
+      let s = signed-most shareOf mostEitherWay (λ x g. g .1 .share) lines (f .0) in
+      let t = signed-most amountOf mostEitherWay (λ x g. g .1 .amount) lines (f .0) in
+      rw member-is (omega (arith, c, f .1, few), omega (arith, a, f .1, few), omega (arith, s, f .1, few), omega (arith, t, f .1, few))
+
   largest-is : m .largest ≡ largestOf lines
   unfolding memberYear
   largest-is = ap (λ (x : MemberYear). x .largest) member-is
@@ -129,6 +144,21 @@ module _ (ss : List MonthStatement) (accepted : yearOf ss .number ≡ 0) (number
       empty : (es : List MonthLine) → ((e : MonthLine) → In e es → ⊥) → es ≡ []
       empty [] f = refl
       empty (e ∷ es) f = absurd (f e (here refl))
+
+-- And the users' sum.
+pub users-within : (ss : List MonthStatement) → natAbs (yearOf ss .users .0) ≤ mostStatements * mostEitherWay
+unfolding yearRefused yearTaken
+users-within ss = go (decLt (firstBadStatement [] ss) (length ss))
+  where
+    size : Year → ℕ
+    size y = natAbs (y .users .0)
+
+    go : Dec (firstBadStatement [] ss < length ss) → natAbs (yearOf ss .users .0) ≤ mostStatements * mostEitherWay
+    go (yes h) = omega (arith, ap size (refused-is ss h))
+    go (no h) =
+        let all : firstBadStatement [] ss ≡ length ss = omega (arith, h, bad-le [] ss) in
+        let t = in-turn [] ss all in
+        omega (arith, ap size (taken-is ss all), users-most [] ss t, most-in-turn [] ss t (omega arith))
 
 -- A month left out
 

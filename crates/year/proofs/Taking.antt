@@ -184,7 +184,7 @@ year-more (x ∷ ss) s h = h (omega arith)
 abbrev pub userOf : MonthStatement → ℤ
 userOf s = s .user .0
 
-users-most : (before ss : List MonthStatement) → InTurn before ss → natAbs (sumℤ (map userOf ss)) ≤ length ss * mostEitherWay
+pub users-most : (before ss : List MonthStatement) → InTurn before ss → natAbs (sumℤ (map userOf ss)) ≤ length ss * mostEitherWay
 unfolding sumℤ
 users-most before [] t = omega arith
 users-most before (s ∷ ss) t =

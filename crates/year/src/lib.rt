@@ -73,8 +73,6 @@ pub struct Year {
     pub users: SignedFen,
 }
 
-// The first `ensures` of each speaks of the statements that were taken. The second says of every year, also of one that comes from no statements, how it goes
-// on, so that none is left open.
 impl Year {
     // The year before any statement.
     pub fn start() -> Year
@@ -131,7 +129,8 @@ impl Year {
         }
     }
 
-    // The year after one statement more. The first refusal stands: what comes after it changes nothing.
+    // The year after one statement more. The first refusal stands: what comes after it changes nothing. The first `ensures` speaks of the statements that were
+    // taken; the second says of every year, also of one that comes from no statements, how it goes on, so that none is left open.
     pub fn with(self, s: MonthStatement) -> Year
         ensures { λ r. ⌜ ((ss : List MonthStatement) → HasTaken self ss → HasTaken r (ss ++ s ∷ [])) ⌝ }
         ensures { λ r. ⌜ r ≡ yearWith self s ⌝ }
