@@ -16,8 +16,8 @@ use Rattle.year.specs.declared.MonthStatement.{MonthStatement}
 use Rattle.year.specs.declared.Largest.{Largest}
 use Rattle.year.specs.declared.MemberYear.{MemberYear}
 use Rattle.year.specs.declared.Year.{Year}
-use Rattle.year.specs.Year.{mostStatements, mostMembers, mostEitherWay, linesIn, sumℤ, yearIn, lastMonth, firstBadStatement, MonthLine, presentIn, hasMonth, monthsFrom, sumℕ, sumsOf, amountIn, largestOf}
-use Rattle.year.specs.Year.{memberYear, noMonths, yearRefused, yearTaken, yearOf, HasTaken}
+use Rattle.year.specs.Year.{mostStatements, mostMembers, mostEitherWay, linesIn, sumℤ, yearIn, lastMonth, firstBadStatement, MonthLine, presentIn, hasMonth, monthsFrom, sumℕ}
+use Rattle.year.specs.Year.{sumsOf, amountIn, largestOf, memberYear, noMonths, yearRefused, yearTaken, yearOf, HasTaken}
 use Rattle.year.specs.Present.{LineOf, ownLine}
 use Rattle.year.specs.Verdict.{IsMonth}
 use Rattle.year.specs.Every.{yearWith}
