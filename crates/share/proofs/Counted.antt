@@ -10,9 +10,9 @@ use borrow.Author.Tests.{le-ltb}
 use lib.ListN.{length, take}
 use lib.Seq.{take-all, length-take-le}
 use Rattle.share.specs.declared.Line.{Line}
-use Rattle.share.specs.Sharing.{lineIsSound, firstBadLine, sharingRefused, sharingInTurn, sharing}
+use Rattle.share.specs.Sharing.{lineIsSound, firstBadLine, sharingRefused, sharingInTurn, sharing, mostPart}
 use Rattle.share.specs.Forms.{blankLine, sharingCounted}
-use Rattle.share.proofs.Cases.{turn-10, bad-of-64, sharing-10}
+use Rattle.share.proofs.Cases.{turn-10, any-part, bad-of-64, sharing-10}
 
 -- a blank line is never sound
 pub blank-bad : (before : ℕ) → lineIsSound before blankLine ≡ false
@@ -30,23 +30,24 @@ take-seen lines count n e m = go (decLe count 64)
         take-all n lines (omega arith) ∙ sym (take-all count lines (omega arith))
 
 -- Of more than 64 lines the 65th is refused, or an earlier one.
-pub sixty-fifth : (ls : List Line) → 64 < length ls
-    → (sharing ls ≡ sharingRefused 10 (firstBadLine 0 (take 64 ls))) × (firstBadLine 0 (take 64 ls) ≤ 64)
-sixty-fifth ls h =
+pub sixty-fifth : (part : ℕ) (ls : List Line) → part ≤ mostPart → 64 < length ls
+    → (sharing part ls ≡ sharingRefused 10 (firstBadLine 0 (take 64 ls))) × (firstBadLine 0 (take 64 ls) ≤ 64)
+sixty-fifth part ls fair h =
     let b = bad-of-64 ls in
-    (sym (sharing-10 ls (omega (arith, b .1))) ∙ ap (λ (p : ℕ). sharingRefused 10 p) (sym (b .0)), omega (arith, b .0, b .1))
+    (sym (sharing-10 part ls fair (omega (arith, b .1))) ∙ ap (λ (p : ℕ). sharingRefused 10 p) (sym (b .0)), omega (arith, b .0, b .1))
 
 -- no more lines are counted than there are
-pub counted-few : (lines : List Line) (count : ℕ) → count ≤ length lines → sharingCounted lines count ≡ sharing (take count lines)
-counted-few lines count h = rw (length-take-le count lines h, bad-of-64 (take count lines) .0)
+pub counted-few : (part : ℕ) (lines : List Line) (count : ℕ) → count ≤ length lines → sharingCounted part lines count ≡ sharing part (take count lines)
+counted-few part lines count h = rw (length-take-le count lines h, bad-of-64 (take count lines) .0)
 
 -- THE SAME SHARING, of a list and of an array that holds its first 64 lines.
-pub same-sharing : (ls lines : List Line) → take (length ls) lines ≡ take 64 ls → sharingCounted lines (length ls) ≡ sharing ls
-same-sharing ls lines t = ap (λ (x : List Line). sharingInTurn (firstBadLine 0 x) (length ls) x) t ∙ go (decLe (length ls) 64)
+pub same-sharing : (part : ℕ) (ls lines : List Line) → take (length ls) lines ≡ take 64 ls → sharingCounted part lines (length ls) ≡ sharing part ls
+same-sharing part ls lines t = ap (λ (x : List Line). sharingInTurn part (firstBadLine 0 x) (length ls) x) t ∙ go (decLe (length ls) 64)
   where
-    go : Dec (length ls ≤ 64) → sharingInTurn (firstBadLine 0 (take 64 ls)) (length ls) (take 64 ls) ≡ sharing ls
-    go (yes h) = ap (sharingInTurn (firstBadLine 0 (take 64 ls)) (length ls)) (take-all 64 ls h)
+    go : Dec (length ls ≤ 64) → sharingInTurn part (firstBadLine 0 (take 64 ls)) (length ls) (take 64 ls) ≡ sharing part ls
+    go (yes h) = ap (sharingInTurn part (firstBadLine 0 (take 64 ls)) (length ls)) (take-all 64 ls h)
     go (no f) =
         let b = bad-of-64 ls in
         let few : firstBadLine 0 (take 64 ls) ≤ 64 = omega (arith, b .0, b .1) in
-        sym (turn-10 _ (length ls) (take 64 ls) few (omega arith)) ∙ turn-10 _ (length ls) ls few (omega arith)
+        any-part part _ (length ls) _ (length ls) (take 64 ls) ls
+        (λ fair. sym (turn-10 part _ (length ls) (take 64 ls) fair few (omega arith)) ∙ turn-10 part _ (length ls) ls fair few (omega arith))

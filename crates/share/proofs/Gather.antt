@@ -33,13 +33,13 @@ scattered ys ls zero = ys
 scattered ys ls (suc j) = set (scattered ys ls j) j (getD ls j blankLine)
 
 -- what the array form makes of the lines ys
-abbrev pub formOf : List Line → Shared
-formOf ys = sharedArray (gathered ys (min (length ys) 64)) (length ys)
+abbrev pub formOf : ℕ → List Line → Shared
+formOf part ys = sharedArray part (gathered ys (min (length ys) 64)) (length ys)
 
 -- what the walk shows: the lines zs that are left of ys, and the answer r
-pub record Filled (ys zs : List Line) (r : Answer) : Type 0 where
-  pub answer : r ≡ answerIn (formOf ys)
-  pub lines : zs ≡ scattered ys (formOf ys .lines) (keptOf (formOf ys) (length ys))
+pub record Filled (part : ℕ) (ys zs : List Line) (r : Answer) : Type 0 where
+  pub answer : r ≡ answerIn (formOf part ys)
+  pub lines : zs ≡ scattered ys (formOf part ys .lines) (keptOf (formOf part ys) (length ys))
 
 pub gathered-none : (ys : List Line) → replicate 64 blankLine ≡ gathered ys 0
 unfolding gathered
@@ -101,21 +101,21 @@ held ys = go (decLe (length ys) 64)
         (take-all (length ys) (gathered ys 64) (omega (arith, length-gathered ys 64)) ∙ gathered-is ys 64 (omega arith) (omega arith) ∙ append-nil (take 64 ys))
 
 -- the array form says of them what sharing says of ys
-form-is : (ys : List Line) → formOf ys ≡ arrayOf (gathered ys (min (length ys) 64)) (sharing ys)
+form-is : (part : ℕ) (ys : List Line) → formOf part ys ≡ arrayOf (gathered ys (min (length ys) 64)) (sharing part ys)
 unfolding sharedArray
-form-is ys =
-    ap (λ (o : SharingOutcome). arrayOf (gathered ys (min (length ys) 64)) o) (same-sharing ys (gathered ys (min (length ys) 64)) (held ys))
+form-is part ys =
+    ap (λ (o : SharingOutcome). arrayOf (gathered ys (min (length ys) 64)) o) (same-sharing part ys (gathered ys (min (length ys) 64)) (held ys))
 
 -- no more than 64 lines are taken over
-pub kept-few : (ys : List Line) → keptOf (formOf ys) (length ys) ≤ 64
-kept-few ys = go (ℕ-discrete (sharing ys .number) 0)
+pub kept-few : (part : ℕ) (ys : List Line) → keptOf (formOf part ys) (length ys) ≤ 64
+kept-few part ys = go (ℕ-discrete (sharing part ys .number) 0)
   where
-    n : formOf ys .number ≡ sharing ys .number
-    n = ap (λ (s : Shared). s .number) (form-is ys)
+    n : formOf part ys .number ≡ sharing part ys .number
+    n = ap (λ (s : Shared). s .number) (form-is part ys)
 
-    go : Dec (sharing ys .number ≡ 0) → cond (eqb (formOf ys .number) 0) (length ys) 0 ≤ 64
-    go (yes e) = rw (eq-eqb (formOf ys .number) 0 (n ∙ e)) (taken-list ys e .few)
-    go (no f) = rw (ne-eqb (formOf ys .number) 0 (λ z. f (sym n ∙ z))) (omega arith)
+    go : Dec (sharing part ys .number ≡ 0) → cond (eqb (formOf part ys .number) 0) (length ys) 0 ≤ 64
+    go (yes e) = rw (eq-eqb (formOf part ys .number) 0 (n ∙ e)) (taken-list part ys e .few)
+    go (no f) = rw (ne-eqb (formOf part ys .number) 0 (λ z. f (sym n ∙ z))) (omega arith)
 
 take-map : (n : ℕ) (xs : List Line) → take n (clear xs) ≡ clear (take n xs)
 take-map zero xs = refl
@@ -136,30 +136,30 @@ fill-cleared (p ∷ ps) [] h = refl
 fill-cleared (p ∷ ps) (l ∷ ls) h = ap (λ (x : List Line). filled l p ∷ x) (fill-cleared ps ls (omega arith))
 
 -- what the walk shows is what the contract says
-pub lent : (ys zs : List Line) (r : Answer) → Filled ys zs r → Lent ys zs r
-lent ys zs r f = record { says = f .answer ∙ ap answerIn (form-is ys); lines = f .lines ∙ go (ℕ-discrete (sharing ys .number) 0) }
+pub lent : (part : ℕ) (ys zs : List Line) (r : Answer) → Filled part ys zs r → Lent part ys zs r
+lent part ys zs r f = record { says = f .answer ∙ ap answerIn (form-is part ys); lines = f .lines ∙ go (ℕ-discrete (sharing part ys .number) 0) }
   where
     a : List Line
     a = gathered ys (min (length ys) 64)
 
-    n : formOf ys .number ≡ sharing ys .number
-    n = ap (λ (s : Shared). s .number) (form-is ys)
+    n : formOf part ys .number ≡ sharing part ys .number
+    n = ap (λ (s : Shared). s .number) (form-is part ys)
 
-    go : Dec (sharing ys .number ≡ 0) → scattered ys (formOf ys .lines) (cond (eqb (formOf ys .number) 0) (length ys) 0) ≡ fillIn (sharing ys .parts) ys
+    go : Dec (sharing part ys .number ≡ 0) → scattered ys (formOf part ys .lines) (cond (eqb (formOf part ys .number) 0) (length ys) 0) ≡ fillIn (sharing part ys .parts) ys
     go (yes e) =
-        let t = taken-list ys e in
+        let t = taken-list part ys e in
         let few = t .few in
-        let ps = sharing ys .parts in
+        let ps = sharing part ys .parts in
         let g = gathered ys (min (length ys) 64) in
-        let ll : length (formOf ys .lines) ≡ 64 = ap (λ (s : Shared). length (s .lines)) (form-is ys) ∙ length-filled ps g ∙ length-gathered ys (min (length ys) 64) in
-        rw (eq-eqb (formOf ys .number) 0 (n ∙ e))
-        (scattered-is ys (formOf ys .lines) (length ys) (omega arith) (omega arith)
-        ∙ ap (λ (d : List Line). take (length ys) (formOf ys .lines) ++ d) (drop-of-length-le ys {i = length ys} (omega arith)) ∙ append-nil (take (length ys) (formOf ys .lines))
-        ∙ ap (λ (s : Shared). take (length ys) (s .lines)) (form-is ys) ∙ fill-take (length ys) ps (clear g)
-        ∙ ap (fillIn ps) (take-map (length ys) g ∙ ap clear (held ys ∙ take-all 64 ys few)) ∙ fill-cleared ps ys (each-given _ _ ys t))
+        let ll : length (formOf part ys .lines) ≡ 64 = ap (λ (s : Shared). length (s .lines)) (form-is part ys) ∙ length-filled ps g ∙ length-gathered ys (min (length ys) 64) in
+        rw (eq-eqb (formOf part ys .number) 0 (n ∙ e))
+        (scattered-is ys (formOf part ys .lines) (length ys) (omega arith) (omega arith)
+        ∙ ap (λ (d : List Line). take (length ys) (formOf part ys .lines) ++ d) (drop-of-length-le ys {i = length ys} (omega arith)) ∙ append-nil (take (length ys) (formOf part ys .lines))
+        ∙ ap (λ (s : Shared). take (length ys) (s .lines)) (form-is part ys) ∙ fill-take (length ys) ps (clear g)
+        ∙ ap (fillIn ps) (take-map (length ys) g ∙ ap clear (held ys ∙ take-all 64 ys few)) ∙ fill-cleared ps ys (each-given part _ _ ys t))
     go (no f) =
-        rw (ne-eqb (formOf ys .number) 0 (λ z. f (sym n ∙ z)))
-        (sym (scattered-none ys (formOf ys .lines)) ∙ sym (ap (λ (ps : List Part). fillIn ps ys) (none-given _ _ ys (omega arith))))
+        rw (ne-eqb (formOf part ys .number) 0 (λ z. f (sym n ∙ z)))
+        (sym (scattered-none ys (formOf part ys .lines)) ∙ sym (ap (λ (ps : List Part). fillIn ps ys) (none-given part _ _ ys (omega arith))))
 
 pub falls : {X : Type 0} (f : X → ℕ) → WellFounded (λ (x y : X). f x < f y)
 falls f = record { apply = λ x. InvImage·accessible f (Nat·lt-wfRel .wf .apply (f x)) }

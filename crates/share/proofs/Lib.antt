@@ -1,5 +1,6 @@
 pub mod Lists
 pub mod Signs
+pub mod Generators
 pub mod Bounds
 pub mod Lines
 pub mod Cases
@@ -9,5 +10,6 @@ pub mod Gather
 pub mod Front
 pub mod Promises
 pub mod Refusals
+pub mod WholePart
 pub mod TwoForms
 pub mod Worked

@@ -7,15 +7,16 @@ use Prim.Native.Nat.{ℕ, zero, suc, _≤_, _<_}
 use native.Mathlib.Nat.{not-suc-le-zero}
 use native.Mathlib.Decide.{decLt, decLe, ℕ-discrete}
 use native.Mathlib.Omega.{arith}
-use lib.IntN.{pos, natAbs}
+use lib.IntN.{pos}
 use lib.ListN.{length, getD}
 use Rattle.share.specs.declared.Line.{Line}
-use Rattle.share.specs.Sharing.{mostNumber, mostCompensation, compensated, gap, allWeights, lineIsSound, firstBadLine, SharingOutcome, sharingRefused, sharing}
+use Rattle.share.specs.Sharing.{mostNumber, mostCompensation, mostPart, compensated, below, generatorsAmount, generatorsGap, allWeights, lineIsSound, firstBadLine}
+use Rattle.share.specs.Sharing.{SharingOutcome, sharingRefused, sharing, signed}
 use Rattle.share.specs.Forms.{blankLine}
-use Rattle.share.specs.Verdict.{numberBefore, SoundAt, AllSound, FirstBad, SharingVerdict, ten, more, fifteen, sixteen, shared}
-use Rattle.share.proofs.Signs.{none-abs}
+use Rattle.share.specs.Verdict.{numberBefore, SoundAt, AllSound, FirstBad, SharingVerdict, above, ten, more, fifteen, sixteen, shared}
+use Rattle.share.proofs.Signs.{signed-none, none-signed}
 use Rattle.share.proofs.Bounds.{sound-from, sound-to}
-use Rattle.share.proofs.Cases.{settled-15, settled-16, settled-on, bad-of-64, sharing-10, sharing-on}
+use Rattle.share.proofs.Cases.{settled-15, settled-16, settled-on, bad-of-64, sharing-part, sharing-10, sharing-on}
 
 number-step : (first : ℕ) (l : Line) (ls : List Line) (k : ℕ) → numberBefore (l .number) ls k ≡ numberBefore first (l ∷ ls) (suc k)
 unfolding numberBefore
@@ -81,52 +82,61 @@ none-before ls n a l = go (decLe n (firstBadLine 0 ls))
 pub none-bad : (ls : List Line) → AllSound ls → length ls ≤ firstBadLine 0 ls
 none-bad ls a = none-before ls (length ls) a (omega arith)
 
-some-gap : (ls : List Line) → gap ls ≢ pos 0 → 0 < natAbs (gap ls)
-some-gap ls f = go (ℕ-discrete (natAbs (gap ls)) 0)
+-- the generators' R is 0 exactly where it is without its sign
+no-gap : (part : ℕ) (ls : List Line) → generatorsAmount part ls ≡ 0 → generatorsGap part ls ≡ pos 0
+no-gap part ls e = ap (signed (below ls)) e ∙ signed-none (below ls)
+
+some-gap : (part : ℕ) (ls : List Line) → generatorsGap part ls ≢ pos 0 → 0 < generatorsAmount part ls
+some-gap part ls f = go (ℕ-discrete (generatorsAmount part ls) 0)
   where
-    go : Dec (natAbs (gap ls) ≡ 0) → 0 < natAbs (gap ls)
-    go (yes e) = absurd (f (none-abs (gap ls) e))
+    go : Dec (generatorsAmount part ls ≡ 0) → 0 < generatorsAmount part ls
+    go (yes e) = absurd (f (no-gap part ls e))
     go (no g) = omega arith
 
--- THE TABLE: sharing gives one of its verdicts ..
-pub verdict : (ls : List Line) → SharingVerdict ls (sharing ls)
-verdict ls = go (decLt (firstBadLine 0 ls) (length ls)) (decLe (compensated ls) mostCompensation) (ℕ-discrete (natAbs (gap ls)) 0) (ℕ-discrete (allWeights ls) 0)
-  where
-    go : Dec (firstBadLine 0 ls < length ls) → Dec (compensated ls ≤ mostCompensation) → Dec (natAbs (gap ls) ≡ 0) → Dec (allWeights ls ≡ 0) → SharingVerdict ls (sharing ls)
-    go (yes h) c g w = ten-or-more (decLt (firstBadLine 0 ls) mostNumber)
-      where
-        few : firstBadLine 0 ls ≤ mostNumber
-        few = bad-of-64 ls .1
+module _ (part : ℕ) (ls : List Line) where
+  -- THE TABLE: sharing gives one of its verdicts ..
+  pub verdict : SharingVerdict part ls (sharing part ls)
+  verdict =
+      go (decLe part mostPart) (decLt (firstBadLine 0 ls) (length ls)) (decLe (compensated ls) mostCompensation) (ℕ-discrete (generatorsAmount part ls) 0) (ℕ-discrete (allWeights ls) 0)
+    where
+      go : Dec (part ≤ mostPart) → Dec (firstBadLine 0 ls < length ls) → Dec (compensated ls ≤ mostCompensation) → Dec (generatorsAmount part ls ≡ 0) → Dec (allWeights ls ≡ 0)
+          → SharingVerdict part ls (sharing part ls)
+      go (no f) l c g w = let over : mostPart < part = omega arith in above over (sym (sharing-part part ls over))
+      go (yes q) (yes h) c g w = ten-or-more (decLt (firstBadLine 0 ls) mostNumber)
+        where
+          few : firstBadLine 0 ls ≤ mostNumber
+          few = bad-of-64 ls .1
 
-        ten-or-more : Dec (firstBadLine 0 ls < mostNumber) → SharingVerdict ls (sharing ls)
-        ten-or-more (yes i) = ten (firstBadLine 0 ls) i (first-bad ls h) (sym (sharing-10 ls h))
-        ten-or-more (no f) =
-            let last : firstBadLine 0 ls ≡ mostNumber = omega (arith, few) in
-            more (omega arith) (λ k i. first-bad ls h .before k (omega arith)) (sym (sharing-10 ls h) ∙ ap (λ (p : ℕ). sharingRefused 10 p) last)
-    go (no f) (no c) g w =
-        let s : length ls ≤ firstBadLine 0 ls = omega arith in
-        let over : mostCompensation < compensated ls = omega arith in
-        fifteen (all-sound ls s) over (sym (settled-15 ls over ∙ sharing-on ls s))
-    go (no f) (yes c) (no g) (yes w) =
-        let s : length ls ≤ firstBadLine 0 ls = omega arith in
-        sixteen (all-sound ls s) c (λ e. g (ap natAbs e)) w (sym (settled-16 ls c (omega arith) w ∙ sharing-on ls s))
-    go (no f) (yes c) (no g) (no w) =
-        let s : length ls ≤ firstBadLine 0 ls = omega arith in
-        shared (all-sound ls s) c (inr (omega arith)) (sym (settled-on ls c (λ _. omega arith) ∙ sharing-on ls s))
-    go (no f) (yes c) (yes g) w =
-        let s : length ls ≤ firstBadLine 0 ls = omega arith in
-        shared (all-sound ls s) c (inl (none-abs (gap ls) g)) (sym (settled-on ls c (λ h. absurd (omega arith)) ∙ sharing-on ls s))
+          ten-or-more : Dec (firstBadLine 0 ls < mostNumber) → SharingVerdict part ls (sharing part ls)
+          ten-or-more (yes i) = ten q (firstBadLine 0 ls) i (first-bad ls h) (sym (sharing-10 part ls q h))
+          ten-or-more (no f) =
+              let last : firstBadLine 0 ls ≡ mostNumber = omega (arith, few) in
+              more q (omega arith) (λ k i. first-bad ls h .before k (omega arith)) (sym (sharing-10 part ls q h) ∙ ap (λ (p : ℕ). sharingRefused 10 p) last)
+      go (yes q) (no f) (no c) g w =
+          let s : length ls ≤ firstBadLine 0 ls = omega arith in
+          let over : mostCompensation < compensated ls = omega arith in
+          fifteen q (all-sound ls s) over (sym (settled-15 part ls over ∙ sharing-on part ls q s))
+      go (yes q) (no f) (yes c) (no g) (yes w) =
+          let s : length ls ≤ firstBadLine 0 ls = omega arith in
+          sixteen q (all-sound ls s) c (λ e. g (none-signed (below ls) _ e)) w (sym (settled-16 part ls c (omega arith) w ∙ sharing-on part ls q s))
+      go (yes q) (no f) (yes c) (no g) (no w) =
+          let s : length ls ≤ firstBadLine 0 ls = omega arith in
+          shared q (all-sound ls s) c (inr (omega arith)) (sym (settled-on part ls c (λ _. omega arith) ∙ sharing-on part ls q s))
+      go (yes q) (no f) (yes c) (yes g) w =
+          let s : length ls ≤ firstBadLine 0 ls = omega arith in
+          shared q (all-sound ls s) c (inl (no-gap part ls g)) (sym (settled-on part ls c (λ h. absurd (omega arith)) ∙ sharing-on part ls q s))
 
--- .. and where the condition of one holds, that is the one: each number is given exactly under its condition.
-pub exact : (ls : List Line) (o : SharingOutcome) → SharingVerdict ls o → o ≡ sharing ls
-exact ls o (ten p few f e) =
-    let b = only-bad ls p f in
-    e ∙ ap (λ (q : ℕ). sharingRefused 10 q) (sym b) ∙ sharing-10 ls (omega (arith, f .within))
-exact ls o (more m s e) =
-    let few = bad-of-64 ls .1 in
-    let last : firstBadLine 0 ls ≡ mostNumber = omega (arith, few, none-before ls mostNumber s (omega arith)) in
-    e ∙ ap (λ (q : ℕ). sharingRefused 10 q) (sym last) ∙ sharing-10 ls (omega arith)
-exact ls o (fifteen a c e) = e ∙ settled-15 ls c ∙ sharing-on ls (none-bad ls a)
-exact ls o (sixteen a c g w e) = e ∙ settled-16 ls c (some-gap ls g) w ∙ sharing-on ls (none-bad ls a)
-exact ls o (shared a c (inl g) e) = e ∙ settled-on ls c (λ h. absurd (omega (arith, ap natAbs g))) ∙ sharing-on ls (none-bad ls a)
-exact ls o (shared a c (inr w) e) = e ∙ settled-on ls c (λ h. w) ∙ sharing-on ls (none-bad ls a)
+  -- .. and where the condition of one holds, that is the one: each number is given exactly under its condition.
+  pub exact : (o : SharingOutcome) → SharingVerdict part ls o → o ≡ sharing part ls
+  exact o (above h e) = e ∙ sharing-part part ls h
+  exact o (ten q p few f e) =
+      let b = only-bad ls p f in
+      e ∙ ap (λ (q : ℕ). sharingRefused 10 q) (sym b) ∙ sharing-10 part ls q (omega (arith, f .within))
+  exact o (more q m s e) =
+      let few = bad-of-64 ls .1 in
+      let last : firstBadLine 0 ls ≡ mostNumber = omega (arith, few, none-before ls mostNumber s (omega arith)) in
+      e ∙ ap (λ (q : ℕ). sharingRefused 10 q) (sym last) ∙ sharing-10 part ls q (omega arith)
+  exact o (fifteen q a c e) = e ∙ settled-15 part ls c ∙ sharing-on part ls q (none-bad ls a)
+  exact o (sixteen q a c g w e) = e ∙ settled-16 part ls c (some-gap part ls g) w ∙ sharing-on part ls q (none-bad ls a)
+  exact o (shared q a c (inl g) e) = e ∙ settled-on part ls c (λ h. absurd (omega (arith, none-signed (below ls) _ g))) ∙ sharing-on part ls q (none-bad ls a)
+  exact o (shared q a c (inr w) e) = e ∙ settled-on part ls c (λ h. w) ∙ sharing-on part ls q (none-bad ls a)

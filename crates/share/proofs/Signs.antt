@@ -7,7 +7,7 @@ use native.Mathlib.Decide.{decLe}
 use native.Mathlib.Omega.{arith}
 use borrow.Author.Tests.{le-ltb, lt-ltb}
 use lib.Dec.{ltb}
-use lib.IntN.{ℤ, pos, negsuc, negℤ, natAbs, _+ℤ_, _-ℤ_, _*ℤ_, +ℤ-assoc, +ℤ-comm, +ℤ-idl, +ℤ-idr, +ℤ-invr, negℤ-+ℤ, negℤ-negℤ}
+use lib.IntN.{ℤ, pos, negsuc, negℤ, natAbs, _+ℤ_, _-ℤ_, _*ℤ_, +ℤ-assoc, +ℤ-comm, +ℤ-idl, +ℤ-idr, +ℤ-invr, negℤ-+ℤ, negℤ-negℤ, +ℤ-negℤ-cancel}
 use mir.Syntax.{w64}
 use mir.Val.{SFits}
 use Rattle.share.specs.Sharing.{signed}
@@ -24,6 +24,20 @@ pub natAbs-neg : (z : ℤ) → natAbs (negℤ z) ≡ natAbs z
 natAbs-neg (pos zero) = refl
 natAbs-neg (pos (suc n)) = refl
 natAbs-neg (negsuc n) = refl
+
+pub abs-signed : (isBelow : Bool) (n : ℕ) → natAbs (signed isBelow n) ≡ n
+abs-signed false n = refl
+abs-signed true n = natAbs-neg (pos n)
+
+pub none-signed : (isBelow : Bool) (n : ℕ) → signed isBelow n ≡ pos 0 → n ≡ 0
+none-signed isBelow n e = sym (abs-signed isBelow n) ∙ ap natAbs e
+
+-- what is left of a signed amount
+pub signed-rest : (isBelow : Bool) (n m : ℕ) → m ≤ n → signed isBelow (n - m) ≡ signed isBelow n -ℤ signed isBelow m
+signed-rest isBelow n m h =
+    let back : n - m + m ≡ n = omega arith in
+    sym (+ℤ-negℤ-cancel (signed isBelow (n - m)) (signed isBelow m))
+    ∙ ap (λ (z : ℤ). z -ℤ signed isBelow m) (signed-add isBelow (n - m) m ∙ ap (signed isBelow) back)
 
 pub none-abs : (z : ℤ) → natAbs z ≡ 0 → z ≡ pos 0
 none-abs (pos n) e = ap pos e

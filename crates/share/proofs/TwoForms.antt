@@ -10,7 +10,7 @@ use lib.ListN.{length, set, take, length-map, drop}
 use Rattle.share.specs.declared.Line.{Line}
 use Rattle.share.specs.declared.Shared.{Shared}
 use Rattle.share.specs.declared.Answer.{Answer}
-use Rattle.share.specs.Sharing.{assessmentFen, compensated, assessed, below, gap, weightsOf, Part, partsBy, parts, lineIsSound, firstBadLine}
+use Rattle.share.specs.Sharing.{assessmentFen, compensated, assessed, below, gap, generatorsAmount, userAmount, weightsOf, Part, partsBy, parts, lineIsSound, firstBadLine}
 use Rattle.share.specs.Sharing.{SharingOutcome, settled, sharingInTurn, sharing, mostNumber}
 use Rattle.share.specs.Forms.{cleared, fillIn, sharingCounted, clear, sharedArray, Lent}
 use Rattle.share.specs.Inner.{lendFront}
@@ -42,31 +42,31 @@ parts-cleared b [] ss = refl
 parts-cleared b (l ∷ ls) [] = refl
 parts-cleared b (l ∷ ls) (s ∷ ss) = ap (λ (ps : List Part). partsBy b (l ∷ []) (s ∷ []) ++ ps) (parts-cleared b ls ss)
 
-pub turn-cleared : (bad count : ℕ) (ls : List Line) → sharingInTurn bad count (clear ls) ≡ sharingInTurn bad count ls
-unfolding sharingInTurn settled parts gap
-turn-cleared bad count ls = rw (compensated-cleared ls, assessed-cleared ls, weights-cleared (below ls) ls, parts-cleared (below ls) ls)
+pub turn-cleared : (part bad count : ℕ) (ls : List Line) → sharingInTurn part bad count (clear ls) ≡ sharingInTurn part bad count ls
+unfolding sharingInTurn settled parts userAmount generatorsAmount gap
+turn-cleared part bad count ls = rw (compensated-cleared ls, assessed-cleared ls, weights-cleared (below ls) ls, parts-cleared (below ls) ls)
 
 take-cleared : (n : ℕ) (xs : List Line) → clear (take n xs) ≡ take n (clear xs)
 take-cleared zero xs = refl
 take-cleared (suc n) [] = refl
 take-cleared (suc n) (x ∷ xs) = ap (λ (l : List Line). cleared x ∷ l) (take-cleared n xs)
 
-pub sharing-cleared : (ls : List Line) → sharing (clear ls) ≡ sharing ls
-sharing-cleared ls =
-    rw (← take-cleared mostNumber ls, bad-cleared 0 (take mostNumber ls), length-map ls (λ l. cleared l)) (turn-cleared _ (length ls) ls)
+pub sharing-cleared : (part : ℕ) (ls : List Line) → sharing part (clear ls) ≡ sharing part ls
+sharing-cleared part ls =
+    rw (← take-cleared mostNumber ls, bad-cleared 0 (take mostNumber ls), length-map ls (λ l. cleared l)) (turn-cleared part _ (length ls) ls)
 
 -- The same answer
 
-counted-cleared : (lines : List Line) (n : ℕ) → sharingCounted (clear lines) n ≡ sharingCounted lines n
-counted-cleared lines n = rw (← take-cleared n lines, bad-cleared 0 (take n lines)) (turn-cleared _ n (take n lines))
+counted-cleared : (part : ℕ) (lines : List Line) (n : ℕ) → sharingCounted part (clear lines) n ≡ sharingCounted part lines n
+counted-cleared part lines n = rw (← take-cleared n lines, bad-cleared 0 (take n lines)) (turn-cleared part _ n (take n lines))
 
 -- The array form and the lent list give one outcome: an array that holds the first 64 of the lines that are lent.
-pub array-as-list : (ls lines : List Line) → clear (take (length ls) lines) ≡ clear (take 64 ls) → sharingCounted lines (length ls) ≡ sharing ls
-array-as-list ls lines t =
-    sym (counted-cleared lines (length ls)) ∙ ap (sharingCounted (clear lines)) (sym (length-map ls (λ l. cleared l)))
-    ∙ same-sharing (clear ls) (clear lines)
+pub array-as-list : (part : ℕ) (ls lines : List Line) → clear (take (length ls) lines) ≡ clear (take 64 ls) → sharingCounted part lines (length ls) ≡ sharing part ls
+array-as-list part ls lines t =
+    sym (counted-cleared part lines (length ls)) ∙ ap (sharingCounted part (clear lines)) (sym (length-map ls (λ l. cleared l)))
+    ∙ same-sharing part (clear ls) (clear lines)
     (ap (λ (k : ℕ). take k (clear lines)) (length-map ls (λ l. cleared l)) ∙ sym (take-cleared (length ls) lines) ∙ t ∙ take-cleared 64 ls)
-    ∙ sharing-cleared ls
+    ∙ sharing-cleared part ls
 
 take-le : (n : ℕ) (xs : List Line) → length (take n xs) ≤ n
 take-le zero xs = omega arith
@@ -74,49 +74,49 @@ take-le (suc n) [] = omega arith
 take-le (suc n) (x ∷ xs) = omega (arith, take-le n xs)
 
 -- each line that is counted gets a part, or none does
-parts-le : (lines : List Line) (count : ℕ) → length (sharingCounted lines count .parts) ≤ count
-parts-le lines count = go (outcome bad count (take count lines))
+parts-le : (part : ℕ) (lines : List Line) (count : ℕ) → length (sharingCounted part lines count .parts) ≤ count
+parts-le part lines count = go (outcome part bad count (take count lines))
   where
     bad : ℕ
     bad = firstBadLine 0 (take count lines)
 
     o : SharingOutcome
-    o = sharingCounted lines count
+    o = sharingCounted part lines count
 
-    go : Taken bad count (take count lines) ⊎ Refused o → length (o .parts) ≤ count
-    go (inl t) = omega (arith, each-given bad count (take count lines) t, take-le count lines)
+    go : Taken part bad count (take count lines) ⊎ Refused o → length (o .parts) ≤ count
+    go (inl t) = omega (arith, each-given part bad count (take count lines) t, take-le count lines)
     go (inr r) = let none : length (o .parts) ≡ 0 = ap (λ (x : SharingOutcome). length (x .parts)) (r .is) in omega arith
 
 -- THE FRONT OF AN ARRAY that is lent is shared as the array form shares it: the lines cleared before, the others left.
-pub front-as-array : (lines : List Line) (count : ℕ) → count ≤ length lines → lendFront (clear lines) count ≡ sharedArray lines count
+pub front-as-array : (part : ℕ) (lines : List Line) (count : ℕ) → count ≤ length lines → lendFront part (clear lines) count ≡ sharedArray part lines count
 unfolding lendFront sharedArray
-front-as-array lines count h =
-    let same : sharing (take count (clear lines)) ≡ sharingCounted lines count =
-    ap sharing (sym (take-cleared count lines)) ∙ sharing-cleared (take count lines) ∙ sym (counted-few lines count h) in
-    rw (same, fill-front (sharingCounted lines count .parts) (clear lines) count (parts-le lines count))
+front-as-array part lines count h =
+    let same : sharing part (take count (clear lines)) ≡ sharingCounted part lines count =
+    ap (sharing part) (sym (take-cleared count lines)) ∙ sharing-cleared part (take count lines) ∙ sym (counted-few part lines count h) in
+    rw (same, fill-front (sharingCounted part lines count .parts) (clear lines) count (parts-le part lines count))
 
 -- Two outcomes that a contract allows coincide
 
-pub share-determined : (lines : List Line) (count : ℕ) (r q : Shared) → r ≡ sharedArray lines count → q ≡ sharedArray lines count → r ≡ q
-share-determined lines count r q e f = e ∙ sym f
+pub share-determined : (part : ℕ) (lines : List Line) (count : ℕ) (r q : Shared) → r ≡ sharedArray part lines count → q ≡ sharedArray part lines count → r ≡ q
+share-determined part lines count r q e f = e ∙ sym f
 
-pub share-front-determined : (lines : List Line) (count : ℕ) (r q : Shared) → r ≡ sharedArray lines count → q ≡ sharedArray lines count → r ≡ q
+pub share-front-determined : (part : ℕ) (lines : List Line) (count : ℕ) (r q : Shared) → r ≡ sharedArray part lines count → q ≡ sharedArray part lines count → r ≡ q
 share-front-determined = share-determined
 
-pub share-lines-determined : (before after other : List Line) (r q : Answer) → Lent before after r → Lent before other q → (r ≡ q) × (after ≡ other)
-share-lines-determined before after other r q l k = (l .says ∙ sym (k .says), l .lines ∙ sym (k .lines))
+pub share-lines-determined : (part : ℕ) (before after other : List Line) (r q : Answer) → Lent part before after r → Lent part before other q → (r ≡ q) × (after ≡ other)
+share-lines-determined part before after other r q l k = (l .says ∙ sym (k .says), l .lines ∙ sym (k .lines))
 
 -- Lent memory
 
 -- On a refusal no line that was lent changes.
-pub lines-kept : (before after : List Line) (r : Answer) → Lent before after r → 0 < r .number → after ≡ before
-lines-kept before after r l h =
-    let n : r .number ≡ sharing before .number = ap (λ (a : Answer). a .number) (l .says) in
-    l .lines ∙ ap (λ (ps : List Part). fillIn ps before) (none-given _ _ before (omega arith))
+pub lines-kept : (part : ℕ) (before after : List Line) (r : Answer) → Lent part before after r → 0 < r .number → after ≡ before
+lines-kept part before after r l h =
+    let n : r .number ≡ sharing part before .number = ap (λ (a : Answer). a .number) (l .says) in
+    l .lines ∙ ap (λ (ps : List Part). fillIn ps before) (none-given part _ _ before (omega arith))
 
 -- Else share and amount alone change.
-pub fields-kept : (before after : List Line) (r : Answer) → Lent before after r → clear after ≡ clear before
-fields-kept before after r l = ap clear (l .lines) ∙ go (sharing before .parts) before
+pub fields-kept : (part : ℕ) (before after : List Line) (r : Answer) → Lent part before after r → clear after ≡ clear before
+fields-kept part before after r l = ap clear (l .lines) ∙ go (sharing part before .parts) before
   where
     go : (ps : List Part) (ls : List Line) → clear (fillIn ps ls) ≡ clear ls
     go [] ls = refl
@@ -124,10 +124,10 @@ fields-kept before after r l = ap clear (l .lines) ∙ go (sharing before .parts
     go (p ∷ ps) (l ∷ ls) = ap (λ (x : List Line). cleared l ∷ x) (go ps ls)
 
 -- On a refusal, and beyond the count, share and amount of the array's lines are 0.
-pub array-cleared : (lines : List Line) (count : ℕ) → 0 < sharedArray lines count .number → sharedArray lines count .lines ≡ clear lines
+pub array-cleared : (part : ℕ) (lines : List Line) (count : ℕ) → 0 < sharedArray part lines count .number → sharedArray part lines count .lines ≡ clear lines
 unfolding sharedArray
-array-cleared lines count h = ap (λ (ps : List Part). fillIn ps (clear lines)) (none-given _ count (take count lines) h)
+array-cleared part lines count h = ap (λ (ps : List Part). fillIn ps (clear lines)) (none-given part _ count (take count lines) h)
 
-pub array-beyond : (lines : List Line) (count : ℕ) → drop count (sharedArray lines count .lines) ≡ drop count (clear lines)
+pub array-beyond : (part : ℕ) (lines : List Line) (count : ℕ) → drop count (sharedArray part lines count .lines) ≡ drop count (clear lines)
 unfolding sharedArray
-array-beyond lines count = fill-behind (sharingCounted lines count .parts) (clear lines) count (parts-le lines count)
+array-beyond part lines count = fill-behind (sharingCounted part lines count .parts) (clear lines) count (parts-le part lines count)

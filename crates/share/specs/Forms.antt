@@ -50,8 +50,8 @@ blankLine =
 -- The array form
 
 -- the sharing of the first `count` of 64 lines: a count above 64 is 10 at the first bad of the 64, or at 64 where these are sound
-abbrev pub sharingCounted : List Line → ℕ → SharingOutcome
-sharingCounted lines count = sharingInTurn (firstBadLine 0 (take count lines)) count (take count lines)
+abbrev pub sharingCounted : ℕ → List Line → ℕ → SharingOutcome
+sharingCounted part lines count = sharingInTurn part (firstBadLine 0 (take count lines)) count (take count lines)
 
 -- the lines with share and amount 0
 abbrev pub clear : List Line → List Line
@@ -60,7 +60,13 @@ clear lines = map (λ l. cleared l) lines
 -- an outcome with the lines of the array: on a refusal, and beyond the count, share and amount are 0
 abbrev pub arrayOf : List Line → SharingOutcome → Shared
 arrayOf lines o =
-    record { number = o .number; place = o .place; gap = record { 0 = o .gap }; lines = fillIn (o .parts) (clear lines) }
+    record {
+      number = o .number;
+      place = o .place;
+      gap = record { 0 = o .gap };
+      user = record { 0 = o .user };
+      lines = fillIn (o .parts) (clear lines);
+    }
 
 -- a refusal, with the lines of the array
 abbrev pub refuse : ℕ → ℕ → List Line → Shared
@@ -69,19 +75,19 @@ refuse number place lines = arrayOf lines (sharingRefused number place)
 -- the answer where there are no lines to hand back: number and place, otherwise zeros
 unfoldable pub nothingShared : ℕ → ℕ → Shared
 nothingShared number place =
-    record { number = number; place = place; gap = record { 0 = pos 0 }; lines = replicate mostNumber blankLine }
+    record { number = number; place = place; gap = record { 0 = pos 0 }; user = record { 0 = pos 0 }; lines = replicate mostNumber blankLine }
 
 -- the answer of the array form
-unfoldable pub sharedArray : List Line → ℕ → Shared
-sharedArray lines count = arrayOf lines (sharingCounted lines count)
+unfoldable pub sharedArray : ℕ → List Line → ℕ → Shared
+sharedArray part lines count = arrayOf lines (sharingCounted part lines count)
 
--- number, place and R of an array form's answer
+-- number, place, R and the user's amount of an array form's answer
 abbrev pub answerIn : Shared → Answer
-answerIn s = record { number = s .number; place = s .place; gap = s .gap }
+answerIn s = record { number = s .number; place = s .place; gap = s .gap; user = s .user }
 
--- number, place and R of an outcome
+-- number, place, R and the user's amount of an outcome
 abbrev pub answerOf : SharingOutcome → Answer
-answerOf o = record { number = o .number; place = o .place; gap = record { 0 = o .gap } }
+answerOf o = record { number = o .number; place = o .place; gap = record { 0 = o .gap }; user = record { 0 = o .user } }
 
 -- The lent list
 
@@ -91,6 +97,6 @@ keptOf s count = cond (eqb (s .number) 0) count 0
 
 -- the lines that were lent, as they were before and are after, and the answer: on a refusal no line changes, else share and
 -- amount alone
-pub record Lent (before after : List Line) (answer : Answer) : Type 0 where
-  pub says : answer ≡ answerOf (sharing before)
-  pub lines : after ≡ fillIn (sharing before .parts) before
+pub record Lent (part : ℕ) (before after : List Line) (answer : Answer) : Type 0 where
+  pub says : answer ≡ answerOf (sharing part before)
+  pub lines : after ≡ fillIn (sharing part before .parts) before

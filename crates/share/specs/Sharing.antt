@@ -1,7 +1,7 @@
--- Sharing, as the paper has it, over a list of lines. Assumes nothing.
+-- Sharing, as the paper has it, over a list of lines, with the generators' part of the gap and the user's, as request 2 has it. Assumes nothing.
 use mathlib.Core.Bool.{Bool, true, false, cond, _&&_}
 use mathlib.Core.List.{List, [], _∷_, map}
-use Prim.Native.Nat.{ℕ, suc, _*_, min}
+use Prim.Native.Nat.{ℕ, suc, _*_, _/_, min}
 use lib.Dec.{leb, ltb, eqb}
 use lib.IntN.{ℤ, pos, negℤ, natAbs, _+ℤ_, _-ℤ_}
 use lib.ListN.{length, take}
@@ -30,6 +30,14 @@ mostCompensation = 100000000000
 -- assessment is 0 to 10,000,000 thousandths of a point
 abbrev pub mostAssessment : ℕ
 mostAssessment = 10000000
+
+-- the generator part is 0 to 10,000 hundredths of a percent
+abbrev pub mostPart : ℕ
+mostPart = 10000
+
+-- the place at which a generator part above that is refused
+abbrev pub partPlace : ℕ
+partPlace = 65
 
 -- The gap
 
@@ -75,12 +83,26 @@ weights ls = weightsOf (below ls) ls
 abbrev pub allWeights : List Line → ℕ
 allWeights ls = total (weights ls)
 
--- Shares and amounts
+-- The generators' R and the user's amount
 
 -- the sign of R is put on
 abbrev pub signed : Bool → ℕ → ℤ
-signed false share = pos share
-signed true share = negℤ (pos share)
+signed false amount = pos amount
+signed true amount = negℤ (pos amount)
+
+-- the generators' R without its sign: the whole R times the part, divided by 10,000 and cut toward zero
+unfoldable pub generatorsAmount : ℕ → List Line → ℕ
+generatorsAmount part ls = natAbs (gap ls) * part / mostPart
+
+-- the generators' R
+abbrev pub generatorsGap : ℕ → List Line → ℤ
+generatorsGap part ls = signed (below ls) (generatorsAmount part ls)
+
+-- the rest of R is the user's amount
+unfoldable pub userAmount : ℕ → List Line → ℤ
+userAmount part ls = gap ls -ℤ generatorsGap part ls
+
+-- Shares and amounts
 
 -- what a line gets
 pub record Part : Type 0 where
@@ -95,15 +117,15 @@ partOf isBelow l share =
       amount = pos (l .compensation .0) -ℤ pos (assessmentFen l) +ℤ signed isBelow share;
     }
 
--- what each line gets, from the shares of |R|
+-- what each line gets, from the shares without their sign
 abbrev pub partsBy : Bool → List Line → List ℕ → List Part
 partsBy isBelow [] shares = []
 partsBy isBelow (l ∷ ls) [] = []
 partsBy isBelow (l ∷ ls) (share ∷ shares) = partOf isBelow l share ∷ partsBy isBelow ls shares
 
--- the shares are |R| apportioned by the weights, with the sign of R
-unfoldable pub parts : List Line → List Part
-parts ls = partsBy (below ls) ls (apportion (natAbs (gap ls)) (weights ls))
+-- the shares are the generators' R apportioned by the weights, with the sign of R
+unfoldable pub parts : ℕ → List Line → List Part
+parts part ls = partsBy (below ls) ls (apportion (generatorsAmount part ls) (weights ls))
 
 -- Refusals
 
@@ -122,38 +144,40 @@ abbrev pub firstBadLine : ℕ → List Line → ℕ
 firstBadLine before [] = 0
 firstBadLine before (l ∷ ls) = cond (lineIsSound before l) (suc (firstBadLine (l .number) ls)) 0
 
--- R is not 0 and all weights are 0
-abbrev pub weightless : List Line → Bool
-weightless ls = ltb 0 (natAbs (gap ls)) && eqb (allWeights ls) 0
+-- the generators' R is not 0 and all weights are 0
+abbrev pub weightless : ℕ → List Line → Bool
+weightless part ls = ltb 0 (generatorsAmount part ls) && eqb (allWeights ls) 0
 
--- number and place of a refusal, or zeros; R; and what each line gets
+-- number and place of a refusal, or zeros; R; the user's amount; and what each line gets
 pub record SharingOutcome : Type 0 where
   pub number : ℕ
   pub place : ℕ
   pub gap : ℤ
+  pub user : ℤ
   pub parts : List Part
 
 -- a refusal gives number and place, otherwise zeros
 abbrev pub sharingRefused : ℕ → ℕ → SharingOutcome
-sharingRefused number place = record { number = number; place = place; gap = pos 0; parts = [] }
+sharingRefused number place = record { number = number; place = place; gap = pos 0; user = pos 0; parts = [] }
 
--- accepted, number and place are 0; sharing gives R
-abbrev pub sharingAccepted : List Line → SharingOutcome
-sharingAccepted ls = record { number = 0; place = 0; gap = gap ls; parts = parts ls }
+-- accepted, number and place are 0; sharing gives the whole R, and the user's amount
+abbrev pub sharingAccepted : ℕ → List Line → SharingOutcome
+sharingAccepted part ls = record { number = 0; place = 0; gap = gap ls; user = userAmount part ls; parts = parts part ls }
 
--- where every line is sound: 15 where C is above 10^11, 16 where R is not 0 and all weights are 0
-unfoldable pub settled : List Line → SharingOutcome
-settled ls =
+-- where the part and every line are sound: 15 where C is above 10^11, 16 where the generators' R is not 0 and all weights are 0
+unfoldable pub settled : ℕ → List Line → SharingOutcome
+settled part ls =
     cond (ltb mostCompensation (compensated ls)) (sharingRefused 15 0)
-    (cond (weightless ls) (sharingRefused 16 0) (sharingAccepted ls))
+    (cond (weightless part ls) (sharingRefused 16 0) (sharingAccepted part ls))
 
--- Sharing of so many lines, of whose first 64 the first bad one is at the place `bad`: 10 in turn, 15, 16. A bad line of the first 64 is
--- refused at its place; where these are sound, more than 64 lines are refused at 64.
-unfoldable pub sharingInTurn : ℕ → ℕ → List Line → SharingOutcome
-sharingInTurn bad count ls =
-    cond (ltb bad (min count mostNumber)) (sharingRefused 10 bad)
-    (cond (ltb mostNumber count) (sharingRefused 10 mostNumber) (settled ls))
+-- Sharing of so many lines, of whose first 64 the first bad one is at the place `bad`: 10 at 65 for the part, 10 in turn, 15, 16. A bad line
+-- of the first 64 is refused at its place; where these are sound, more than 64 lines are refused at 64.
+unfoldable pub sharingInTurn : ℕ → ℕ → ℕ → List Line → SharingOutcome
+sharingInTurn part bad count ls =
+    cond (ltb mostPart part) (sharingRefused 10 partPlace)
+    (cond (ltb bad (min count mostNumber)) (sharingRefused 10 bad)
+    (cond (ltb mostNumber count) (sharingRefused 10 mostNumber) (settled part ls)))
 
 -- Sharing of a list of lines
-abbrev pub sharing : List Line → SharingOutcome
-sharing ls = sharingInTurn (firstBadLine 0 (take mostNumber ls)) (length ls) ls
+abbrev pub sharing : ℕ → List Line → SharingOutcome
+sharing part ls = sharingInTurn part (firstBadLine 0 (take mostNumber ls)) (length ls) ls

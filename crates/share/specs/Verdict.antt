@@ -7,7 +7,7 @@ use lib.IntN.{pos}
 use lib.ListN.{length, getD}
 use Rattle.share.specs.declared.Line.{Line}
 use Rattle.share.specs.Sharing.{mostNumber, mostStatus, mostEnergy, mostCompensation, mostAssessment}
-use Rattle.share.specs.Sharing.{compensated, gap, allWeights, SharingOutcome, sharingRefused, sharingAccepted}
+use Rattle.share.specs.Sharing.{mostPart, partPlace, compensated, generatorsGap, allWeights, SharingOutcome, sharingRefused, sharingAccepted}
 use Rattle.share.specs.Forms.{blankLine}
 
 -- numbers 1 to 64 rising strictly, and each field within its limits
@@ -38,12 +38,14 @@ pub record FirstBad (ls : List Line) (p : ℕ) : Type 0 where
   pub before : (k : ℕ) → k < p → SoundAt ls k
   pub bad : SoundAt ls p → ⊥
 
--- No. 10 at a line, 10 for a 65th line, 15, 16, and the sharing, each under its condition
-pub data SharingVerdict (ls : List Line) (o : SharingOutcome) : Type 0 where
-  ten : (p : ℕ) → p < mostNumber → FirstBad ls p → o ≡ sharingRefused 10 p → SharingVerdict ls o
-  more : mostNumber < length ls → ((k : ℕ) → k < mostNumber → SoundAt ls k) → o ≡ sharingRefused 10 mostNumber → SharingVerdict ls o
-  fifteen : AllSound ls → mostCompensation < compensated ls → o ≡ sharingRefused 15 0 → SharingVerdict ls o
-  sixteen : AllSound ls → compensated ls ≤ mostCompensation → gap ls ≢ pos 0 → allWeights ls ≡ 0
-      → o ≡ sharingRefused 16 0 → SharingVerdict ls o
-  shared : AllSound ls → compensated ls ≤ mostCompensation → (gap ls ≡ pos 0) ⊎ (0 < allWeights ls)
-      → o ≡ sharingAccepted ls → SharingVerdict ls o
+-- No. 10 at 65 for the part, 10 at a line, 10 for a 65th line, 15, 16, and the sharing, each under its condition
+pub data SharingVerdict (part : ℕ) (ls : List Line) (o : SharingOutcome) : Type 0 where
+  above : mostPart < part → o ≡ sharingRefused 10 partPlace → SharingVerdict part ls o
+  ten : part ≤ mostPart → (p : ℕ) → p < mostNumber → FirstBad ls p → o ≡ sharingRefused 10 p → SharingVerdict part ls o
+  more : part ≤ mostPart → mostNumber < length ls → ((k : ℕ) → k < mostNumber → SoundAt ls k) → o ≡ sharingRefused 10 mostNumber
+      → SharingVerdict part ls o
+  fifteen : part ≤ mostPart → AllSound ls → mostCompensation < compensated ls → o ≡ sharingRefused 15 0 → SharingVerdict part ls o
+  sixteen : part ≤ mostPart → AllSound ls → compensated ls ≤ mostCompensation → generatorsGap part ls ≢ pos 0 → allWeights ls ≡ 0
+      → o ≡ sharingRefused 16 0 → SharingVerdict part ls o
+  shared : part ≤ mostPart → AllSound ls → compensated ls ≤ mostCompensation → (generatorsGap part ls ≡ pos 0) ⊎ (0 < allWeights ls)
+      → o ≡ sharingAccepted part ls → SharingVerdict part ls o

@@ -41,6 +41,7 @@ pub fn nothing_shared(number: u32, place: usize) -> Shared
         number,
         place,
         gap: SignedFen(0),
+        user: SignedFen(0),
         lines,
     }
 }
@@ -79,9 +80,11 @@ pub fn answer_in(s: Shared) -> Answer
     ensures { λ r. ⌜ r ≡ answerIn s ⌝ }
 {
     let gap = s.gap;
+    let user = s.user;
     Answer {
         number: s.number,
         place: s.place,
         gap,
+        user,
     }
 }

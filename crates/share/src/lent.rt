@@ -16,8 +16,8 @@ ghost use Rattle.share.specs.Forms.{Lent, sharedArray};
 ghost use Rattle.share.specs.Inner.{beside, lendFront};
 
 // The sharing of all lines lent: share and amount of each are filled in, or, on a refusal, nothing.
-pub fn share_lines(lines: &mut [Line]) -> Answer
-    ensures { λ r. ⌜ Lent (now (lines .entry)) (now (lines .exit)) r ⌝ }
+pub fn share_lines(part: u32, lines: &mut [Line]) -> Answer
+    ensures { λ r. ⌜ Lent part (now (lines .entry)) (now (lines .exit)) r ⌝ }
 {
     let n = lines.len();
     let m = seen(n);
@@ -27,7 +27,7 @@ pub fn share_lines(lines: &mut [Line]) -> Answer
         a = put_line(a, i, lines[i]);
         i += 1;
     }
-    let s = share(a, n);
+    let s = share(part, a, n);
     let k = kept_of(s, n);
     let mut j = 0;
     while j < k {
@@ -41,29 +41,31 @@ fn beside(told: Answer, lines: [Line; 64]) -> Shared
     ensures { λ r. ⌜ r ≡ beside told lines ⌝ }
 {
     let gap = told.gap;
+    let user = told.user;
     Shared {
         number: told.number,
         place: told.place,
         gap,
+        user,
         lines,
     }
 }
 
 // The first `count` lines are lent, and come back in their place.
-fn lend_front(mut lines: [Line; 64], count: usize) -> Shared
+fn lend_front(part: u32, mut lines: [Line; 64], count: usize) -> Shared
     requires { ⌜ count ≤ 64 ⌝ }
-    ensures { λ r. ⌜ r ≡ lendFront lines count ⌝ }
+    ensures { λ r. ⌜ r ≡ lendFront part lines count ⌝ }
 {
-    let told = share_lines(&mut lines[..count]);
+    let told = share_lines(part, &mut lines[..count]);
     beside(told, lines)
 }
 
 // The sharing of the first `count` of 64 lines, as `share` has it, by lending them.
-pub fn share_front(lines: [Line; 64], count: usize) -> Shared
-    ensures { λ r. ⌜ r ≡ sharedArray lines count ⌝ }
+pub fn share_front(part: u32, lines: [Line; 64], count: usize) -> Shared
+    ensures { λ r. ⌜ r ≡ sharedArray part lines count ⌝ }
 {
     if 64 < count {
-        return share(lines, count);
+        return share(part, lines, count);
     }
-    lend_front(clear(lines), count)
+    lend_front(part, clear(lines), count)
 }

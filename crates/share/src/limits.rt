@@ -12,6 +12,11 @@ pub const MOST_COMPENSATION: u64 = 100_000_000_000;
 
 pub const MOST_ASSESSMENT: u64 = 10_000_000;
 
+// The generator part, in hundredths of a percent, and the place at which one above is refused.
+pub const MOST_PART: u32 = 10_000;
+
+pub const PART_PLACE: usize = 65;
+
 // Whether the numbers of a line are sound after the number `before`.
 pub fn numbers_are_sound(
     before: u64,

@@ -1,21 +1,23 @@
-// The array form, step by step: the lines in turn, the sums, the weights, the shares, the lines filled in.
+// The array form, step by step: the part, the lines in turn, the sums, the weights, the shares, the lines filled in.
 use crate::Line;
 use crate::Shared;
 use crate::array::seen;
 use crate::limits::MOST_COMPENSATION;
+use crate::limits::MOST_PART;
+use crate::limits::PART_PLACE;
 use crate::limits::numbers_are_sound;
 use units::Fen;
 use units::SignedFen;
 ghost use mathlib.Core.Path.{_≡_};
 ghost use mathlib.Core.List.{List};
-ghost use Prim.Native.Nat.{ℕ, _+_, _*_, _^_, _<_, _≤_};
+ghost use Prim.Native.Nat.{ℕ, _+_, _*_, _/_, _^_, _<_, _≤_};
 ghost use lib.Dec.{ltb};
 ghost use lib.ListN.{getD, take};
 ghost use lib.IntN.{pos, natAbs, _-ℤ_};
 ghost use Rattle.apportion.specs.Apportion.{total, apportion};
 ghost use Rattle.share.specs.declared.Line.{Line};
 ghost use Rattle.share.specs.Sharing.{factorOf, weightOf, weightsOf, compensated, assessed, partOf, partsBy};
-ghost use Rattle.share.specs.Sharing.{lineIsSound, firstBadLine, sharingRefused, settled, mostEnergy, mostCompensation};
+ghost use Rattle.share.specs.Sharing.{lineIsSound, firstBadLine, sharingRefused, settled, signed, mostEnergy, mostCompensation, mostPart};
 ghost use Rattle.share.specs.Forms.{filled, fillIn, clear, refuse, sharingCounted};
 ghost use Rattle.share.specs.Limits.{LineWithin, CountedWithin};
 ghost use Rattle.share.specs.Inner.{GapIs, Carries};
@@ -26,21 +28,24 @@ pub struct Totals {
     pub assessed: Fen,
 }
 
-// R: without its sign, whether it is below zero, and with it.
+// R: the generators' of it without its sign, the whole, the user's amount, and whether it is below zero.
 pub struct Gap {
     pub amount: Fen,
-    pub negative: bool,
     pub whole: SignedFen,
+    pub user: SignedFen,
+    pub negative: bool,
 }
 
 // What each line carries, without its sign.
 pub struct FenEach(pub [u64; 64]);
 
-// What sharing says before it is filled in: a refusal's number and place, or zeros; R, whether it is below zero, and what each line carries of it.
+// What sharing says before it is filled in: a refusal's number and place, or zeros; R, the user's amount, whether R is below zero, and what each
+// line carries of it.
 pub struct Carried {
     pub number: u32,
     pub place: usize,
     pub gap: SignedFen,
+    pub user: SignedFen,
     pub negative: bool,
     pub shares: FenEach,
 }
@@ -237,6 +242,7 @@ pub fn refuse(number: u32, place: usize, lines: [Line; 64]) -> Shared
         number,
         place,
         gap: SignedFen(0),
+        user: SignedFen(0),
         lines: clear(lines),
     }
 }
@@ -249,77 +255,112 @@ fn refusal(number: u32, place: usize) -> Carried
         number,
         place,
         gap: SignedFen(0),
+        user: SignedFen(0),
         negative: false,
         shares: FenEach([0; 64]),
     }
 }
 
-// 16, or the sharing of |R|; `negative` says that R, in `whole`, is below zero.
-fn part(lines: [Line; 64], count: usize, amount: Fen, negative: bool, whole: SignedFen) -> Carried
+// 16, or what each line carries of the generators' R.
+fn carry(lines: [Line; 64], count: usize, g: Gap) -> Carried
     requires { ⌜ CountedWithin lines count ⌝ }
     requires { ⌜ compensated (take count lines) ≤ mostCompensation ⌝ }
-    requires { ⌜ amount .0 ≤ mostCompensation ⌝ }
-    requires { ⌜ GapIs (take count lines) (amount .0) negative (whole .0) ⌝ }
-    ensures { λ r. ⌜ Carries lines count (settled (take count lines)) r ⌝ }
+    requires { ⌜ g .amount .0 ≤ mostCompensation ⌝ }
+    ensures { λ r. ⌜ ((part : ℕ) → GapIs part (take count lines) (g .amount .0) (g .negative) (g .whole .0) (g .user .0)
+        → Carries lines count (settled part (take count lines)) r) ⌝ }
 {
-    let ws = weights_of(lines, count, negative);
+    let ws = weights_of(lines, count, g.negative);
     let all = apportion::total(&ws[..count]);
+    let amount = g.amount;
     if 0 < amount.0 {
         if all == 0 {
             return refusal(16, 0);
         }
     }
     let shares = shares_of(amount, ws, count);
+    let gap = g.whole;
+    let user = g.user;
     Carried {
         number: 0,
         place: 0,
-        gap: whole,
-        negative,
+        gap,
+        user,
+        negative: g.negative,
         shares,
     }
 }
 
-// R of C and A.
-pub fn gap_of(s: Totals) -> Gap
-    requires { ⌜ s .compensated .0 < 2 ^ 63 ⌝ }
-    requires { ⌜ s .assessed .0 < 2 ^ 63 ⌝ }
-    ensures { λ r. ⌜ r .amount .0 ≡ natAbs (pos (s .assessed .0) -ℤ pos (s .compensated .0)) ⌝ }
+// The generators' of an amount: times the part, over 10,000, cut.
+fn generators_of(part: u32, whole: Fen) -> Fen
+    requires { ⌜ part ≤ mostPart ⌝ }
+    requires { ⌜ whole .0 ≤ mostCompensation ⌝ }
+    ensures { λ r. ⌜ r .0 ≡ whole .0 * part / mostPart ⌝ }
+    ensures { λ r. ⌜ r .0 ≤ whole .0 ⌝ }
+{
+    Fen(whole.0 * (part as u64) / (MOST_PART as u64))
+}
+
+// An amount with the sign of R.
+fn signed(negative: bool, amount: Fen) -> SignedFen
+    requires { ⌜ amount .0 < 2 ^ 63 ⌝ }
+    ensures { λ r. ⌜ r .0 ≡ signed negative (amount .0) ⌝ }
+{
+    if negative {
+        difference(Fen(0), amount)
+    } else {
+        difference(amount, Fen(0))
+    }
+}
+
+// R of C and A, and the generators' and the user's of it.
+pub fn gap_of(part: u32, s: Totals) -> Gap
+    requires { ⌜ part ≤ mostPart ⌝ }
+    requires { ⌜ s .compensated .0 ≤ mostCompensation ⌝ }
+    requires { ⌜ s .assessed .0 ≤ mostCompensation ⌝ }
+    ensures { λ r. ⌜ r .amount .0 ≡ natAbs (pos (s .assessed .0) -ℤ pos (s .compensated .0)) * part / mostPart ⌝ }
     ensures { λ r. ⌜ r .negative ≡ ltb (s .assessed .0) (s .compensated .0) ⌝ }
     ensures { λ r. ⌜ r .whole .0 ≡ pos (s .assessed .0) -ℤ pos (s .compensated .0) ⌝ }
+    ensures { λ r. ⌜ r .user .0 ≡ r .whole .0 -ℤ signed (r .negative) (r .amount .0) ⌝ }
+    ensures { λ r. ⌜ r .amount .0 ≤ mostCompensation ⌝ }
 {
     let c = s.compensated.0;
     let a = s.assessed.0;
-    let amount = apart(a, c);
+    let all = apart(a, c);
     let whole = difference(Fen(a), Fen(c));
+    let amount = generators_of(part, all);
+    let negative = a < c;
+    let user = signed(negative, Fen(all.0 - amount.0));
     Gap {
         amount,
-        negative: a < c,
         whole,
+        user,
+        negative,
     }
 }
 
 // 15, 16, or the sharing.
-fn settle(lines: [Line; 64], count: usize) -> Carried
+fn settle(part: u32, lines: [Line; 64], count: usize) -> Carried
+    requires { ⌜ part ≤ mostPart ⌝ }
     requires { ⌜ CountedWithin lines count ⌝ }
-    ensures { λ r. ⌜ Carries lines count (settled (take count lines)) r ⌝ }
+    ensures { λ r. ⌜ Carries lines count (settled part (take count lines)) r ⌝ }
 {
     let s = sums(lines, count);
     if MOST_COMPENSATION < s.compensated.0 {
         return refusal(15, 0);
     }
-    let g = gap_of(s);
-    let amount = g.amount;
-    let whole = g.whole;
-    part(lines, count, amount, g.negative, whole)
+    carry(lines, count, gap_of(part, s))
 }
 
-// 10, 15, 16, or the sharing, of the first `count` of 64 lines.
-pub fn outcome(lines: [Line; 64], count: usize) -> Carried
-    ensures { λ r. ⌜ Carries lines count (sharingCounted lines count) r ⌝ }
+// 10 at 65, 10, 15, 16, or the sharing, of the first `count` of 64 lines.
+pub fn outcome(part: u32, lines: [Line; 64], count: usize) -> Carried
+    ensures { λ r. ⌜ Carries lines count (sharingCounted part lines count) r ⌝ }
 {
+    if MOST_PART < part {
+        return refusal(10, PART_PLACE);
+    }
     let bad = first_bad_line(lines, seen(count));
     if bad < count {
         return refusal(10, bad);
     }
-    settle(lines, count)
+    settle(part, lines, count)
 }

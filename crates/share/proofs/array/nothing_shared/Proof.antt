@@ -15,7 +15,7 @@ returns : tie.Need-returns
 unfolding nothingShared
 returns c =
     let a = c .before .args in
-    let with : (ls : List Line) → Shared = λ ls. record { number = a .number; place = a .place; gap = record { 0 = pos 0 }; lines = ls } in
+    let with : (ls : List Line) → Shared = λ ls. record { number = a .number; place = a .place; gap = record { 0 = pos 0 }; user = record { 0 = pos 0 }; lines = ls } in
     ap with (c .blank-lines .ensures)
 
 pub nothing-shared-spec : {M : Type 1} → statement M

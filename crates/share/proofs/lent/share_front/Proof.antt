@@ -25,8 +25,8 @@ returns-2 : tie.Need-returns-2
 returns-2 c =
     let a = c .before .before .before .args in
     let long : length (a .lines) ≡ 64 = search needs in
-    c .lend-front .ensures ∙ ap (λ (ls : List Line). lendFront ls (a .count)) (c .before .clear .ensures)
-    ∙ front-as-array (a .lines) (a .count) (omega (arith, long, c .before .before .if1 .left))
+    c .lend-front .ensures ∙ ap (λ (ls : List Line). lendFront (a .part) ls (a .count)) (c .before .clear .ensures)
+    ∙ front-as-array (a .part) (a .lines) (a .count) (omega (arith, long, c .before .before .if1 .left))
 
 pub share-front-spec : {M : Type 1} → statement M
 share-front-spec = tie.close (tie.spec share-requires returns clear-requires lend-front-requires returns-2)
