@@ -290,6 +290,13 @@ fn carry(lines: [Line; 64], count: usize, g: Gap) -> Carried
     }
 }
 
+// Over 10,000, cut toward zero.
+fn cut(fen: u64) -> Fen
+    ensures { λ r. ⌜ r .0 ≡ fen / mostPart ⌝ }
+{
+    Fen(fen / (MOST_PART as u64))
+}
+
 // The generators' of an amount: times the part, over 10,000, cut.
 fn generators_of(part: u32, whole: Fen) -> Fen
     requires { ⌜ part ≤ mostPart ⌝ }
@@ -297,7 +304,7 @@ fn generators_of(part: u32, whole: Fen) -> Fen
     ensures { λ r. ⌜ r .0 ≡ whole .0 * part / mostPart ⌝ }
     ensures { λ r. ⌜ r .0 ≤ whole .0 ⌝ }
 {
-    Fen(whole.0 * (part as u64) / (MOST_PART as u64))
+    cut(whole.0 * (part as u64))
 }
 
 // An amount with the sign of R.
@@ -329,7 +336,9 @@ pub fn gap_of(part: u32, s: Totals) -> Gap
     let whole = difference(Fen(a), Fen(c));
     let amount = generators_of(part, all);
     let negative = a < c;
-    let user = signed(negative, Fen(all.0 - amount.0));
+    let owed = all.0;
+    let borne = amount.0;
+    let user = signed(negative, Fen(owed - borne));
     Gap {
         amount,
         whole,

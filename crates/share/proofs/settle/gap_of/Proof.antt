@@ -24,22 +24,22 @@ difference-requires c κs = (omega (arith, c .before .pre .1 .1), omega (arith, 
 generators-of-requires : tie.Need-generators-of-requires
 generators-of-requires c κs = (c .before .before .pre .0, most (c .before))
 
-sub-t12 : tie.Need-sub-t12
-sub-t12 c = search needs
+sub-t14 : tie.Need-sub-t14
+sub-t14 c = search needs
 
 signed-requires : tie.Need-signed-requires
-signed-requires c κs = omega (arith, most (c .before .before .before .before))
+signed-requires c κs = omega (arith, most (c .before .before))
 
 returns : tie.Need-returns
 returns c =
-    let gen = c .before .before .before .generators-of in
-    let apart = c .before .before .before .before .before in
+    let gen = c .before .generators-of in
+    let apart = c .before .before .before in
     let args = apart .before .args in
     let a = args .s .assessed .0 in
     let d = args .s .compensated .0 in
     let n : ℕ = apart .apart .result .0 in
     let m : ℕ = gen .result .0 in
-    let whole = c .before .before .before .before .difference .ensures in
+    let whole = c .before .before .difference .ensures in
     let all : signed (ltb a d) n ≡ pos a -ℤ pos d = ap (signed (ltb a d)) (apart .apart .ensures) ∙ signed-diff a d in (
       gen .ensures .0 ∙ ap (λ (k : ℕ). k * args .part / mostPart) (apart .apart .ensures),
       (
@@ -52,4 +52,4 @@ returns c =
     )
 
 pub gap-of-spec : {M : Type 1} → statement M
-gap-of-spec = tie.close (tie.spec apart-requires difference-requires generators-of-requires sub-t12 signed-requires returns)
+gap-of-spec = tie.close (tie.spec apart-requires difference-requires generators-of-requires sub-t14 signed-requires returns)
