@@ -54,7 +54,7 @@ whole-settled ls = rw (whole-amount ls) (go (ltb mostCompensation (compensated l
     go false true = refl
     go false false = whole-accepted ls
 
-whole-turn : (bad count : ℕ) (ls : List Line) → sharingInTurn mostPart bad count ls ≡ noUser (inTurnWithout bad count ls)
+pub whole-turn : (bad count : ℕ) (ls : List Line) → sharingInTurn mostPart bad count ls ≡ noUser (inTurnWithout bad count ls)
 unfolding sharingInTurn inTurnWithout
 whole-turn bad count ls = go (ltb bad (min count mostNumber)) (ltb mostNumber count)
   where

@@ -6,4 +6,5 @@ pub mod Refusals
 pub mod ThreeForms
 pub mod RoundTrip
 pub mod ReadBack
+pub mod WholePart
 pub mod Worked

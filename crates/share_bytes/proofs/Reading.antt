@@ -9,14 +9,14 @@ use native.Mathlib.Omega.{arith}
 use lib.ListN.{length, getD, take}
 use lib.Seq.{take-all}
 use Rattle.share.specs.declared.Line.{Line}
-use Rattle.share.specs.Sharing.{lineIsSound, firstBadLine, sharingInTurn, sharing, mostNumber}
-use Rattle.share.specs.Forms.{blankLine, sharingCounted}
-use Rattle.share.specs.Verdict.{SoundLine, numberBefore, SoundAt}
-use Rattle.share.proofs.Cases.{bad-le, turn-10}
-use Rattle.share.proofs.Counted.{blank-bad, same-sharing}
+use Rattle.share.specs.Sharing.{lineIsSound, firstBadLine, sharingInTurn, sharing, mostNumber, mostPart}
+use Rattle.share.specs.Forms.{blankLine}
+use Rattle.share.specs.Verdict.{numberBefore, SoundAt}
+use Rattle.share.proofs.Cases.{bad-le, turn-10, any-part}
+use Rattle.share.proofs.Counted.{blank-bad}
 use Rattle.share_bytes.specs.Bytes.{lineSize, fieldsAt, reservedZero, firstBadBytes, linesBy, byteCount, byteLines, sharingSpelt}
 use Rattle.share_bytes.specs.Inner.{lineAt, linesAt}
-use Rattle.share_bytes.specs.Verdict.{SoundBytes, BytesSoundBefore}
+use Rattle.share_bytes.specs.Verdict.{BytesSoundBefore}
 use Rattle.share_bytes.proofs.Spelling.{length-lines, lines-take, line-of}
 
 -- a line with a reserved byte that is not zero is as bad as a blank one
@@ -71,9 +71,11 @@ module _ (input : List ℕ) where
   bad-is = ap (firstBadLine 0) first-64 ∙ bad-read 0 input 0 (min (byteCount input) mostNumber)
 
   -- SHARING OVER BYTES is the sharing of the lines as they are read.
-  pub turn-read : sharing read ≡ sharingSpelt input
+  pub turn-read : (part : ℕ) → sharing part read ≡ sharingSpelt part input
   unfolding bad
-  turn-read = ap (λ (k : ℕ). sharingInTurn k (length read) read) bad-is ∙ ap (λ (k : ℕ). sharingInTurn bad k read) (length-lines (lineAt input) 0 (byteCount input)) ∙ go (decLt bad (byteCount input))
+  turn-read part =
+      ap (λ (k : ℕ). sharingInTurn part k (length read) read) bad-is ∙ ap (λ (k : ℕ). sharingInTurn part bad k read) (length-lines (lineAt input) 0 (byteCount input))
+      ∙ any-part part bad (byteCount input) bad (byteCount input) read (byteLines input) (λ fair. go fair (decLt bad (byteCount input)))
     where
       m : ℕ
       m = min (byteCount input) mostNumber
@@ -81,12 +83,12 @@ module _ (input : List ℕ) where
       few : bad ≤ m
       few = omega (arith, bad-read 0 input 0 m, bad-le 0 (linesAt input 0 m), length-lines (lineAt input) 0 m)
 
-      go : Dec (bad < byteCount input) → sharingInTurn bad (byteCount input) read ≡ sharingInTurn bad (byteCount input) (byteLines input)
-      go (yes h) = sym (turn-10 bad (byteCount input) read (omega (arith, few)) h) ∙ turn-10 bad (byteCount input) (byteLines input) (omega (arith, few)) h
-      go (no f) =
+      go : part ≤ mostPart → Dec (bad < byteCount input) → sharingInTurn part bad (byteCount input) read ≡ sharingInTurn part bad (byteCount input) (byteLines input)
+      go fair (yes h) = sym (turn-10 part bad (byteCount input) read fair (omega (arith, few)) h) ∙ turn-10 part bad (byteCount input) (byteLines input) fair (omega (arith, few)) h
+      go fair (no f) =
           let all : m ≡ byteCount input = omega (arith, few) in
           let sound : byteCount input ≤ firstBadBytes 0 input 0 (byteCount input) = subst (λ (k : ℕ). k ≤ firstBadBytes 0 input 0 k) all (omega (arith, few)) in
-          ap (sharingInTurn bad (byteCount input)) (same-read 0 input 0 (byteCount input) sound)
+          ap (sharingInTurn part bad (byteCount input)) (same-read 0 input 0 (byteCount input) sound)
 
   -- Soundness, place by place
 

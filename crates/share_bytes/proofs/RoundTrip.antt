@@ -133,5 +133,5 @@ reads-back ls a =
     sym (same-read 0 (linesBytes ls) 0 (byteCount (linesBytes ls)) (omega (arith, n, sound, none-bad ls a, bad-read 0 (linesBytes ls) 0 (byteCount (linesBytes ls))))) ∙ b
 
 -- The byte form over the bytes of sound lines, with room, says what sharing says of the lines.
-pub bytes-of-lines : (ls : List Line) (room : ℕ) → AllSound ls → partSize * length ls ≤ room → sharingBytes (linesBytes ls) room ≡ sharing ls
-bytes-of-lines ls room a h = bytes-as-list ls (linesBytes ls) room (omega (arith, length-bytes ls)) (lines-back ls a) h
+pub bytes-of-lines : (part : ℕ) (ls : List Line) (room : ℕ) → AllSound ls → partSize * length ls + partSize ≤ room → sharingBytes part (linesBytes ls) room ≡ sharing part ls
+bytes-of-lines part ls room a h = bytes-as-list part ls (linesBytes ls) room (omega (arith, length-bytes ls)) (lines-back ls a) h

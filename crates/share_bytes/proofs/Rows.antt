@@ -6,7 +6,7 @@ use mathlib.Core.List.{List, [], _∷_, _++_, map}
 use Prim.Native.Nat.{ℕ, zero, suc, _+_, _*_, _-_, _%_, _^_, _≤_, _<_, min}
 use native.Mathlib.Numerals.{add-one}
 use native.Mathlib.Omega.{arith}
-use lib.Dec.{ltb, eqb}
+use lib.Dec.{ltb, eqb, lit<}
 use lib.IntN.{ℤ}
 use lib.ListN.{length, getD, take, drop, drop-of-length-le, length-map, length-append, replicate, length-replicate}
 use lib.Seq.{drop-cons, take-at}
@@ -21,20 +21,21 @@ use Rattle.units.specs.declared.SignedFen.{SignedFen}
 use Rattle.share.specs.declared.Answer.{Answer}
 use Rattle.share.specs.declared.Line.{Line}
 use Rattle.share.specs.Sharing.{Part, compensated, weightOf, weightsOf, allWeights, below, partsBy, parts, firstBadLine}
-use Rattle.share.specs.Sharing.{SharingOutcome, sharingRefused, sharingAccepted, settled, sharingInTurn, mostNumber, mostCompensation}
+use Rattle.share.specs.Sharing.{SharingOutcome, sharingRefused, sharingAccepted, settled, sharingInTurn, generatorsAmount, mostNumber, mostCompensation, mostPart, partPlace}
 use Rattle.share.specs.Forms.{answerOf}
 use Rattle.share.specs.Limits.{LineWithin, LinesWithin}
 use Rattle.share.specs.Inner.{GapIs}
 use Rattle.share.proofs.Bounds.{all-within, weights-le}
-use Rattle.share.proofs.Cases.{bad-le, turn-10, turn-on, settled-16, settled-on, parts-are}
+use Rattle.share.proofs.Cases.{bad-le, turn-part, turn-10, turn-on, settled-16, settled-on, parts-are}
 use Rattle.share.proofs.Lines.{length-parts}
 use Rattle.share.proofs.Lists.{getD-mapped}
 use Rattle.share.proofs.Outcomes.{long-shares}
-use Rattle.share_bytes.specs.Bytes.{lineSize, fieldsAt, bytesAreSound, firstBadBytes, partSize, partsBytes, byteCount, byteLines, sharingSpelt, ifRoom, sharingBytes, BytesShared}
+use Rattle.share_bytes.specs.Bytes.{lineSize, fieldsAt, bytesAreSound, firstBadBytes, partSize, partBytes, partsBytes, userPart, partsWritten}
+use Rattle.share_bytes.specs.Bytes.{byteCount, byteLines, sharingSpelt, ifRoom, sharingBytes, BytesShared}
 use Rattle.share_bytes.specs.Inner.{linesAt, lineAt, speltLines, BytesSettled}
-use Rattle.share_bytes.proofs.Spelling.{length-lines, line-of}
+use Rattle.share_bytes.proofs.Spelling.{length-lines, line-of, last-stored}
 use Rattle.share_bytes.proofs.Reading.{bad-read, same-read}
-use Rattle.share_bytes.proofs.ByteCases.{nothing-stored, told-is}
+use Rattle.share_bytes.proofs.ByteCases.{none-written, some-written, long-written, nothing-stored, told-is}
 
 -- The reserved bytes, by a test each
 
@@ -150,7 +151,7 @@ module _ (bytes out weights ss : List ℕ) (amount : ℕ) (is : ss ≡ apportion
   long-ss : length ss ≡ length weights
   long-ss = ap length is ∙ each-one amount weights
 
-  pub parts-ready : lineSize * length weights ≤ length bytes → LinesWithin (speltLines bytes (length weights)) → partSize * length weights ≤ length out
+  pub parts-ready : lineSize * length weights ≤ length bytes → LinesWithin (speltLines bytes (length weights)) → partSize * length weights + partSize ≤ length out
       → amount ≤ mostCompensation → (0 < amount → 0 < total weights)
       → (lineSize * length ss ≤ length bytes) × (LinesWithin (speltLines bytes (length ss)) × ((partSize * length ss ≤ length out) × ((k : ℕ) → getD ss k 0 ≤ mostCompensation)))
   parts-ready a b r most way = (
@@ -165,10 +166,16 @@ module _ (bytes out weights ss : List ℕ) (amount : ℕ) (is : ss ≡ apportion
       sum : total ss ≡ amount
       sum = go (decLe 1 amount)
 
-  pub parts-as : (negative : Bool) (after : List ℕ) → Stores out 0 (partsBytes (partsBy negative (speltLines bytes (length ss)) ss)) after
-      → Stores out 0 (partsBytes (partsBy negative (speltLines bytes (length weights)) (apportion amount weights))) after
-  parts-as negative after f =
-      subst (λ (ps : List Part). Stores out 0 (partsBytes ps) after) (ap₂ (λ (n : ℕ) (ts : List ℕ). partsBy negative (speltLines bytes n) ts) long-ss is) f
+  pub parts-as : (negative : Bool) (user : ℤ) {mid after : List ℕ} → Stores out 0 (partsBytes (partsBy negative (speltLines bytes (length ss)) ss)) mid
+      → Stores mid (partSize * length weights) (partBytes (userPart user)) after
+      → Stores out 0 (partsBytes (partsBy negative (speltLines bytes (length weights)) (apportion amount weights) ++ (userPart user ∷ []))) after
+  parts-as negative user {mid} {after} f g =
+      let ps = partsBy negative (speltLines bytes (length weights)) (apportion amount weights) in
+      let long : length ps ≡ length weights =
+      length-parts negative (speltLines bytes (length weights)) (apportion amount weights) (each-one amount weights ∙ sym (length-lines (fieldsAt bytes) 0 (length weights)))
+      ∙ length-lines (fieldsAt bytes) 0 (length weights) in
+      last-stored ps (userPart user) (length weights) long
+      (subst (λ (qs : List Part). Stores out 0 (partsBytes qs) mid) (ap₂ (λ (n : ℕ) (ts : List ℕ). partsBy negative (speltLines bytes n) ts) long-ss is) f) g
 
 -- as many lines as a room that is lent is long
 pub rows-ready : (bytes : List ℕ) (k n : ℕ) → k ≡ n → lineSize * n ≤ length bytes → LinesWithin (speltLines bytes n) → (lineSize * k ≤ length bytes) × LinesWithin (speltLines bytes k)
@@ -176,45 +183,52 @@ rows-ready bytes k n e a b = (omega arith, subst (λ (j : ℕ). LinesWithin (spe
 
 -- The room
 
-pub room-refused : (room number place : ℕ) → ifRoom room (sharingRefused number place) ≡ sharingRefused number place
+pub room-refused : (room number place : ℕ) → 0 < number → ifRoom room (sharingRefused number place) ≡ sharingRefused number place
 unfolding ifRoom
-room-refused room number place = rw (le-ltb room (partSize * 0) (omega arith))
+room-refused room number place some =
+    let none : partSize * length (partsWritten (sharingRefused number place)) ≡ 0 = ap (λ (ps : List Part). partSize * length ps) (none-written (sharingRefused number place) some) in
+    rw (le-ltb room (partSize * length (partsWritten (sharingRefused number place))) (omega arith))
 
-module _ (room : ℕ) (o : SharingOutcome) (count : ℕ) (long : length (o .parts) ≡ count) where
-  pub room-9 : room < partSize * count → ifRoom room o ≡ sharingRefused 9 0
+module _ (room : ℕ) (o : SharingOutcome) (count : ℕ) (zero : o .number ≡ 0) (long : length (o .parts) ≡ count) where
+  all : length (partsWritten o) ≡ count + 1
+  all = long-written o zero ∙ ap (λ (n : ℕ). n + 1) long
+
+  pub room-9 : room < partSize * count + partSize → ifRoom room o ≡ sharingRefused 9 0
   unfolding ifRoom
-  room-9 h = rw (lt-ltb room (partSize * length (o .parts)) (omega (arith, long)))
+  room-9 h = rw (lt-ltb room (partSize * length (partsWritten o)) (omega (arith, all)))
 
-  pub room-on : partSize * count ≤ room → ifRoom room o ≡ o
+  pub room-on : partSize * count + partSize ≤ room → ifRoom room o ≡ o
   unfolding ifRoom
-  room-on h = rw (le-ltb room (partSize * length (o .parts)) (omega (arith, long)))
+  room-on h = rw (le-ltb room (partSize * length (partsWritten o)) (omega (arith, all)))
 
-pub length-accepted : (ls : List Line) → length (sharingAccepted ls .parts) ≡ length ls
+pub length-accepted : (part : ℕ) (ls : List Line) → length (sharingAccepted part ls .parts) ≡ length ls
 unfolding parts
-length-accepted ls = length-parts (below ls) ls _ (long-shares ls)
+length-accepted part ls = length-parts (below ls) ls _ (long-shares (generatorsAmount part ls) ls)
 
 -- Settled
 
-module _ (ls : List Line) (out : List ℕ) (r : Answer) where
+module _ (part : ℕ) (ls : List Line) (out : List ℕ) (r : Answer) where
   -- a refusal leaves the output as it is
-  pub untouched : (number place : ℕ) → ifRoom (length out) (settled ls) ≡ sharingRefused number place → r ≡ answerOf (sharingRefused number place)
-      → BytesSettled ls out out r
-  untouched number place e s =
+  pub untouched : (number place : ℕ) → 0 < number → ifRoom (length out) (settled part ls) ≡ sharingRefused number place → r ≡ answerOf (sharingRefused number place)
+      → BytesSettled part ls out out r
+  untouched number place some e s =
       record {
         says = s ∙ ap answerOf (sym e);
-        bytes = nothing-stored out (ifRoom (length out) (settled ls)) (ap (λ (o : SharingOutcome). o .parts) e);
+        bytes = nothing-stored out (ifRoom (length out) (settled part ls)) (ap partsWritten e ∙ none-written (sharingRefused number place) some);
       }
 
   -- the parts are written
-  pub written : (whole : SignedFen) (amount : ℕ) (negative : Bool) (weights : List ℕ) {after : List ℕ} → ifRoom (length out) (settled ls) ≡ sharingAccepted ls
-      → r ≡ record { number = 0; place = 0; gap = whole } → GapIs ls amount negative (whole .0) → weights ≡ weightsOf negative ls
-      → Stores out 0 (partsBytes (partsBy negative ls (apportion amount weights))) after → BytesSettled ls out after r
-  written whole amount negative weights {after} e s g w stores =
-      let given : partsBy negative ls (apportion amount weights) ≡ parts ls =
-      parts-are ls amount negative (apportion amount weights) (g .0) (g .1) (ap (λ (ws : List ℕ). apportion amount ws) w) in
+  pub written : (whole user : SignedFen) (amount : ℕ) (negative : Bool) (weights : List ℕ) {after : List ℕ} → ifRoom (length out) (settled part ls) ≡ sharingAccepted part ls
+      → r ≡ record { number = 0; place = 0; gap = whole; user = user } → GapIs part ls amount negative (whole .0) (user .0) → weights ≡ weightsOf negative ls
+      → Stores out 0 (partsBytes (partsBy negative ls (apportion amount weights) ++ (userPart (user .0) ∷ []))) after → BytesSettled part ls out after r
+  written whole user amount negative weights {after} e s g w stores =
+      let given : partsBy negative ls (apportion amount weights) ≡ parts part ls =
+      parts-are part ls amount negative (apportion amount weights) (g .0) (g .1) (ap (λ (ws : List ℕ). apportion amount ws) w) in
+      let all : partsBy negative ls (apportion amount weights) ++ (userPart (user .0) ∷ []) ≡ partsWritten (sharingAccepted part ls) =
+      ap₂ (λ (ps : List Part) (z : ℤ). ps ++ (userPart z ∷ [])) given (g .3) ∙ sym (some-written (sharingAccepted part ls) refl) in
       record {
-        says = s ∙ told-is (sharingAccepted ls) 0 0 whole refl refl (g .2) ∙ ap answerOf (sym e);
-        bytes = subst (λ (ps : List Part). Stores out 0 (partsBytes ps) after) (given ∙ ap (λ (o : SharingOutcome). o .parts) (sym e)) stores;
+        says = s ∙ told-is (sharingAccepted part ls) 0 0 whole user refl refl (g .2) (g .3) ∙ ap answerOf (sym e);
+        bytes = subst (λ (ps : List Part). Stores out 0 (partsBytes ps) after) (all ∙ ap partsWritten (sym e)) stores;
       }
 
 -- The tests of the weights
@@ -229,8 +243,8 @@ some-weighs amount all ws s e h = go (ℕ-discrete all 0)
     go (yes z) = absurd (true≢false (sym (rw (lt-ltb 0 amount h, eq-eqb all 0 z)) ∙ e))
     go (no f) = omega arith
 
--- Lines of n rows, of R and weights as they were reckoned
-module _ (bytes : List ℕ) (n amount : ℕ) (negative : Bool) (whole : ℤ) (ws : List ℕ) (is : ws ≡ weightsOf negative (speltLines bytes n)) where
+-- Lines of n rows, of what is shared and of weights as they were reckoned
+module _ (bytes : List ℕ) (n amount : ℕ) (negative : Bool) (ws : List ℕ) (is : ws ≡ weightsOf negative (speltLines bytes n)) where
   abbrev rows : List Line
   rows = speltLines bytes n
 
@@ -242,49 +256,65 @@ module _ (bytes : List ℕ) (n amount : ℕ) (negative : Bool) (whole : ℤ) (ws
       let most = weights-le negative rows all in
       (omega (arith, ap total is, most, length-lines (fieldsAt bytes) 0 n), omega (arith, ap total is, most, length-lines (fieldsAt bytes) 0 n))
 
-  pub shared-ready : (out : List ℕ) → n ≤ mostNumber → lineSize * n ≤ length bytes → LinesWithin rows → partSize * n ≤ length out → amount ≤ mostCompensation
+  pub shared-ready : (out : List ℕ) → n ≤ mostNumber → lineSize * n ≤ length bytes → LinesWithin rows → partSize * n + partSize ≤ length out → amount ≤ mostCompensation
       → (0 < amount → 0 < total (weightsOf negative rows))
-      → (length ws ≤ mostNumber) × ((lineSize * length ws ≤ length bytes) × (LinesWithin (speltLines bytes (length ws)) × ((partSize * length ws ≤ length out)
+      → (length ws ≤ mostNumber) × ((lineSize * length ws ≤ length bytes) × (LinesWithin (speltLines bytes (length ws)) × ((partSize * length ws + partSize ≤ length out)
       × ((amount ≤ mostCompensation) × ((total ws < 2 ^ 62) × (0 < amount → 0 < total ws))))))
   shared-ready out few a b r most way = (
     omega (arith, long-ws),
     (omega (arith, long-ws), (subst (λ (k : ℕ). LinesWithin (speltLines bytes k)) (sym long-ws) b, (omega (arith, long-ws), (most, (weights-fit few b .0, λ h. omega (arith, ap total is, way h)))))),
   )
 
-  module _ (out : List ℕ) (r : Answer) (gap-is : GapIs rows amount negative whole) (within : compensated rows ≤ mostCompensation) where
+  module _ (part : ℕ) (whole user : ℤ) (out : List ℕ) (r : Answer) (gap-is : GapIs part rows amount negative whole user) (within : compensated rows ≤ mostCompensation) where
     all-is : total ws ≡ allWeights rows
     all-is = ap total is ∙ ap (λ (b : Bool). total (weightsOf b rows)) (gap-is .1)
 
     -- 16
-    pub gap-16 : 0 < amount → total ws ≡ 0 → r ≡ answerOf (sharingRefused 16 0) → BytesSettled rows out out r
+    pub gap-16 : 0 < amount → total ws ≡ 0 → r ≡ answerOf (sharingRefused 16 0) → BytesSettled part rows out out r
     gap-16 h z s =
-        untouched rows out r 16 0 (ap (ifRoom (length out)) (sym (settled-16 rows within (omega (arith, gap-is .0)) (sym all-is ∙ z))) ∙ room-refused (length out) 16 0) s
+        untouched part rows out r 16 0 (lit< tt)
+        (ap (ifRoom (length out)) (sym (settled-16 part rows within (omega (arith, gap-is .0)) (sym all-is ∙ z))) ∙ room-refused (length out) 16 0 (lit< tt)) s
 
-    taken-on : (0 < amount → 0 < total (weightsOf negative rows)) → settled rows ≡ sharingAccepted rows
-    taken-on way = sym (settled-on rows within (λ h. omega (arith, way (omega (arith, gap-is .0)), ap total is, all-is)))
+    taken-on : (0 < amount → 0 < total (weightsOf negative rows)) → settled part rows ≡ sharingAccepted part rows
+    taken-on way = sym (settled-on part rows within (λ h. omega (arith, way (omega (arith, gap-is .0)), ap total is, all-is)))
+
+    long-parts : length (sharingAccepted part rows .parts) ≡ n
+    long-parts = length-accepted part rows ∙ length-lines (fieldsAt bytes) 0 n
 
     -- 9
-    pub gap-9 : (0 < amount → 0 < total (weightsOf negative rows)) → length out < partSize * n → r ≡ answerOf (sharingRefused 9 0) → BytesSettled rows out out r
+    pub gap-9 : (0 < amount → 0 < total (weightsOf negative rows)) → length out < partSize * n + partSize → r ≡ answerOf (sharingRefused 9 0) → BytesSettled part rows out out r
     gap-9 way short s =
-        untouched rows out r 9 0
-        (ap (ifRoom (length out)) (taken-on way) ∙ room-9 (length out) (sharingAccepted rows) n (length-accepted rows ∙ length-lines (fieldsAt bytes) 0 n) short) s
+        untouched part rows out r 9 0 (lit< tt) (ap (ifRoom (length out)) (taken-on way) ∙ room-9 (length out) (sharingAccepted part rows) n refl long-parts short) s
 
-    pub gap-shared : (after : List ℕ) (told : SignedFen) → told .0 ≡ whole → (0 < amount → 0 < total (weightsOf negative rows)) → partSize * n ≤ length out
-        → r ≡ record { number = 0; place = 0; gap = told }
-        → Stores out 0 (partsBytes (partsBy negative (speltLines bytes (length ws)) (apportion amount ws))) after → BytesSettled rows out after r
-    gap-shared after told t way room s f =
-        let e = ap (ifRoom (length out)) (taken-on way) ∙ room-on (length out) (sharingAccepted rows) n (length-accepted rows ∙ length-lines (fieldsAt bytes) 0 n) room in
-        written rows out r told amount negative ws e s (gap-is .0, gap-is .1, t ∙ gap-is .2) is
-        (subst (λ (k : ℕ). Stores out 0 (partsBytes (partsBy negative (speltLines bytes k) (apportion amount ws))) after) long-ws f)
+    pub gap-shared : (after : List ℕ) (told left : SignedFen) → told .0 ≡ whole → left .0 ≡ user → (0 < amount → 0 < total (weightsOf negative rows))
+        → partSize * n + partSize ≤ length out → r ≡ record { number = 0; place = 0; gap = told; user = left }
+        → Stores out 0 (partsBytes (partsBy negative (speltLines bytes (length ws)) (apportion amount ws) ++ (userPart (left .0) ∷ []))) after → BytesSettled part rows out after r
+    gap-shared after told left t u way room s f =
+        let e = ap (ifRoom (length out)) (taken-on way) ∙ room-on (length out) (sharingAccepted part rows) n refl long-parts room in
+        written part rows out r told left amount negative ws e s (gap-is .0, gap-is .1, t ∙ gap-is .2, u ∙ gap-is .3) is
+        (subst (λ (k : ℕ). Stores out 0 (partsBytes (partsBy negative (speltLines bytes k) (apportion amount ws) ++ (userPart (left .0) ∷ []))) after) long-ws f)
 
 -- The sharing of bytes
 
-pub not-shared : (input out : List ℕ) (r : Answer) (number place : ℕ) → sharingBytes input (length out) ≡ sharingRefused number place → r ≡ answerOf (sharingRefused number place)
-    → BytesShared input out out r
-not-shared input out r number place e s =
-    record { says = s ∙ ap answerOf (sym e); bytes = nothing-stored out (sharingBytes input (length out)) (ap (λ (o : SharingOutcome). o .parts) e) }
+pub not-shared : (part : ℕ) (input out : List ℕ) (r : Answer) (number place : ℕ) → 0 < number → sharingBytes part input (length out) ≡ sharingRefused number place
+    → r ≡ answerOf (sharingRefused number place) → BytesShared part input out out r
+not-shared part input out r number place some e s =
+    record {
+      says = s ∙ ap answerOf (sym e);
+      bytes = nothing-stored out (sharingBytes part input (length out)) (ap partsWritten e ∙ none-written (sharingRefused number place) some);
+    }
 
-module _ (input : List ℕ) (m bad : ℕ) (whole : length input % lineSize ≡ 0) (m-is : m ≡ min (byteCount input) mostNumber) (is : bad ≡ firstBadBytes 0 input 0 m) where
+-- 10 at 65
+pub part-above : (part : ℕ) (input : List ℕ) (out : List ℕ) (r : Answer) → length input % lineSize ≡ 0 → mostPart < part → r ≡ answerOf (sharingRefused 10 partPlace)
+    → BytesShared part input out out r
+unfolding sharingBytes
+part-above part input out r whole h s =
+    let turn : sharingSpelt part input ≡ sharingRefused 10 partPlace = sym (turn-part part _ (byteCount input) (byteLines input) h) in
+    not-shared part input out r 10 partPlace (lit< tt)
+    (rw (eq-eqb (length input % lineSize) 0 whole) (ap (ifRoom (length out)) turn ∙ room-refused (length out) 10 partPlace (lit< tt))) s
+
+module _ (part : ℕ) (input : List ℕ) (m bad : ℕ) (whole : length input % lineSize ≡ 0) (fair : part ≤ mostPart) (m-is : m ≡ min (byteCount input) mostNumber)
+    (is : bad ≡ firstBadBytes 0 input 0 m) where
   few : bad ≤ m
   few = omega (arith, is, bad-few input m)
 
@@ -292,12 +322,14 @@ module _ (input : List ℕ) (m bad : ℕ) (whole : length input % lineSize ≡ 0
   bad-is = is ∙ ap (λ (k : ℕ). firstBadBytes 0 input 0 k) m-is
 
   -- 10 at the first bad line
-  pub ten : (out : List ℕ) (r : Answer) → bad < byteCount input → r ≡ answerOf (sharingRefused 10 bad) → BytesShared input out out r
+  pub ten : (out : List ℕ) (r : Answer) → bad < byteCount input → r ≡ answerOf (sharingRefused 10 bad) → BytesShared part input out out r
   unfolding sharingBytes
   ten out r h s =
-      let turn : sharingSpelt input ≡ sharingRefused 10 bad =
-      ap (λ (k : ℕ). sharingInTurn k (byteCount input) (byteLines input)) (sym bad-is) ∙ sym (turn-10 bad (byteCount input) (byteLines input) (omega (arith, few, m-is)) h) in
-      not-shared input out r 10 bad (rw (eq-eqb (length input % lineSize) 0 whole) (ap (ifRoom (length out)) turn ∙ room-refused (length out) 10 bad)) s
+      let turn : sharingSpelt part input ≡ sharingRefused 10 bad =
+      ap (λ (k : ℕ). sharingInTurn part k (byteCount input) (byteLines input)) (sym bad-is)
+      ∙ sym (turn-10 part bad (byteCount input) (byteLines input) fair (omega (arith, few, m-is)) h) in
+      not-shared part input out r 10 bad (lit< tt)
+      (rw (eq-eqb (length input % lineSize) 0 whole) (ap (ifRoom (length out)) turn ∙ room-refused (length out) 10 bad (lit< tt))) s
 
   pub none-bad : byteCount input ≤ bad → (byteCount input ≤ mostNumber) × (byteCount input ≤ firstBadBytes 0 input 0 (min (byteCount input) mostNumber))
       × LinesWithin (speltLines input (byteCount input))
@@ -305,16 +337,16 @@ module _ (input : List ℕ) (m bad : ℕ) (whole : length input % lineSize ≡ 0
       let all : m ≡ byteCount input = omega (arith, few, m-is) in
       (omega (arith, few, m-is), omega (arith, bad-is), sound-within input (byteCount input) (omega (arith, is, ap (λ (k : ℕ). firstBadBytes 0 input 0 k) all)))
 
--- where every line is sound, what settles them is the sharing of the bytes
-pub settled-bytes : (input out after : List ℕ) (r : Answer) → length input % lineSize ≡ 0 → byteCount input ≤ mostNumber
-    → byteCount input ≤ firstBadBytes 0 input 0 (min (byteCount input) mostNumber) → BytesSettled (byteLines input) out after r → BytesShared input out after r
+-- where the part and every line are sound, what settles them is the sharing of the bytes
+pub settled-bytes : (part : ℕ) (input out after : List ℕ) (r : Answer) → length input % lineSize ≡ 0 → part ≤ mostPart → byteCount input ≤ mostNumber
+    → byteCount input ≤ firstBadBytes 0 input 0 (min (byteCount input) mostNumber) → BytesSettled part (byteLines input) out after r → BytesShared part input out after r
 unfolding sharingBytes
-settled-bytes input out after r whole few sound s =
+settled-bytes part input out after r whole fair few sound s =
     let bad = firstBadBytes 0 input 0 (min (byteCount input) mostNumber) in
-    let turn : settled (byteLines input) ≡ sharingSpelt input = turn-on bad (byteCount input) (byteLines input) few sound in
-    let e : ifRoom (length out) (settled (byteLines input)) ≡ sharingBytes input (length out) =
+    let turn : settled part (byteLines input) ≡ sharingSpelt part input = turn-on part bad (byteCount input) (byteLines input) fair few sound in
+    let e : ifRoom (length out) (settled part (byteLines input)) ≡ sharingBytes part input (length out) =
     rw (eq-eqb (length input % lineSize) 0 whole) (ap (ifRoom (length out)) turn) in
     record {
       says = s .says ∙ ap answerOf e;
-      bytes = subst (λ (o : SharingOutcome). Stores out 0 (partsBytes (o .parts)) after) e (s .bytes);
+      bytes = subst (λ (o : SharingOutcome). Stores out 0 (partsBytes (partsWritten o)) after) e (s .bytes);
     }

@@ -82,6 +82,18 @@ parts-stored ps i d {k} {l} {m} h f g =
     let at : 16 * i ≡ 0 + length (partsBytes (take i ps)) = omega (arith, length-partsBytes (take i ps), length-take-le i ps (omega arith)) in
     rw (add-one, ← parts-more ps i d h) (then (16 * i) at f g)
 
+-- one part behind the others
+pub parts-last : (ps : List Part) (p : Part) → partsBytes ps ++ partBytes p ≡ partsBytes (ps ++ (p ∷ []))
+unfolding partsBytes
+parts-last [] p = sym (append-nil (partBytes p))
+parts-last (q ∷ ps) p = append-assoc (partBytes q) (partsBytes ps) (partBytes p) ∙ ap (λ (t : List ℕ). partBytes q ++ t) (parts-last ps p)
+
+pub last-stored : (ps : List Part) (p : Part) (n : ℕ) {k l m : List ℕ} → length ps ≡ n → Stores k 0 (partsBytes ps) l → Stores l (16 * n) (partBytes p) m
+    → Stores k 0 (partsBytes (ps ++ (p ∷ []))) m
+last-stored ps p n {k} {l} {m} e f g =
+    let at : 16 * n ≡ 0 + length (partsBytes ps) = omega (arith, length-partsBytes ps) in
+    subst (λ (xs : List ℕ). Stores k 0 xs m) (parts-last ps p) (then (16 * n) at f g)
+
 -- what a line has been given
 abbrev partIn : Line → Part
 partIn l = record { share = l .share .0; amount = l .amount .0 }

@@ -4,7 +4,7 @@ use mathlib.Core.Bool.{Bool, cond, _&&_}
 use mathlib.Core.List.{List, [], _∷_, _++_}
 use Prim.Native.Nat.{ℕ, zero, suc, _+_, _*_, _/_, _%_, min}
 use lib.Dec.{ltb, eqb}
-use lib.IntN.{pos}
+use lib.IntN.{ℤ, pos}
 use lib.ListN.{length}
 use mir.Syntax.{w64}
 use mir.Val.{ofZ, toZ}
@@ -73,7 +73,7 @@ linesBytes (l ∷ ls) = lineThen l (linesBytes ls)
 
 -- The outcome in bytes
 
--- the outcome is 16 bytes a line
+-- the outcome is 16 bytes a line, and 16 behind them
 abbrev pub partSize : ℕ
 partSize = 16
 
@@ -85,6 +85,14 @@ partBytes p = leBytes 8 (ofZ w64 (p .share)) ++ leBytes 8 (ofZ w64 (p .amount))
 unfoldable pub partsBytes : List Part → List ℕ
 partsBytes [] = []
 partsBytes (p ∷ ps) = partBytes p ++ partsBytes ps
+
+-- the last sixteen bytes are the user's amount twice
+abbrev pub userPart : ℤ → Part
+userPart user = record { share = user; amount = user }
+
+-- what is written: what each line gets, and behind it the user's amount; on a refusal nothing
+unfoldable pub partsWritten : SharingOutcome → List Part
+partsWritten o = cond (eqb (o .number) 0) (o .parts ++ (userPart (o .user) ∷ [])) []
 
 -- share and amount of a line as a plant's tool reads them: each a signed number of eight bytes, 16 bytes a line
 unfoldable pub partAt : List ℕ → ℕ → Part
@@ -101,20 +109,20 @@ partsAt bytes n = partsFrom (partAt bytes) 0 n
 
 -- Sharing over bytes
 
--- 10 in turn, a 65th line included, 15, 16
-abbrev pub sharingSpelt : List ℕ → SharingOutcome
-sharingSpelt input = sharingInTurn (firstBadBytes 0 input 0 (min (byteCount input) mostNumber)) (byteCount input) (byteLines input)
+-- 10 at 65 for the part, 10 in turn, a 65th line included, 15, 16
+abbrev pub sharingSpelt : ℕ → List ℕ → SharingOutcome
+sharingSpelt part input = sharingInTurn part (firstBadBytes 0 input 0 (min (byteCount input) mostNumber)) (byteCount input) (byteLines input)
 
--- 9, last of all: the output is too short for what the lines get
+-- 9, last of all: the output is too short for what is written
 unfoldable pub ifRoom : ℕ → SharingOutcome → SharingOutcome
-ifRoom room o = cond (ltb room (partSize * length (o .parts))) (sharingRefused 9 0) o
+ifRoom room o = cond (ltb room (partSize * length (partsWritten o))) (sharingRefused 9 0) o
 
 -- 1 comes first, where the length is no multiple of 24
-unfoldable pub sharingBytes : List ℕ → ℕ → SharingOutcome
-sharingBytes input room = cond (eqb (length input % lineSize) 0) (ifRoom room (sharingSpelt input)) (sharingRefused 1 0)
+unfoldable pub sharingBytes : ℕ → List ℕ → ℕ → SharingOutcome
+sharingBytes part input room = cond (eqb (length input % lineSize) 0) (ifRoom room (sharingSpelt part input)) (sharingRefused 1 0)
 
--- the output as it was before and is after, and the answer: what each line gets stands at its front, bytes behind it stay, and on
--- a refusal all of it stays
-pub record BytesShared (input before after : List ℕ) (answer : Answer) : Type 0 where
-  pub says : answer ≡ answerOf (sharingBytes input (length before))
-  pub bytes : Stores before 0 (partsBytes (sharingBytes input (length before) .parts)) after
+-- the output as it was before and is after, and the answer: what each line gets and the user's amount stand at its front, bytes behind them
+-- stay, and on a refusal all of it stays
+pub record BytesShared (part : ℕ) (input before after : List ℕ) (answer : Answer) : Type 0 where
+  pub says : answer ≡ answerOf (sharingBytes part input (length before))
+  pub bytes : Stores before 0 (partsBytes (partsWritten (sharingBytes part input (length before)))) after

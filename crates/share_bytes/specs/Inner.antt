@@ -10,7 +10,7 @@ use Rattle.share.specs.declared.Answer.{Answer}
 use Rattle.share.specs.declared.Line.{Line}
 use Rattle.share.specs.Sharing.{settled}
 use Rattle.share.specs.Forms.{blankLine, answerOf}
-use Rattle.share_bytes.specs.Bytes.{fieldsAt, reservedZero, linesBy, partsBytes, ifRoom}
+use Rattle.share_bytes.specs.Bytes.{fieldsAt, reservedZero, linesBy, partsBytes, partsWritten, ifRoom}
 
 -- the line that is read at a place
 unfoldable pub lineAt : List ℕ → ℕ → Line
@@ -25,6 +25,6 @@ abbrev pub speltLines : List ℕ → ℕ → List Line
 speltLines bytes count = linesBy (fieldsAt bytes) 0 count
 
 -- sound lines settled: the output as it was before and is after, and the answer
-pub record BytesSettled (ls : List Line) (before after : List ℕ) (answer : Answer) : Type 0 where
-  pub says : answer ≡ answerOf (ifRoom (length before) (settled ls))
-  pub bytes : Stores before 0 (partsBytes (ifRoom (length before) (settled ls) .parts)) after
+pub record BytesSettled (part : ℕ) (ls : List Line) (before after : List ℕ) (answer : Answer) : Type 0 where
+  pub says : answer ≡ answerOf (ifRoom (length before) (settled part ls))
+  pub bytes : Stores before 0 (partsBytes (partsWritten (ifRoom (length before) (settled part ls)))) after

@@ -1,3 +1,4 @@
 pub mod Bytes
 pub mod Verdict
+pub mod Without
 pub mod Inner

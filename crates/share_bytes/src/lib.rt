@@ -1,9 +1,11 @@
-// Sharing over bytes, 24 a line in, 16 a line out, as include/nwb.h has them. The lines are read where they lie, as often as they are needed:
-// no copy of them is made.
+// Sharing over bytes, 24 a line in, 16 a line out and the user's 16 behind them, as include/nwb.h has them. The lines are read where they lie, as
+// often as they are needed: no copy of them is made.
 use share::Answer;
 use share::Line;
 use share::array::seen;
 use share::limits::MOST_COMPENSATION;
+use share::limits::MOST_PART;
+use share::limits::PART_PLACE;
 use share::settle::Gap;
 use share::settle::Totals;
 use share::settle::finish;
@@ -15,14 +17,17 @@ use units::Mwh;
 use units::SignedFen;
 use units::Thousandths;
 ghost use mathlib.Core.Path.{_≡_};
+ghost use mathlib.Core.List.{[], _∷_, _++_};
 ghost use Prim.Native.Nat.{ℕ, _+_, _*_, _^_, _<_, _≤_};
 ghost use lib.ListN.{length, getD, replicate};
 ghost use Rattle.le.specs.Le.{Stores};
 ghost use Rattle.apportion.specs.Apportion.{total, apportion};
-ghost use Rattle.share.specs.Sharing.{compensated, assessed, weightsOf, partsBy, mostNumber, mostCompensation};
+ghost use Rattle.share.specs.Sharing.{compensated, assessed, weightsOf, partsBy, sharingRefused, mostNumber, mostCompensation, mostPart};
+ghost use Rattle.share.specs.Forms.{answerOf};
 ghost use Rattle.share.specs.Limits.{LinesWithin};
 ghost use Rattle.share.specs.Inner.{GapIs};
-ghost use Rattle.share_bytes.specs.Bytes.{lineSize, fieldsAt, reservedZero, bytesAreSound, firstBadBytes, partSize, partBytes, partsBytes, BytesShared};
+ghost use Rattle.share_bytes.specs.Bytes.{lineSize, fieldsAt, reservedZero, bytesAreSound, firstBadBytes};
+ghost use Rattle.share_bytes.specs.Bytes.{partSize, partBytes, partsBytes, userPart, BytesShared};
 ghost use Rattle.share_bytes.specs.Inner.{speltLines, BytesSettled};
 
 pub const LINE_SIZE: usize = 24;
@@ -175,81 +180,112 @@ fn write_parts(s: &[u8], shares: &[u64], negative: bool, out: &mut [u8])
     }
 }
 
-fn answer(number: u32, place: usize, gap: SignedFen) -> Answer
-    ensures { λ r. ⌜ r ≡ record { number = number; place = place; gap = gap } ⌝ }
+fn refused(number: u32, place: usize) -> Answer
+    ensures { λ r. ⌜ r ≡ answerOf (sharingRefused number place) ⌝ }
 {
-    Answer { number, place, gap }
+    Answer {
+        number,
+        place,
+        gap: SignedFen(0),
+        user: SignedFen(0),
+    }
 }
 
-// What each line gets of an amount by its weight, to its place.
-fn write_shared(s: &[u8], weights: &[u64], amount: Fen, negative: bool, out: &mut [u8])
+fn accepted(gap: SignedFen, user: SignedFen) -> Answer
+    ensures { λ r. ⌜ r ≡ record { number = 0; place = 0; gap = gap; user = user } ⌝ }
+{
+    Answer {
+        number: 0,
+        place: 0,
+        gap,
+        user,
+    }
+}
+
+// What each line gets of an amount by its weight, to its place, and the user's amount twice behind them.
+fn write_shared(
+    s: &[u8],
+    weights: &[u64],
+    amount: Fen,
+    negative: bool,
+    user: SignedFen,
+    out: &mut [u8],
+)
     requires { ⌜ length (now weights) ≤ mostNumber ⌝ }
     requires { ⌜ lineSize * length (now weights) ≤ length (now s) ⌝ }
     requires { ⌜ LinesWithin (speltLines (now s) (length (now weights))) ⌝ }
-    requires { ⌜ partSize * length (now weights) ≤ length (now out) ⌝ }
+    requires { ⌜ partSize * length (now weights) + partSize ≤ length (now out) ⌝ }
     requires { ⌜ amount .0 ≤ mostCompensation ⌝ }
     requires { ⌜ total (now weights) < 2 ^ 62 ⌝ }
     requires { ⌜ (0 < amount .0 → 0 < total (now weights)) ⌝ }
     ensures { λ _. ⌜ Stores (now (out .entry)) 0
-        (partsBytes (partsBy negative (speltLines (now (s .entry)) (length (now (weights .entry)))) (apportion (amount .0) (now (weights .entry)))))
+        (partsBytes (partsBy negative (speltLines (now (s .entry)) (length (now (weights .entry)))) (apportion (amount .0) (now (weights .entry)))
+        ++ (userPart (user .0) ∷ [])))
         (now (out .exit)) ⌝ }
 {
     let mut shares = [0u64; 64];
     let count = weights.len();
     shares_into(amount, weights, &mut shares[..count]);
     write_parts(s, &shares[..count], negative, out);
+    write_part(user, user, out, PART_SIZE * count);
 }
 
-// 16, 9, or the sharing of R.
+// 16, 9, or the sharing of the generators' R.
 fn share_gap(s: &[u8], count: usize, g: Gap, out: &mut [u8]) -> Answer
     requires { ⌜ count ≤ mostNumber ⌝ }
     requires { ⌜ lineSize * count ≤ length (now s) ⌝ }
     requires { ⌜ LinesWithin (speltLines (now s) count) ⌝ }
     requires { ⌜ compensated (speltLines (now s) count) ≤ mostCompensation ⌝ }
     requires { ⌜ g .amount .0 ≤ mostCompensation ⌝ }
-    requires { ⌜ GapIs (speltLines (now s) count) (g .amount .0) (g .negative) (g .whole .0) ⌝ }
-    ensures { λ r. ⌜ BytesSettled (speltLines (now (s .entry)) count) (now (out .entry)) (now (out .exit)) r ⌝ }
+    ensures { λ r. ⌜ ((part : ℕ) → GapIs part (speltLines (now (s .entry)) count) (g .amount .0) (g .negative) (g .whole .0) (g .user .0)
+        → BytesSettled part (speltLines (now (s .entry)) count) (now (out .entry)) (now (out .exit)) r) ⌝ }
 {
     let mut ws = [0u64; 64];
     weights_into(s, g.negative, &mut ws[..count]);
     let amount = g.amount;
     let all = apportion::total(&ws[..count]);
     if (0 < amount.0) & (all == 0) {
-        return answer(16, 0, SignedFen(0));
+        return refused(16, 0);
     }
-    if out.len() < PART_SIZE * count {
-        return answer(9, 0, SignedFen(0));
+    if out.len() < PART_SIZE * count + PART_SIZE {
+        return refused(9, 0);
     }
-    write_shared(s, &ws[..count], amount, g.negative, out);
+    let user = g.user;
+    write_shared(s, &ws[..count], amount, g.negative, user, out);
     let whole = g.whole;
-    answer(0, 0, whole)
+    accepted(whole, user)
 }
 
-// 15, 16, 9, or the sharing, where every line is sound.
-fn settle_bytes(s: &[u8], count: usize, out: &mut [u8]) -> Answer
+// 15, 16, 9, or the sharing, where the part and every line are sound.
+fn settle_bytes(part: u32, s: &[u8], count: usize, out: &mut [u8]) -> Answer
+    requires { ⌜ part ≤ mostPart ⌝ }
     requires { ⌜ count ≤ mostNumber ⌝ }
     requires { ⌜ lineSize * count ≤ length (now s) ⌝ }
     requires { ⌜ LinesWithin (speltLines (now s) count) ⌝ }
-    ensures { λ r. ⌜ BytesSettled (speltLines (now (s .entry)) count) (now (out .entry)) (now (out .exit)) r ⌝ }
+    ensures { λ r. ⌜ BytesSettled part (speltLines (now (s .entry)) count) (now (out .entry)) (now (out .exit)) r ⌝ }
 {
     let t = sums_at(s, count);
     if MOST_COMPENSATION < t.compensated.0 {
-        return answer(15, 0, SignedFen(0));
+        return refused(15, 0);
     }
-    share_gap(s, count, gap_of(t), out)
+    share_gap(s, count, gap_of(part, t), out)
 }
 
-// The sharing of the lines in `input`, what each gets to the front of `out`.
-pub fn share_bytes(input: &[u8], out: &mut [u8]) -> Answer
-    ensures { λ r. ⌜ BytesShared (now (input .entry)) (now (out .entry)) (now (out .exit)) r ⌝ }
+// The sharing of the lines in `input`, what each gets and the user's amount to the front of `out`; `part` is the generators', in hundredths of a
+// percent.
+pub fn share_bytes(part: u32, input: &[u8], out: &mut [u8]) -> Answer
+    ensures { λ r. ⌜ BytesShared part (now (input .entry)) (now (out .entry)) (now (out .exit)) r ⌝ }
 {
     if input.len() % LINE_SIZE != 0 {
-        return answer(1, 0, SignedFen(0));
+        return refused(1, 0);
+    }
+    if MOST_PART < part {
+        return refused(10, PART_PLACE);
     }
     let count = input.len() / LINE_SIZE;
     let bad = first_bad_bytes(input, seen(count));
     if bad < count {
-        return answer(10, bad, SignedFen(0));
+        return refused(10, bad);
     }
-    settle_bytes(input, count, out)
+    settle_bytes(part, input, count, out)
 }

@@ -1,19 +1,29 @@
 use mathlib.Core.Path.{sym}
 use native.Mathlib.Omega.{arith}
+use lib.Dec.{lit<}
 use lib.ListN.{length}
 use Rattle.share_bytes.proofs.ByteCases.{bytes-1}
-use Rattle.share_bytes.proofs.Rows.{not-shared, ten, none-bad, settled-bytes}
+use Rattle.share_bytes.proofs.Rows.{not-shared, part-above, ten, none-bad, settled-bytes}
 use borrow.Author.Needs.{needs}
 use Rattle.share_bytes.proofs.share_bytes.Statement.{statement}
 use Rattle.share_bytes.proofs.share_bytes.Tie as tie
 
-answer-requires : tie.Need-answer-requires
-answer-requires c κs = search needs
+refused-requires : tie.Need-refused-requires
+refused-requires c κs = search needs
 
 returns : tie.Need-returns
 returns c =
     let a = c .before .before .before .before .args in
-    not-shared (a .input .now) (a .out .now) (c .answer .result) 1 0 (sym (bytes-1 (a .input .now) (length (a .out .now)) (c .before .if1 .taken))) (c .answer .ensures)
+    not-shared (a .part) (a .input .now) (a .out .now) (c .refused .result) 1 0 (lit< tt)
+    (sym (bytes-1 (a .part) (a .input .now) (length (a .out .now)) (c .before .if1 .taken))) (c .refused .ensures)
+
+refused-requires-2 : tie.Need-refused-requires-2
+refused-requires-2 c κs = search needs
+
+returns-2 : tie.Need-returns-2
+returns-2 c =
+    let a = c .before .before .before .before .before .args in
+    part-above (a .part) (a .input .now) (a .out .now) (c .refused2 .result) (c .before .before .if1 .left) (c .before .if2 .taken) (c .refused2 .ensures)
 
 seen-requires : tie.Need-seen-requires
 seen-requires c κs = search needs
@@ -21,43 +31,50 @@ seen-requires c κs = search needs
 first-bad-bytes-requires : tie.Need-first-bad-bytes-requires
 first-bad-bytes-requires c κs = search needs
 
-answer-requires-2 : tie.Need-answer-requires-2
-answer-requires-2 c κs = search needs
+refused-requires-3 : tie.Need-refused-requires-3
+refused-requires-3 c κs = search needs
 
-returns-2 : tie.Need-returns-2
-returns-2 c =
-    let a = c .before .before .before .before .before .before .before .args in
+returns-3 : tie.Need-returns-3
+returns-3 c =
     let bad = c .before .before in
-    ten (a .input .now) _ _ (bad .before .before .if1 .left) (bad .before .seen .ensures .0) (bad .first-bad-bytes .ensures)
-    (a .out .now) (c .answer2 .result) (c .before .if2 .taken) (c .answer2 .ensures)
+    let fair = bad .before .before in
+    let a = fair .before .before .before .before .args in
+    ten (a .part) (a .input .now) _ _ (fair .before .if1 .left) (fair .if2 .left) (bad .before .seen .ensures .0) (bad .first-bad-bytes .ensures)
+    (a .out .now) (c .refused3 .result) (c .before .if3 .taken) (c .refused3 .ensures)
 
 settle-bytes-requires : tie.Need-settle-bytes-requires
 settle-bytes-requires c κs =
-    let a = c .before .before .before .before .before .before .before .args in
     let bad = c .before .before in
-    let sound = none-bad (a .input .now) _ _ (bad .before .before .if1 .left) (bad .before .seen .ensures .0) (bad .first-bad-bytes .ensures) (c .before .if2 .left) in
-    (sound .0, (omega arith, sound .2))
+    let fair = bad .before .before in
+    let a = fair .before .before .before .before .args in
+    let sound =
+    none-bad (a .part) (a .input .now) _ _ (fair .before .if1 .left) (fair .if2 .left) (bad .before .seen .ensures .0) (bad .first-bad-bytes .ensures) (c .before .if3 .left) in
+    (fair .if2 .left, (sound .0, (omega arith, sound .2)))
 
 same-length : tie.Need-same-length
 same-length c = search needs
 
-returns-3 : tie.Need-returns-3
-returns-3 c =
-    let a = c .before .before .before .before .before .before .before .before .before .before .args in
-    let bad = c .before .before .before .before .before in
-    let sound = none-bad (a .input .now) _ _ (bad .before .before .if1 .left) (bad .before .seen .ensures .0) (bad .first-bad-bytes .ensures) (c .before .before .before .before .if2 .left) in
-    settled-bytes (a .input .now) (a .out .now) _ _ (bad .before .before .if1 .left) (sound .0) (sound .1) (c .before .before .settle-bytes .ensures)
+returns-4 : tie.Need-returns-4
+returns-4 c =
+    let past = c .before .before .before .before in
+    let bad = past .before in
+    let fair = bad .before .before in
+    let a = fair .before .before .before .before .args in
+    let sound = none-bad (a .part) (a .input .now) _ _ (fair .before .if1 .left) (fair .if2 .left) (bad .before .seen .ensures .0) (bad .first-bad-bytes .ensures) (past .if3 .left) in
+    settled-bytes (a .part) (a .input .now) (a .out .now) _ _ (fair .before .if1 .left) (fair .if2 .left) (sound .0) (sound .1) (c .before .before .settle-bytes .ensures)
 
 pub share-bytes-spec : {M : Type 1} → statement M
 share-bytes-spec =
     tie.close
     (tie.spec
-    answer-requires
+    refused-requires
     returns
+    refused-requires-2
+    returns-2
     seen-requires
     first-bad-bytes-requires
-    answer-requires-2
-    returns-2
+    refused-requires-3
+    returns-3
     settle-bytes-requires
     same-length
-    returns-3)
+    returns-4)

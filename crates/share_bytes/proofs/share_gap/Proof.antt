@@ -51,73 +51,76 @@ total-requires c κs =
     let s = c .before .before .before .before .before .before .before in
     let a = s .args in
     let into = c .before .before .before in
-    weights-fit (a .s .now) (a .count) (a .g .amount .0) (a .g .negative) (a .g .whole .0) _ (take-at (into .weights-into .last .1 .1 .0) _ _ (room into) ∙ weighed into)
+    weights-fit (a .s .now) (a .count) (a .g .amount .0) (a .g .negative) _ (take-at (into .weights-into .last .1 .1 .0) _ _ (room into) ∙ weighed into)
     (s .pre .0) (s .pre .1 .1 .0) .1
 
-answer-requires : tie.Need-answer-requires
-answer-requires c κs = search needs
+refused-requires : tie.Need-refused-requires
+refused-requires c κs = search needs
 
 returns : tie.Need-returns
-returns c =
+returns c = λ part g.
     let s = c .before .before .before .before .before .before .before .before .before .before .before in
     let a = s .args in
-    let p = s .pre .1 .1 .1 in
     let ws = weightsOf (a .g .negative) (speltLines (a .s .now) (a .count)) in
     let t = none-weighs (a .g .amount .0) (c .before .before .before .total .result) (c .before .if1 .taken) in
-    gap-16 (a .s .now) (a .count) (a .g .amount .0) (a .g .negative) (a .g .whole .0) ws refl
-    (a .out .now) (c .answer .result) (p .1 .1) (p .0) (t .0) (sym (summed (c .before .before .before)) ∙ t .1) (c .answer .ensures)
+    gap-16 (a .s .now) (a .count) (a .g .amount .0) (a .g .negative) ws refl part (a .g .whole .0) (a .g .user .0)
+    (a .out .now) (c .refused .result) g (s .pre .1 .1 .1 .0) (t .0) (sym (summed (c .before .before .before)) ∙ t .1) (c .refused .ensures)
 
 mul-if2 : tie.Need-mul-if2
 mul-if2 c = search needs
 
-answer-requires-2 : tie.Need-answer-requires-2
-answer-requires-2 c κs = search needs
+add-if2 : tie.Need-add-if2
+add-if2 c = search needs
+
+refused-requires-2 : tie.Need-refused-requires-2
+refused-requires-2 c κs = search needs
 
 returns-2 : tie.Need-returns-2
-returns-2 c =
+returns-2 c = λ part g.
     let s = c .before .before .before .before .before .before .before .before .before .before .before .before in
     let a = s .args in
-    let p = s .pre .1 .1 .1 in
     let ws = weightsOf (a .g .negative) (speltLines (a .s .now) (a .count)) in
     let way = some-weighs (a .g .amount .0) (c .before .before .before .before .total .result) ws (summed (c .before .before .before .before)) (c .before .before .if1 .left) in
-    gap-9 (a .s .now) (a .count) (a .g .amount .0) (a .g .negative) (a .g .whole .0) ws refl
-    (a .out .now) (c .answer2 .result) (p .1 .1) (p .0) way (c .before .if2 .taken) (c .answer2 .ensures)
+    gap-9 (a .s .now) (a .count) (a .g .amount .0) (a .g .negative) ws refl part (a .g .whole .0) (a .g .user .0)
+    (a .out .now) (c .refused2 .result) g (s .pre .1 .1 .1 .0) way (c .before .if2 .taken) (c .refused2 .ensures)
 
 array-share-prefix-ws-2 : tie.Need-array-share-prefix-ws-2
-array-share-prefix-ws-2 c = let into = c .before .before .before .before .before .before .before in front-fits (into .weights-into .last .1 .1 .0) _ _ (room into)
+array-share-prefix-ws-2 c = let into = c .before .before .before .before .before .before .before .before in front-fits (into .weights-into .last .1 .1 .0) _ _ (room into)
 
 slice-aggregate-write-shared : tie.Need-slice-aggregate-write-shared
-slice-aggregate-write-shared c = let into = c .before .before .before .before .before .before .before .before in front-long (into .weights-into .last .1 .1 .0) _ _ (room into)
+slice-aggregate-write-shared c = let into = c .before .before .before .before .before .before .before .before .before in front-long (into .weights-into .last .1 .1 .0) _ _ (room into)
 
 write-shared-requires : tie.Need-write-shared-requires
 write-shared-requires c κs =
-    let s = c .before .before .before .before .before .before .before .before .before .before .before .before .before in
+    let passed = c .before .before .before in
+    let all = passed .before .before .before in
+    let into = all .before .before .before .before in
+    let s = into .before .before .before .before in
     let a = s .args in
-    let p = s .pre .1 .1 .1 in
-    let into = c .before .before .before .before .before .before .before .before .before in
     let ws = weightsOf (a .g .negative) (speltLines (a .s .now) (a .count)) in
-    let way = some-weighs (a .g .amount .0) (c .before .before .before .before .before .total .result) ws (summed (c .before .before .before .before .before)) (c .before .before .before .if1 .left) in
-    shared-ready (a .s .now) (a .count) (a .g .amount .0) (a .g .negative) (a .g .whole .0) _ (take-at (into .weights-into .last .1 .1 .0) _ _ (room into) ∙ weighed into)
-    (a .out .now) (s .pre .0) (s .pre .1 .0) (s .pre .1 .1 .0) (c .before .before .if2 .left) (p .1 .0) way
+    let way = some-weighs (a .g .amount .0) (all .total .result) ws (summed all) (passed .before .if1 .left) in
+    shared-ready (a .s .now) (a .count) (a .g .amount .0) (a .g .negative) _ (take-at (into .weights-into .last .1 .1 .0) _ _ (room into) ∙ weighed into)
+    (a .out .now) (s .pre .0) (s .pre .1 .0) (s .pre .1 .1 .0) (passed .if2 .left) (s .pre .1 .1 .1 .1) way
 
-answer-requires-3 : tie.Need-answer-requires-3
-answer-requires-3 c κs = search needs
+accepted-requires : tie.Need-accepted-requires
+accepted-requires c κs = search needs
 
 same-length : tie.Need-same-length
 same-length c = search needs
 
 returns-3 : tie.Need-returns-3
-returns-3 c =
-    let s = c .before .before .before .before .before .before .before .before .before .before .before .before .before .before .before .before .before .before in
-    let a = s .args in
-    let p = s .pre .1 .1 .1 in
-    let into = c .before .before .before .before .before .before .before .before .before .before .before .before .before .before in
-    let ws = weightsOf (a .g .negative) (speltLines (a .s .now) (a .count)) in
-    let passed = c .before .before .before .before .before .before .before in
+returns-3 c = λ part g.
+    let wrote = c .before .before .before .before in
+    let passed = wrote .before .before .before .before in
     let all = passed .before .before .before in
+    let into = all .before .before .before .before in
+    let s = into .before .before .before .before in
+    let a = s .args in
+    let ws = weightsOf (a .g .negative) (speltLines (a .s .now) (a .count)) in
     let way = some-weighs (a .g .amount .0) (all .total .result) ws (summed all) (passed .before .if1 .left) in
-    gap-shared (a .s .now) (a .count) (a .g .amount .0) (a .g .negative) (a .g .whole .0) _ (take-at (into .weights-into .last .1 .1 .0) _ _ (room into) ∙ weighed into)
-    (a .out .now) (c .answer3 .result) (p .1 .1) (p .0) _ (a .g .whole) refl way (passed .if2 .left) (c .answer3 .ensures) (c .before .before .before .before .write-shared .ensures)
+    gap-shared (a .s .now) (a .count) (a .g .amount .0) (a .g .negative) _ (take-at (into .weights-into .last .1 .1 .0) _ _ (room into) ∙ weighed into)
+    part (a .g .whole .0) (a .g .user .0) (a .out .now) (c .accepted .result) g (s .pre .1 .1 .1 .0) _ (a .g .whole) (a .g .user) refl refl way (passed .if2 .left)
+    (c .accepted .ensures) (wrote .write-shared .ensures)
 
 pub share-gap-spec : {M : Type 1} → statement M
 share-gap-spec =
@@ -129,14 +132,15 @@ share-gap-spec =
     array-share-prefix-ws
     slice-aggregate-total
     total-requires
-    answer-requires
+    refused-requires
     returns
     mul-if2
-    answer-requires-2
+    add-if2
+    refused-requires-2
     returns-2
     array-share-prefix-ws-2
     slice-aggregate-write-shared
     write-shared-requires
-    answer-requires-3
+    accepted-requires
     same-length
     returns-3)

@@ -41,16 +41,24 @@ write-parts-requires c κs =
     parts-ready (a .s .now) (a .out .now) (a .weights .now) _ (a .amount .0) (take-at (into .shares-into .last .1 .1 .0) _ _ (long into) ∙ into .shares-into .ensures)
     (p .0) (p .1 .0) (p .1 .1 .0) (p .1 .1 .1 .0) (p .1 .1 .1 .1 .1)
 
+mul-write-part : tie.Need-mul-write-part
+mul-write-part c = let s = c .before .before .before .before .before .before .before .before .before .before .before .before in record { fits = omega (arith, s .pre .0) }
+
+write-part-requires : tie.Need-write-part-requires
+write-part-requires c κs =
+    let s = c .before .before .before .before .before .before .before .before .before .before .before .before in
+    omega (arith, s .pre .1 .1 .1 .0, c .before .before .before .write-parts .kept .1 .1 .1 .0)
+
 same-length : tie.Need-same-length
 same-length c = search needs
 
 returns : tie.Need-returns
 returns c =
-    let s = c .before .before .before .before .before .before .before .before .before .before .before in
+    let s = c .before .before .before .before .before .before .before .before .before .before .before .before .before .before .before in
     let a = s .args in
-    let into = c .before .before .before .before .before .before in
+    let into = c .before .before .before .before .before .before .before .before .before .before in
     parts-as (a .s .now) (a .out .now) (a .weights .now) _ (a .amount .0) (take-at (into .shares-into .last .1 .1 .0) _ _ (long into) ∙ into .shares-into .ensures)
-    (a .negative) _ (c .before .before .write-parts .ensures)
+    (a .negative) (a .user .0) (c .before .before .before .before .before .before .write-parts .ensures) (c .before .before .write-part .ensures)
 
 pub write-shared-spec : {M : Type 1} → statement M
 write-shared-spec =
@@ -62,5 +70,7 @@ write-shared-spec =
     array-share-prefix-shares
     slice-aggregate-write-parts
     write-parts-requires
+    mul-write-part
+    write-part-requires
     same-length
     returns)
