@@ -18,7 +18,7 @@ struct side {
     uint32_t (*check)(const uint8_t *, size_t, uint64_t *);
     uint32_t (*join)(const uint8_t *, size_t, const uint8_t *, size_t, uint8_t *, size_t, uint64_t *, uint64_t *);
     uint32_t (*score)(uint16_t, uint8_t, uint32_t, const uint8_t *, size_t, const uint32_t *, size_t, uint64_t *, uint64_t *, uint64_t *);
-    uint32_t (*share)(const uint8_t *, size_t, uint8_t *, size_t, uint64_t *, int64_t *);
+    uint32_t (*share)(uint32_t, const uint8_t *, size_t, uint8_t *, size_t, uint64_t *, int64_t *);
     uint32_t (*ramp)(uint16_t, uint8_t, uint32_t, const uint8_t *, size_t, uint64_t *, uint64_t *);
 };
 static const struct side sides[2] = {{nwb_check, nwb_join, nwb_score, nwb_share, nwb_ramp}, {ref_check, ref_join, ref_score, ref_share, ref_ramp}};
@@ -169,7 +169,7 @@ static uint32_t join(const struct side *s, const struct book *x, const struct bo
     return s->join(x->bytes, x->len, y->bytes, y->len, out, sizeof out, &place, &length);
 }
 
-static uint32_t share(const struct side *s, const uint8_t *l) { return s->share(l, 64 * 24, out, sizeof out, &place, &gap); }
+static uint32_t share(const struct side *s, uint32_t part, const uint8_t *l) { return s->share(part, l, 64 * 24, out, sizeof out, &place, &gap); }
 
 static uint32_t join_equal(const struct side *s, uint32_t t) { (void)t; return join(s, &full, &full_revised); }
 static uint32_t join_disjoint(const struct side *s, uint32_t t) { (void)t; return join(s, &even, &odd); }
@@ -191,10 +191,11 @@ static uint32_t score_events(const struct side *s, uint32_t t)
     (void)t;
     return s->score(1, 1, 300001, events.bytes, events.len, series, 2976, &place, &grains, &fen);
 }
-static uint32_t share_full(const struct side *s, uint32_t t) { (void)t; return share(s, lines); }
-static uint32_t share_equal(const struct side *s, uint32_t t) { (void)t; return share(s, equal_lines); }
-static uint32_t share_random(const struct side *s, uint32_t t) { return share(s, random_lines[t]); }
-static uint32_t share_random_equal(const struct side *s, uint32_t t) { return share(s, random_equal[t]); }
+static uint32_t share_full(const struct side *s, uint32_t t) { (void)t; return share(s, 10000, lines); }
+static uint32_t share_third(const struct side *s, uint32_t t) { (void)t; return share(s, 3333, lines); }
+static uint32_t share_equal(const struct side *s, uint32_t t) { (void)t; return share(s, 10000, equal_lines); }
+static uint32_t share_random(const struct side *s, uint32_t t) { return share(s, 10000, random_lines[t]); }
+static uint32_t share_random_equal(const struct side *s, uint32_t t) { return share(s, 10000, random_equal[t]); }
 
 static uint32_t ramp_full(const struct side *s, uint32_t t) { (void)t; return s->ramp(1, 1, 300001, actions, sizeof actions, &place, &grains); }
 
@@ -209,6 +210,7 @@ static const struct { const char *name; uint32_t (*call)(const struct side *, ui
     {"score, deep window of a whole month", score_window, 0, 1},
     {"score, 512 events", score_events, 0, 1},
     {"share, 64 lines", share_full, 0, 1},
+    {"share, 64 lines, part 3333", share_third, 0, 1},
     {"share, 64 lines, 1,024 in turn", share_random, 0, TURNS},
     {"share, 64 lines of one energy", share_equal, 0, 1},
     {"share, one energy, 1,024 in turn", share_random_equal, 0, TURNS},

@@ -1,5 +1,5 @@
-/* nwb.h: call books, pay and sharing for the plants' own tools. Nine functions; nwb_ramp and nwb_fen are the newest, and the
- * other seven are as they were.
+/* nwb.h: call books, pay and sharing for the plants' own tools. Nine functions. nwb_share takes the generator part and gives the
+ * user's amount besides: a tool built with an earlier header must be built anew. The other eight are as they were.
  *
  * What holds for every function:
  *
@@ -85,12 +85,15 @@ uint32_t nwb_ramp(uint16_t participant, uint8_t kind, uint32_t rated, const uint
  * grains and its hours' grains added up, converted once. It refuses nothing and writes nothing. */
 uint64_t nwb_fen(uint64_t grains);
 
-/* Shares R = A - C over 0 to 64 lines of 24 bytes, little endian: number u16, status u8, a zero byte, energy u32,
- * compensation u64, assessment u32, four zero bytes. The outcome is 16 bytes a line: share i64, amount i64.
- * In this order: 1 (no multiple of 24), 10 line by line (the place is the line; a 65th line has place 64), 15, 16, 9.
- * `gap` is R in fen, negative where compensations exceed assessments; 0 on a refusal.
+/* Shares the generators' R over 0 to 64 lines of 24 bytes, little endian: number u16, status u8, a zero byte, energy u32,
+ * compensation u64, assessment u32, four zero bytes. R is A - C; the generators' is R times `part`, 0 to 10,000 hundredths of a
+ * percent, over 10,000 and cut toward zero, and the rest is the user's amount. The outcome is 16 bytes a line, share i64, amount
+ * i64, and 16 behind them, the user's amount twice: 16 * lines + 16 bytes, no lines give 16. All amounts, the user's among them,
+ * add up to zero. With part 10,000 the lines get what they got without a part, and the user's amount is 0.
+ * In this order: 1 (no multiple of 24), 10 at place 65 (a part above 10,000), 10 line by line (the place is the line; a 65th line
+ * has place 64), 15, 16, 9. `gap` is the whole R in fen, negative where compensations exceed assessments; 0 on a refusal.
  * Bytes of `out` after the outcome stay; on a refusal all of them do. `out` must not overlap `lines`. */
-uint32_t nwb_share(const uint8_t *lines, size_t lines_len, uint8_t *out, size_t out_len, uint64_t *place, int64_t *gap);
+uint32_t nwb_share(uint32_t part, const uint8_t *lines, size_t lines_len, uint8_t *out, size_t out_len, uint64_t *place, int64_t *gap);
 
 #ifdef __cplusplus
 }

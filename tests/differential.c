@@ -266,17 +266,17 @@ static void both_score(uint16_t participant, uint8_t kind, uint32_t rated, const
     compare(SCORE, &a, &ref, 3, input_kept(&in1, book, len) && input_kept(&in_series, series, series_len * sizeof *series), 0);
 }
 
-static void both_share(const uint8_t *lines, size_t len, size_t out_len)
+static void both_share(uint32_t part, const uint8_t *lines, size_t len, size_t out_len)
 {
     doing("share");
-    with_bytes("lines", lines, len), with("out_len", (int64_t)out_len);
+    with_bytes("lines", lines, len), with("part", part), with("out_len", (int64_t)out_len);
     struct answer a = ref = soiled();
     uint8_t *out = lend(out_len);
     int64_t gap = (int64_t)garbage;
-    ref.no = ref_share(lines, len, ref_lent.at, out_len, &ref.cell[0], &gap);
+    ref.no = ref_share(part, lines, len, ref_lent.at, out_len, &ref.cell[0], &gap);
     ref.cell[1] = (uint64_t)gap;
     const uint8_t *l = lay(&in1, where1, lines, len);
-    a.no = nwb_share(l, len, out, out_len, &cells[0].cell, (int64_t *)&cells[1].cell);
+    a.no = nwb_share(part, l, len, out, out_len, &cells[0].cell, (int64_t *)&cells[1].cell);
     compare(SHARE, &a, &ref, 2, input_kept(&in1, lines, len), 1);
 }
 
@@ -835,6 +835,13 @@ static void case_score(void)
     both_score(participant, kind, rated, book1, len, series, series_len);
 }
 
+/* The generators' part: any, often the whole, none, or one beside these; now and then above the whole. */
+static uint32_t draw_part(void)
+{
+    uint32_t dice = below(100);
+    return dice < 40 ? within(10000) : dice < 60 ? 10000 : dice < 93 ? PICK(0, 1, 2, 3333, 4999, 5000, 5001, 9998, 9999) : dice < 97 ? 10001 : 10001 + within(UINT32_MAX - 10001);
+}
+
 static void case_share(void)
 {
     static const uint64_t most_fen = 100000000000;
@@ -896,7 +903,7 @@ static void case_share(void)
                     len = 24 * n - below(24 * (uint32_t)n);
             }
         }
-    both_share(bytes, len, room_for(len / 24 * 16));
+    both_share(draw_part(), bytes, len, room_for(len / 24 * 16 + 16));
 }
 
 /* Mostly hours that are paid: commands on either side of the start, ends about the command, now and then the wrong way; then damage. */

@@ -210,34 +210,47 @@ static void expect_score(int line, uint16_t participant, uint8_t kind, uint32_t 
     end();
 }
 
-/* `outcome` is share and amount of each line in turn, 2 * n numbers; on a refusal there is none. */
-static void expect_share_bytes(int line, const uint8_t *lines, size_t len, size_t out_len, uint32_t no, uint64_t place,
-                               int64_t gap, const int64_t *outcome)
+/* `outcome` is share and amount of each line in turn, 2 * n numbers, and behind them stands `user` twice; on a refusal there is none. */
+static void expect_part_bytes(int line, uint32_t part, const uint8_t *lines, size_t len, size_t out_len, uint32_t no, uint64_t place,
+                              int64_t gap, int64_t user, const int64_t *outcome)
 {
-    uint8_t bytes[64 * 16];
-    size_t n = no == 0 ? len / 24 : 0;
-    for (size_t i = 0; i < 2 * n; i++)
+    uint8_t bytes[65 * 16];
+    size_t n = len / 24, written = no == 0 ? 16 * n + 16 : 0;
+    for (size_t i = 0; no == 0 && i < 2 * n; i++)
         put_bytes(bytes + 8 * i, (uint64_t)outcome[i], 8);
+    for (size_t i = 0; no == 0 && i < 2; i++)
+        put_bytes(bytes + 16 * n + 8 * i, (uint64_t)user, 8);
     begin(line, "share");
     FOR_PLACEMENTS {
         const uint8_t *l = lay(&in1, placed_now, lines, len);
         uint8_t *out = area_lend(&lent, placed_now, NULL, out_len, 0xe7);
         soil_cells();
-        want("number", nwb_share(lines ? l : NULL, len, out_len ? out : NULL, out_len, CELL(0), (int64_t *)CELL(1)), no);
+        want("number", nwb_share(part, lines ? l : NULL, len, out_len ? out : NULL, out_len, CELL(0), (int64_t *)CELL(1)), no);
         want("place", *CELL(0), place);
         want("gap", *CELL(1), (uint64_t)gap);
         want_cells_kept(2);
-        want("bytes as promised and nothing else touched", (uint64_t)area_holds(&lent, bytes, 16 * n, 0xe7), 1);
+        want("bytes as promised and nothing else touched", (uint64_t)area_holds(&lent, bytes, written, 0xe7), 1);
         want_input_kept(&in1, lines, len);
     }
     end();
 }
 
-static void expect_share(int line, const struct line *lines, size_t n, size_t out_len, uint32_t no, uint64_t place, int64_t gap,
-                         const int64_t *outcome)
+static void expect_part(int line, uint32_t part, const struct line *lines, size_t n, size_t out_len, uint32_t no, uint64_t place, int64_t gap,
+                        int64_t user, const int64_t *outcome)
 {
     uint8_t bytes[70 * 24];
-    expect_share_bytes(line, bytes, put_lines(bytes, lines, n), out_len, no, place, gap, outcome);
+    expect_part_bytes(line, part, bytes, put_lines(bytes, lines, n), out_len, no, place, gap, user, outcome);
+}
+
+/* With the whole part: what the lines get is what they get without one, and the user's amount is 0. `room` is without the user's 16 bytes. */
+static void expect_share_bytes(int line, const uint8_t *lines, size_t len, size_t room, uint32_t no, uint64_t place, int64_t gap, const int64_t *outcome)
+{
+    expect_part_bytes(line, 10000, lines, len, room + 16, no, place, gap, 0, outcome);
+}
+
+static void expect_share(int line, const struct line *lines, size_t n, size_t room, uint32_t no, uint64_t place, int64_t gap, const int64_t *outcome)
+{
+    expect_part(line, 10000, lines, n, room + 16, no, place, gap, 0, outcome);
 }
 
 static void expect_ramp_bytes(int line, uint16_t participant, uint8_t kind, uint32_t rated, const uint8_t *actions, size_t len,
@@ -280,6 +293,7 @@ static void expect_fen(int line, uint64_t grains, uint64_t fen)
 #define FIND(...) expect_find(__LINE__, __VA_ARGS__)
 #define SCORE(...) expect_score(__LINE__, __VA_ARGS__)
 #define SHARE(...) expect_share(__LINE__, __VA_ARGS__)
+#define PART(...) expect_part(__LINE__, __VA_ARGS__)
 #define ROWS(t) (sizeof(t) / sizeof *(t))
 
 /* ---- short forms ---- */
@@ -1317,8 +1331,8 @@ static void share_refusals(void)
     row = -1;
 
     /* Two that meet. */
-    enum { ONE_, TEN_0, TEN_1, TEN_2, FIFTEEN, SIXTEEN, NINE, ALL };
-    static const uint32_t no[] = {1, 10, 10, 10, 15, 16, 9}, place[] = {0, 0, 1, 2, 0, 0, 0};
+    enum { ONE_, TEN_65, TEN_0, TEN_1, TEN_2, FIFTEEN, SIXTEEN, NINE, ALL };
+    static const uint32_t no[] = {1, 10, 10, 10, 10, 15, 16, 9}, place[] = {0, 65, 0, 1, 2, 0, 0, 0};
     for (int i = 0; i < ALL; i++)
         for (int j = i; j < ALL; j++) {
             struct line l[] = {{1, 0, 1, 5, 1}, {3, 1, 2, 6, 2}, {7, 2, 3, 7, 3}, {64, 0, 4, 8, 4}};
@@ -1335,10 +1349,55 @@ static void share_refusals(void)
                 l[0].assessment = 10000001;
             put_lines(bytes, l, 4);
             row = i * 100 + j;
-            expect_share_bytes(__LINE__, bytes, len - MADE(ONE_), MADE(NINE) ? 63 : 64, no[i], place[i], 0, NULL);
+            expect_part_bytes(__LINE__, MADE(TEN_65) ? 10001 : 10000, bytes, len - MADE(ONE_), MADE(NINE) ? 79 : 80, no[i], place[i], 0, 0, NULL);
 #undef MADE
         }
     group("share: every number alone, and the order of two");
+}
+
+/* Part of the gap goes to consumers. */
+static void share_parts(void)
+{
+    /* The paper's three lines: R -200000; weights 1,000, 2,000, 600. */
+    const struct line sample[] = {{1, 0, 100, 300000, 0}, {2, 0, 200, 0, 1000}, {3, 2, 50, 0, 0}};
+    PART(10000, sample, 3, 64, 0, 0, -200000, 0, (int64_t[]){-55556, 244444, -111111, -211111, -33333, -33333});
+    PART(5000, sample, 3, 64, 0, 0, -200000, -100000, (int64_t[]){-27778, 272222, -55555, -155555, -16667, -16667});
+    PART(3333, sample, 3, 64, 0, 0, -200000, -133340, (int64_t[]){-18517, 281483, -37033, -137033, -11110, -11110});
+    PART(0, sample, 3, 64, 0, 0, -200000, -200000, (int64_t[]){0, 300000, 0, -100000, 0, 0});
+    PART(9999, sample, 3, 64, 0, 0, -200000, -20, (int64_t[]){-55550, 244450, -111100, -211100, -33330, -33330});
+    PART(1, sample, 3, 64, 0, 0, -200000, -199980, (int64_t[]){-6, 299994, -11, -100011, -3, -3});
+    PART(10001, sample, 3, 64, 10, 65, 0, 0, NULL);
+    PART(0xffffffff, sample, 3, 64, 10, 65, 0, 0, NULL);
+    /* Cut toward zero, below zero and above: R -200001, 99, -1 and 1 at half. */
+    PART(5000, (struct line[]){{1, 0, 100, 200001, 0}}, 1, 32, 0, 0, -200001, -100001, (int64_t[]){-100000, 100001});
+    PART(5000, (struct line[]){{1, 0, 1, 1, 1}}, 1, 32, 0, 0, 99, 50, (int64_t[]){49, -50});
+    PART(5000, (struct line[]){{1, 0, 1, 1, 0}}, 1, 32, 0, 0, -1, -1, (int64_t[]){0, 1});
+    PART(9999, (struct line[]){{1, 0, 1, 99, 1}}, 1, 32, 0, 0, 1, 1, (int64_t[]){0, -1});
+    /* R above 0: weights 10, 5, 10 of 150 fen. */
+    PART(5000, (struct line[]){{1, 0, 1, 0, 3}, {5, 1, 1, 0, 0}, {64, 2, 1, 0, 0}}, 3, 64, 0, 0, 300, 150, (int64_t[]){60, -240, 30, 30, 60, 60});
+    /* R = 0: nothing for anybody. */
+    PART(5000, (struct line[]){{2, 0, 5, 100, 0}, {3, 2, 5, 0, 1}}, 2, 48, 0, 0, 0, 0, (int64_t[]){0, 100, 0, -100});
+    /* 16 asks for the generators' R: a hundredth of a percent of 9,999 fen is cut to zero, of 10,000 it is not. */
+    PART(1, (struct line[]){{1, 0, 0, 9999, 0}}, 1, 32, 0, 0, -9999, -9999, (int64_t[]){0, 9999});
+    PART(1, (struct line[]){{1, 0, 0, 10000, 0}}, 1, 32, 16, 0, 0, 0, NULL);
+    PART(0, (struct line[]){{1, 0, 0, 100000000000, 0}}, 1, 32, 0, 0, -100000000000, -100000000000, (int64_t[]){0, 100000000000});
+    PART(9999, (struct line[]){{64, 2, 5000000, 100000000000, 0}}, 1, 32, 0, 0, -100000000000, -10000000, (int64_t[]){-99990000000, 10000000});
+    /* No lines: the user's sixteen bytes alone. */
+    static const uint32_t parts[] = {0, 1, 5000, 10000};
+    for (size_t i = 0; i < ROWS(parts); i++) {
+        row = (int)i;
+        PART(parts[i], NULL, 0, 15, 9, 0, 0, 0, NULL);
+        PART(parts[i], NULL, 0, 16, 0, 0, 0, 0, NULL);
+        PART(parts[i], NULL, 0, 100, 0, 0, 0, 0, NULL);
+    }
+    /* 9: every length up to the one needed; a byte behind it stays. */
+    for (size_t out_len = 0; out_len < 64; out_len++) {
+        row = (int)out_len;
+        PART(5000, sample, 3, out_len, 9, 0, 0, 0, NULL);
+    }
+    row = -1;
+    PART(5000, sample, 3, 65, 0, 0, -200000, -100000, (int64_t[]){-27778, 272222, -55555, -155555, -16667, -16667});
+    group("sharing: the generators' part and the user's amount");
 }
 
 /* ---- ramping ---- */
@@ -1488,10 +1547,11 @@ static void nulls(void)
     SCORE(0, 1, 1, NULL, 0, NULL, 0, 10, 0, 0, 0);
     SCORE(3, 1, 1, book1, len, NULL, 0, 11, 65535, 0, 0);
     SCORE(3, 1, 1, NULL, 0, series, 2976, 1, 0, 0, 0);
-    SHARE(NULL, 0, 0, 0, 0, 0, NULL);
-    expect_share_bytes(__LINE__, NULL, 0, 0, 0, 0, 0, NULL);
-    expect_share_bytes(__LINE__, NULL, 0, 16, 0, 0, 0, NULL);
-    SHARE((struct line[]){{1, 0, 1, 1, 0}}, 1, 0, 9, 0, 0, NULL);
+    PART(10000, NULL, 0, 0, 9, 0, 0, 0, NULL);
+    expect_part_bytes(__LINE__, 0, NULL, 0, 0, 9, 0, 0, 0, NULL);
+    expect_part_bytes(__LINE__, 10001, NULL, 0, 0, 10, 65, 0, 0, NULL);
+    expect_part_bytes(__LINE__, 5000, NULL, 0, 16, 0, 0, 0, 0, NULL);
+    PART(10000, (struct line[]){{1, 0, 1, 1, 0}}, 1, 0, 9, 0, 0, 0, NULL);
     RAMP(1, 1, NULL, 0, 0, 0, 0);
     expect_ramp_bytes(__LINE__, 7, 3, 1, NULL, 0, 0, 0, 0);
     expect_ramp_bytes(__LINE__, 0, 4, 1, NULL, 0, 10, 0, 0);
@@ -1506,13 +1566,14 @@ static void upper_halves(void)
     typedef void any(void);
     /* Read from memory, so that the compiler does not see the two types meet. */
     any *volatile none = (any *)nwb_none, *volatile one = (any *)nwb_one, *volatile find = (any *)nwb_find, *volatile score = (any *)nwb_score,
-        *volatile ramp = (any *)nwb_ramp;
+        *volatile ramp = (any *)nwb_ramp, *volatile share = (any *)nwb_share;
     typedef uint32_t none_wide(uint64_t, uint64_t, uint64_t, uint8_t *, size_t, uint64_t *, uint64_t *);
     typedef uint32_t one_wide(uint64_t, uint64_t, uint64_t, uint64_t, uint64_t, uint64_t, uint64_t, uint64_t, uint64_t, uint64_t, uint64_t, uint64_t,
                               uint64_t, uint8_t *, size_t, uint64_t *, uint64_t *);
     typedef uint32_t find_wide(const uint8_t *, size_t, const uint8_t *, size_t, uint64_t, uint64_t, uint64_t *);
     typedef uint32_t score_wide(uint64_t, uint64_t, uint64_t, const uint8_t *, size_t, const uint32_t *, size_t, uint64_t *, uint64_t *, uint64_t *);
     typedef uint32_t ramp_wide(uint64_t, uint64_t, uint64_t, const uint8_t *, size_t, uint64_t *, uint64_t *);
+    typedef uint32_t share_wide(uint64_t, const uint8_t *, size_t, uint8_t *, size_t, uint64_t *, int64_t *);
     const uint64_t dirt = 0xdeadbeef00000000u;
     uint8_t out[48], expected[48];
     struct call c = live(3, 0xfedcba98, 0x89abcdef, 8, 0x1234, 0x0567, -500, 0x01020304, 1);
@@ -1551,6 +1612,16 @@ static void upper_halves(void)
     want("number", ((ramp_wide *)ramp)(dirt | 7, dirt | 2, dirt | 7, action, 24, CELL(0), CELL(1)), 0);
     want("grains", *CELL(1), 43714);
     end();
+
+    begin(__LINE__, "share");
+    uint8_t one_line[24];
+    put_lines(one_line, &(struct line){1, 0, 100, 200001, 0}, 1);
+    for (size_t i = 0; i < 4; i++)
+        put_bytes(expected + 8 * i, (uint64_t)((const int64_t[]){-100000, 100001, -100001, -100001})[i], 8);
+    want("number", ((share_wide *)share)(dirt | 5000, one_line, 24, out, 32, CELL(0), (int64_t *)CELL(1)), 0);
+    want("gap", *CELL(1), (uint64_t)-200001);
+    want("bytes", (uint64_t)(memcmp(out, expected, 32) == 0), 1);
+    end();
 #endif
     group("upper halves of registers");
 }
@@ -1581,6 +1652,7 @@ int main(void)
     score_512();
     share_sums();
     share_refusals();
+    share_parts();
     ramp_sums();
     ramp_refusals();
     fen_of_grains();

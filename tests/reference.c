@@ -553,15 +553,19 @@ uint64_t ref_fen(uint64_t grains) { return (uint64_t)(((unsigned __int128)grains
 
 /* ---- sharing ---- */
 
-enum { LINE = 24, OUTCOME = 16, MOST_LINES = 64 };
+enum { LINE = 24, OUTCOME = 16, MOST_LINES = 64, WHOLE = 10000 };
 static const uint64_t MOST_FEN = 100000000000; /* 10^11 */
 
-uint32_t ref_share(const uint8_t *lines, size_t lines_len, uint8_t *out, size_t out_len, uint64_t *place, int64_t *gap)
+uint32_t ref_share(uint32_t part, const uint8_t *lines, size_t lines_len, uint8_t *out, size_t out_len, uint64_t *place, int64_t *gap)
 {
     *place = 0;
     *gap = 0;
     if (lines_len % LINE != 0)
         return 1;
+    if (part > WHOLE) {
+        *place = 65;
+        return 10;
+    }
 
     size_t n = lines_len / LINE;
     uint32_t before = 0;
@@ -582,8 +586,10 @@ uint32_t ref_share(const uint8_t *lines, size_t lines_len, uint8_t *out, size_t 
     if (compensation > MOST_FEN)
         return 15;
 
+    /* "The generators' R is the whole R times that part, divided by 10,000 and cut toward zero", as C divides; "the rest is one user line". */
     int negative = assessment < compensation;
-    uint64_t r = negative ? compensation - assessment : assessment - compensation; /* |R| */
+    int64_t all = (int64_t)assessment - (int64_t)compensation, generators = all * (int64_t)part / WHOLE, user = all - generators;
+    uint64_t r = (uint64_t)(negative ? -generators : generators);
     uint64_t weight[MOST_LINES], weights = 0;
     for (size_t i = 0; i < n; i++) {
         const uint8_t *l = lines + LINE * i;
@@ -592,10 +598,10 @@ uint32_t ref_share(const uint8_t *lines, size_t lines_len, uint8_t *out, size_t 
     }
     if (r != 0 && weights == 0)
         return 16;
-    if (out_len < OUTCOME * n)
+    if (out_len < OUTCOME * n + OUTCOME)
         return 9;
 
-    /* Each share of |R| rounded down; the lines are kept in the order in which they get a fen that is left. */
+    /* Each share of the generators' R, without its sign, rounded down; the lines are kept in the order in which they get a fen that is left. */
     uint64_t share[MOST_LINES], remainder[MOST_LINES], left = r;
     size_t turn[MOST_LINES];
     for (size_t i = 0; i < n; i++) {
@@ -617,6 +623,8 @@ uint32_t ref_share(const uint8_t *lines, size_t lines_len, uint8_t *out, size_t 
         put64(out + OUTCOME * i, (uint64_t)s);
         put64(out + OUTCOME * i + 8, (uint64_t)amount);
     }
-    *gap = negative ? -(int64_t)r : (int64_t)r;
+    put64(out + OUTCOME * n, (uint64_t)user);
+    put64(out + OUTCOME * n + 8, (uint64_t)user);
+    *gap = all;
     return 0;
 }

@@ -28,7 +28,7 @@ uint32_t ref_ramp(uint16_t participant, uint8_t kind, uint32_t rated, const uint
 
 uint64_t ref_fen(uint64_t grains);
 
-uint32_t ref_share(const uint8_t *lines, size_t lines_len, uint8_t *out, size_t out_len, uint64_t *place, int64_t *gap);
+uint32_t ref_share(uint32_t part, const uint8_t *lines, size_t lines_len, uint8_t *out, size_t out_len, uint64_t *place, int64_t *gap);
 
 /* The paper's rule over a whole list of books, which never speaks of two books at a time: trees of joins are held against it.
  * Books 1 to 64 in number, each sound, all of one area, year and month. Answers 0, 8 or 9 as joining does. */

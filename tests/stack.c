@@ -223,22 +223,24 @@ static size_t fill_lines(uint32_t step, uint64_t compensation, uint32_t assessme
 static void share(void)
 {
     for (uint32_t step = 0; step <= 3; step++) {
-        WANT(0, nwb_share(lines, fill_lines(step, 1500000007, 0), out, sizeof out, &place, &gap));
-        WANT(0, nwb_share(lines, fill_lines(step, 1000, 9999991), out, 16 * LINES, &place, &gap));
-        WANT(0, nwb_share(lines, fill_lines(step, 7000000, 7000000), out, sizeof out, &place, &gap));
+        WANT(0, nwb_share(10000, lines, fill_lines(step, 1500000007, 0), out, sizeof out, &place, &gap));
+        WANT(0, nwb_share(3333, lines, fill_lines(step, 1000, 9999991), out, 16 * LINES + 16, &place, &gap));
+        WANT(0, nwb_share(10000, lines, fill_lines(step, 7000000, 7000000), out, sizeof out, &place, &gap));
     }
     size_t len = fill_lines(1, 1500000007, 0);
-    WANT(9, nwb_share(lines, len, out, 16 * LINES - 1, &place, &gap));
-    WANT(10, nwb_share(lines, len + 24, out, sizeof out, &place, &gap));
-    WANT(1, nwb_share(lines, len - 1, out, sizeof out, &place, &gap));
+    WANT(9, nwb_share(10000, lines, len, out, 16 * LINES + 15, &place, &gap));
+    WANT(10, nwb_share(10000, lines, len + 24, out, sizeof out, &place, &gap));
+    WANT(1, nwb_share(10000, lines, len - 1, out, sizeof out, &place, &gap));
     for (int i = 0; i < LINES; i++)
         put_bytes(lines + 24 * i + 4, 0, 4);
-    WANT(16, nwb_share(lines, len, out, sizeof out, &place, &gap));
+    WANT(16, nwb_share(10000, lines, len, out, sizeof out, &place, &gap));
     put_bytes(lines + 24 * (LINES - 1) + 8, 100000000000, 8);
-    WANT(15, nwb_share(lines, len, out, sizeof out, &place, &gap));
+    WANT(15, nwb_share(10000, lines, len, out, sizeof out, &place, &gap));
     lines[24 * (LINES - 1) + 23] = 1;
-    WANT(10, nwb_share(lines, len, out, sizeof out, &place, &gap));
-    WANT(0, nwb_share(NULL, 0, NULL, 0, &place, &gap));
+    WANT(10, nwb_share(10000, lines, len, out, sizeof out, &place, &gap));
+    WANT(10, nwb_share(10001, lines, len, out, sizeof out, &place, &gap));
+    WANT(9, nwb_share(10000, NULL, 0, NULL, 0, &place, &gap));
+    WANT(0, nwb_share(10000, NULL, 0, out, 16, &place, &gap));
 }
 
 int main(void)

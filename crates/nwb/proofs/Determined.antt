@@ -42,8 +42,8 @@ pub ramp-determined : (h : Hour) (n p g n′ p′ g′ : ℕ) → ToldRamp h n p
 ramp-determined h n p g n′ p′ g′ x y = (x .number-is ∙ sym (y .number-is), x .place-is ∙ sym (y .place-is), x .grains-is ∙ sym (y .grains-is))
 
 -- nwb_share
-pub share-determined : (input before after after′ : List ℕ) (n p n′ p′ : ℕ) (g g′ : ℤ)
-    → ToldShare input before after n p g → ToldShare input before after′ n′ p′ g′
+pub share-determined : (part : ℕ) (input before after after′ : List ℕ) (n p n′ p′ : ℕ) (g g′ : ℤ)
+    → ToldShare part input before after n p g → ToldShare part input before after′ n′ p′ g′
     → (n ≡ n′) × (p ≡ p′) × (g ≡ g′) × (after ≡ after′)
-share-determined input before after after′ n p n′ p′ g g′ x y =
+share-determined part input before after after′ n p n′ p′ g g′ x y =
     (x .number-is ∙ sym (y .number-is), x .place-is ∙ sym (y .place-is), x .gap-is ∙ sym (y .gap-is), x .out-is ∙ sym (y .out-is))

@@ -14,7 +14,7 @@ use Rattle.lookup.specs.declared.Place.{Place}
 use Rattle.lookup.specs.declared.Place.the-variants.{Nowhere, InFirst, InSecond}
 use Rattle.score.specs.declared.answer.Score.{Score}
 use Rattle.ramp.specs.declared.Hour.{Hour}
-use Rattle.share_bytes.specs.Bytes.{partsBytes, sharingBytes}
+use Rattle.share_bytes.specs.Bytes.{partsBytes, partsWritten, sharingBytes}
 use Rattle.pay.specs.declared.Member.{Member}
 use Rattle.call.specs.declared.Call.{Call}
 
@@ -89,9 +89,10 @@ pub record ToldRamp (h : Hour) (number place grains : ℕ) : Type 0 where
   pub place-is : place ≡ h .place
   pub grains-is : grains ≡ h .grains .0
 
--- nwb_share: the number; place and gap in the cells; what each line gets stands at the output's front, and the bytes behind stay
-pub record ToldShare (input before after : List ℕ) (number place : ℕ) (gap : ℤ) : Type 0 where
-  pub number-is : number ≡ sharingBytes input (length before) .number
-  pub place-is : place ≡ sharingBytes input (length before) .place
-  pub gap-is : gap ≡ sharingBytes input (length before) .gap
-  pub out-is : after ≡ sets before 0 (partsBytes (sharingBytes input (length before) .parts))
+-- nwb_share: the number; place and gap in the cells; what each line gets and the user's amount stand at the output's front, and the bytes behind
+-- stay
+pub record ToldShare (part : ℕ) (input before after : List ℕ) (number place : ℕ) (gap : ℤ) : Type 0 where
+  pub number-is : number ≡ sharingBytes part input (length before) .number
+  pub place-is : place ≡ sharingBytes part input (length before) .place
+  pub gap-is : gap ≡ sharingBytes part input (length before) .gap
+  pub out-is : after ≡ sets before 0 (partsBytes (partsWritten (sharingBytes part input (length before))))

@@ -189,10 +189,16 @@ pub extern "C" fn nwb_fen(grains: u64) -> u64
 }
 
 #[no_mangle]
-pub extern "C" fn nwb_share(lines: &[u8], out: &mut [u8], place: &mut u64, gap: &mut i64) -> u32
-    ensures { λ r. ⌜ ToldShare (now (lines .entry)) (now (out .entry)) (now (out .exit)) r (now (place .exit)) (now (gap .exit)) ⌝ }
+pub extern "C" fn nwb_share(
+    part: u32,
+    lines: &[u8],
+    out: &mut [u8],
+    place: &mut u64,
+    gap: &mut i64,
+) -> u32
+    ensures { λ r. ⌜ ToldShare part (now (lines .entry)) (now (out .entry)) (now (out .exit)) r (now (place .exit)) (now (gap .exit)) ⌝ }
 {
-    let shared = share_bytes::share_bytes(lines, out);
+    let shared = share_bytes::share_bytes(part, lines, out);
     *place = shared.place as u64;
     let owed = shared.gap;
     let fen = owed.0;
