@@ -15,4 +15,5 @@ fn main() {
     shares::grains(30_000);
     shares::three_equal();
     shares::statement();
+    shares::parts();
 }
