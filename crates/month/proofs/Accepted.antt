@@ -19,14 +19,14 @@ use Rattle.score.specs.Scoring.{grainsEarned, inFen}
 use Rattle.book.proofs.Judged.{zero-accepted}
 use Rattle.apportion.specs.Apportion.{total}
 use Rattle.share.specs.declared.Line.{Line}
-use Rattle.share.specs.Sharing.{Part, below, SharingOutcome, sharing}
+use Rattle.share.specs.Sharing.{Part, below, mostPart, SharingOutcome, sharing}
 use Rattle.share.specs.Forms.{blankLine}
 use Rattle.share.proofs.Lists.{getD-mapped}
 use Rattle.register.specs.declared.Entry.{Entry}
 use Rattle.register.specs.Register.{blankEntry, entryLine, firstBadEntry}
 use Rattle.register.proofs.Entries.{length-lines, line-at}
 use Rattle.month.specs.declared.Fault.{Fault}
-use Rattle.month.specs.declared.Fault.the-variants.{NoFault, InRegister, InBook, Unlisted, OfMember, OfRamping, InSharing}
+use Rattle.month.specs.declared.Fault.the-variants.{NoFault, InPart, InRegister, InBook, Unlisted, OfMember, OfRamping, InSharing}
 use Rattle.month.specs.declared.Ramped.{Ramped}
 use Rattle.month.specs.declared.Row.{Row}
 use Rattle.month.specs.declared.Statement.{Statement}
@@ -39,20 +39,22 @@ use Rattle.month.proofs.Walking.{noGrains, noFen, fenOf, isBoth, length
 use Rattle.month.proofs.Statements.{next-of}
 
 abbrev pub rowsSettled : MonthGiven → List Row
-rowsSettled g = rowsOf (below (linesIn g)) (linesIn g) (grainsIn g) (g .ramped) (sharing (linesIn g) .parts)
+rowsSettled g = rowsOf (below (linesIn g)) (linesIn g) (grainsIn g) (g .ramped) (sharing (g .part) (linesIn g) .parts)
 
 -- what it has passed
 pub record Passed (g : MonthGiven) : Type 0 where
+  pub part : g .part ≤ mostPart
   pub register : g .count ≤ firstBadEntry 0 (g .entries)
   pub book : check (g .book) ≡ accepted
   pub listed : countAt (g .book) ≤ firstUnlisted (g .entries) (callsOf (g .book))
   pub members : length (earnedIn g) ≤ firstRefusedMember (earnedIn g)
-  pub shared : sharing (linesIn g) .number ≡ 0
+  pub shared : sharing (g .part) (linesIn g) .number ≡ 0
   pub is : settling g ≡ statementOf g
 
 -- a fault is one
 abbrev isFault : Fault → Bool
 isFault NoFault = false
+isFault InPart = true
 isFault (InRegister line) = true
 isFault (InBook number place) = true
 isFault (Unlisted call) = true
@@ -82,9 +84,10 @@ both-at (NotRamped number place ∷ es) i d h l = absurd (omega arith)
 
 -- what is behind the register, the book and the listing
 abbrev restOf : MonthGiven → Statement
-restOf g = earnedMonth (g .entries) (g .book) (g .ramped) (earnedIn g)
+restOf g = earnedMonth (g .part) (g .entries) (g .book) (g .ramped) (earnedIn g)
 
 record Reached (g : MonthGiven) : Type 0 where
+  part : g .part ≤ mostPart
   register : g .count ≤ firstBadEntry 0 (g .entries)
   book : check (g .book) .number ≡ 0
   listed : countAt (g .book) ≤ firstUnlisted (g .entries) (callsOf (g .book))
@@ -93,7 +96,7 @@ record Reached (g : MonthGiven) : Type 0 where
 
 reached : (g : MonthGiven) → settling g .fault ≡ NoFault → Reached g
 unfolding settling
-reached g = go (ltb bad (g .count)) (eqb (check (g .book) .number) 0) (ltb call n) refl refl refl
+reached g = go (ltb mostPart (g .part)) (ltb bad (g .count)) (eqb (check (g .book) .number) 0) (ltb call n) refl refl refl refl
   where
     bad : ℕ
     bad = firstBadEntry 0 (g .entries)
@@ -104,22 +107,25 @@ reached g = go (ltb bad (g .count)) (eqb (check (g .book) .number) 0) (ltb call 
     n : ℕ
     n = countAt (g .book)
 
-    all : Bool → Bool → Bool → Statement
-    all a b c =
-        cond a (monthRefused (InRegister bad))
-        (cond (not b) (monthRefused (InBook (check (g .book) .number) (check (g .book) .place))) (cond c (monthRefused (Unlisted call)) (restOf g)))
+    all : Bool → Bool → Bool → Bool → Statement
+    all p a b c =
+        cond p (monthRefused InPart)
+        (cond a (monthRefused (InRegister bad))
+        (cond (not b) (monthRefused (InBook (check (g .book) .number) (check (g .book) .place))) (cond c (monthRefused (Unlisted call)) (restOf g))))
 
-    go : (a b c : Bool) → ltb bad (g .count) ≡ a → eqb (check (g .book) .number) 0 ≡ b → ltb call n ≡ c → all a b c .fault ≡ NoFault → Reached g
-    go true b c ea eb ec h = absurd (no-refusal _ refl h)
-    go false false c ea eb ec h = absurd (no-refusal _ refl h)
-    go false true true ea eb ec h = absurd (no-refusal _ refl h)
-    go false true false ea eb ec h =
+    go : (p a b c : Bool) → ltb mostPart (g .part) ≡ p → ltb bad (g .count) ≡ a → eqb (check (g .book) .number) 0 ≡ b → ltb call n ≡ c → all p a b c .fault ≡ NoFault → Reached g
+    go true a b c ep ea eb ec h = absurd (no-refusal _ refl h)
+    go false true b c ep ea eb ec h = absurd (no-refusal _ refl h)
+    go false false false c ep ea eb ec h = absurd (no-refusal _ refl h)
+    go false false true true ep ea eb ec h = absurd (no-refusal _ refl h)
+    go false false true false ep ea eb ec h =
         record {
+          part = ltb-false mostPart (g .part) ep;
           register = ltb-false bad (g .count) ea;
           book = eqb-true (check (g .book) .number) 0 eb;
           listed = ltb-false call n ec;
           none = h;
-          is = rw (ea, eb, ec) refl;
+          is = rw (ep, ea, eb, ec) refl;
         }
 
 pub passed : (g : MonthGiven) → settling g .fault ≡ NoFault → Passed g
@@ -136,7 +142,7 @@ passed g h = go (ltb first (length es)) (eqb (o .number) 0) refl refl (r .none)
     first = firstRefusedMember es
 
     o : SharingOutcome
-    o = sharing (linesIn g)
+    o = sharing (g .part) (linesIn g)
 
     all : Bool → Bool → Statement
     all a b =
@@ -148,6 +154,7 @@ passed g h = go (ltb first (length es)) (eqb (o .number) 0) refl refl (r .none)
     go false false ea eb k = absurd (no-refusal _ refl k)
     go false true ea eb k =
         record {
+          part = r .part;
           register = r .register;
           book = zero-accepted (g .book) (r .book);
           listed = r .listed;
@@ -211,13 +218,13 @@ module _ (g : MonthGiven) where
   -- the row of line i
   pub settled-row : (i : ℕ) → Passed g → i < length (g .entries)
       → getD (settling g .rows) i blankRow
-      ≡ rowOf (below (linesIn g)) (getD (linesIn g) i blankLine) (getD (grainsIn g) i noGrains) (rampedOfLine g i .hours) (getD (sharing (linesIn g) .parts) i noPart)
+      ≡ rowOf (below (linesIn g)) (getD (linesIn g) i blankLine) (getD (grainsIn g) i noGrains) (rampedOfLine g i .hours) (getD (sharing (g .part) (linesIn g) .parts) i noPart)
   unfolding filledRows
   settled-row i p h =
       let long = length-in in
-      let rows = length-rows (below (linesIn g)) (linesIn g) (grainsIn g) (g .ramped) (sharing (linesIn g) .parts) in
+      let rows = length-rows (below (linesIn g)) (linesIn g) (grainsIn g) (g .ramped) (sharing (g .part) (linesIn g) .parts) in
       ap (λ (s : Statement). getD (s .rows) i blankRow) (p .is) ∙ List·getD-append (rowsSettled g) _ blankRow i (omega arith)
-      ∙ row-at (below (linesIn g)) (linesIn g) (grainsIn g) (g .ramped) (sharing (linesIn g) .parts) i blankRow (omega arith)
+      ∙ row-at (below (linesIn g)) (linesIn g) (grainsIn g) (g .ramped) (sharing (g .part) (linesIn g) .parts) i blankRow (omega arith)
 
   -- the grains of line i, and the fen of them
   pub grains-at : (i : ℕ) → i < length (g .entries) → getD (grainsIn g) i noGrains ≡ earnedGrains (getD (earnedIn g) i (NotScored 0 0))

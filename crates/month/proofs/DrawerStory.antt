@@ -50,7 +50,7 @@ use Rattle.score.specs.Outcomes.{ValuesWithin, Ready}
 use Rattle.score.proofs.Empty.{still}
 use Rattle.score.proofs.Listed.{earned-over-calls}
 use Rattle.apportion.specs.Apportion.{apportion}
-use Rattle.share.specs.Sharing.{gap, lineIsSound, parts, settled, sharingInTurn}
+use Rattle.share.specs.Sharing.{gap, generatorsAmount, userAmount, lineIsSound, parts, settled, sharingInTurn}
 use Rattle.register.specs.declared.Entry.{Entry}
 use Rattle.register.specs.Register.{entryLine, entryIsSound, firstBadEntry}
 use Rattle.month.specs.declared.Fault.the-variants.{NoFault}
@@ -117,7 +117,7 @@ quarters = refl
 
 -- both have the outputs s, whatever they are
 abbrev pub given : List ℕ → MonthGiven
-given s = record { entries = register; count = 2; book = []; series = s ++ s; lengths = 2976 ∷ 2976 ∷ []; ramped = [] }
+given s = record { part = 10000; entries = register; count = 2; book = []; series = s ++ s; lengths = 2976 ∷ 2976 ∷ []; ramped = [] }
 
 -- a line of the statement
 abbrev pub row : ℕ → ℕ → ℕ → ℤ → ℤ → Row
@@ -220,12 +220,12 @@ module _ (s : List ℕ) (long : length s ≡ 2976) (within : ValuesWithin s 2976
 
     -- the month over it, from what its members earn
     settled-one : (x y : ℕ) → isUnlisted register c ≡ false → ofCall (member 3) s c ≡ Accepted (record { 0 = x }) → ofCall (member 5) s c ≡ Accepted (record { 0 = y })
-        → settling (withBook (given s) (one c)) ≡ earnedMonth register (one c) [] (ScoreAndHours (record { 0 = grainsPlus x 0 }) ∷ ScoreAndHours (record { 0 = grainsPlus y 0 }) ∷ [])
+        → settling (withBook (given s) (one c)) ≡ earnedMonth 10000 register (one c) [] (ScoreAndHours (record { 0 = grainsPlus x 0 }) ∷ ScoreAndHours (record { 0 = grainsPlus y 0 }) ∷ [])
     unfolding callsOf earnings earnedWith
     settled-one x y u e f =
-        sym (listed (withBook (given s) (one c)) both-listed (ap (λ (v : Verdict). v .number) (sound-accepted (one c) (one-sound c w)))
+        sym (listed (withBook (given s) (one c)) (omega arith) both-listed (ap (λ (v : Verdict). v .number) (sound-accepted (one c) (one-sound c w)))
         (countAt (one c)) (firstUnlisted register (callsFrom (one c) 0 (countAt (one c)))) refl refl (omega (arith, count-one, none-unlisted)))
-        ∙ ap (earnedMonth register (one c) []) (ap₂ (λ (a b : Earned). earnedWith a noRamping ∷ earnedWith b noRamping ∷ []) first next)
+        ∙ ap (earnedMonth 10000 register (one c) []) (ap₂ (λ (a b : Earned). earnedWith a noRamping ∷ earnedWith b noRamping ∷ []) first next)
       where
         first : grainsEarned (member 3) (one c) (take 2976 (s ++ s)) ≡ Accepted (record { 0 = x })
         first = ap (grainsEarned (member 3) (one c)) own-first ∙ earned-one (member 3) line-three ∙ e
@@ -242,13 +242,15 @@ module _ (s : List ℕ) (long : length s ≡ 2976) (within : ValuesWithin s 2976
         fault = NoFault;
         header = march;
         calls = 1;
+        part = 10000;
         gap = record { 0 = negsuc 59999999 };
+        user = record { 0 = pos 0 };
         count = 2;
         rows = filledRows (row 3 3600000000000 60000000 (negsuc 29999999) (pos 30000000) ∷ row 5 0 0 (negsuc 29999999) (negsuc 29999999) ∷ []);
       }
   unfolding
       spare early stop isUnlisted isListed earnedMonth firstRefusedMember monthLines earnedGrains entryLine sharedMonth rowsOf rowOf
-      grainsPlus grainsToFen sharingInTurn settled parts gap lineIsSound apportion fenPerThousandth
+      grainsPlus grainsToFen sharingInTurn settled parts generatorsAmount userAmount gap lineIsSound apportion fenPerThousandth
   early-alone =
       settled-one early early-within 3600000000000 0 refl (live-three s) (live-five s)
       ∙ rw (header-is early early-within, count-one early early-within) refl
@@ -258,13 +260,15 @@ module _ (s : List ℕ) (long : length s ≡ 2976) (within : ValuesWithin s 2976
         fault = NoFault;
         header = march;
         calls = 1;
+        part = 10000;
         gap = record { 0 = pos 0 };
+        user = record { 0 = pos 0 };
         count = 2;
         rows = filledRows (row 3 0 0 (pos 0) (pos 0) ∷ row 5 0 0 (pos 0) (pos 0) ∷ []);
       }
   unfolding
       withdrawal stop isUnlisted isListed earnedMonth firstRefusedMember monthLines earnedGrains entryLine sharedMonth rowsOf rowOf
-      grainsPlus grainsToFen sharingInTurn settled parts gap lineIsSound apportion fenPerThousandth
+      grainsPlus grainsToFen sharingInTurn settled parts generatorsAmount userAmount gap lineIsSound apportion fenPerThousandth
   withdrawn-alone =
       settled-one withdrawal withdrawal-within 0 0 refl (gone-three s) (gone-five s)
       ∙ rw (header-is withdrawal withdrawal-within, count-one withdrawal withdrawal-within) refl
@@ -275,7 +279,9 @@ module _ (s : List ℕ) (long : length s ≡ 2976) (within : ValuesWithin s 2976
         fault = NoFault;
         header = march;
         calls = 1;
+        part = 10000;
         gap = record { 0 = pos 0 };
+        user = record { 0 = pos 0 };
         count = 2;
         rows = filledRows (row 3 0 0 (pos 0) (pos 0) ∷ row 5 0 0 (pos 0) (pos 0) ∷ []);
       }
@@ -299,7 +305,9 @@ pub still-early : settling spareMonth
       fault = NoFault;
       header = record { area = 12; year = 2026; month = 3 };
       calls = 1;
+      part = 10000;
       gap = record { 0 = negsuc 59999999 };
+      user = record { 0 = pos 0 };
       count = 2;
       rows = filledRows (row 3 3600000000000 60000000 (negsuc 29999999) (pos 30000000) ∷ row 5 0 0 (negsuc 29999999) (negsuc 29999999) ∷ []);
     }

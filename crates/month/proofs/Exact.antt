@@ -30,7 +30,7 @@ use Rattle.score.proofs.First.{first-bad}
 use Rattle.book.proofs.Judged.{zero-accepted}
 use Rattle.score.proofs.Turns.{score-is}
 use Rattle.pay.proofs.Within.{line-of, of-line}
-use Rattle.share.specs.Sharing.{sharing}
+use Rattle.share.specs.Sharing.{sharing, mostPart}
 use Rattle.share.proofs.Bounds.{sound-from, sound-to}
 use Rattle.register.specs.declared.Entry.{Entry}
 use Rattle.register.specs.Register.{blankEntry, entryIsSound, firstBadEntry}
@@ -45,9 +45,9 @@ use Rattle.month.specs.Settling.{MonthGiven, isListed, isUnlisted, first
 use Rattle.month.specs.Settling.{sharedMonth, earnedMonth, settling}
 use Rattle.month.specs.Outcomes.{ownSeries, scoreOfLine, rampedOfLine, earnedIn, linesIn, sharedIn, statementOf, EntryWithin, AllWithin, FirstBadAt, RegisterWithin}
 use Rattle.month.specs.Outcomes.{RegisterAndBook, Without, Listed, AllListed, Scored, AllScored, MonthOutcome}
-use Rattle.month.specs.Outcomes.{bad-entry, one-more, bad-book, without-line, bad-member, bad-ramping, not-shared, settled}
+use Rattle.month.specs.Outcomes.{bad-part, bad-entry, one-more, bad-book, without-line, bad-member, bad-ramping, not-shared, settled}
 use Rattle.month.proofs.Walking.{isBoth, length-earnings}
-use Rattle.month.proofs.Settled.{in-register, in-book, unlisted, listed, earned-refused}
+use Rattle.month.proofs.Settled.{in-part, in-register, in-book, unlisted, listed, earned-refused}
 use Rattle.month.proofs.Accepted.{earned-at, with-both}
 
 -- The register
@@ -333,12 +333,12 @@ module _ (g : MonthGiven) where
 
   -- the months that go on to sharing
   abbrev rest : Statement
-  rest = earnedMonth (g .entries) (g .book) (g .ramped) (earnedIn g)
+  rest = earnedMonth (g .part) (g .entries) (g .book) (g .ramped) (earnedIn g)
 
   at-fault : (i : ℕ) (fault : Fault) → i < length (g .entries) → firstRefusedMember (earnedIn g) ≡ i → fault ≡ memberFault i (earnedWith (ownOf i) (rampedOfLine g i))
       → monthRefused fault ≡ rest
   at-fault i fault h e is =
-      earned-refused (g .entries) (g .book) (g .ramped) (earnedIn g) fault (omega (arith, earned-long))
+      earned-refused (g .part) (g .entries) (g .book) (g .ramped) (earnedIn g) fault (omega (arith, earned-long))
       (is ∙ rw (e, turn-of i h) refl)
 
   at-score : (i : ℕ) → i < length (g .entries) → firstRefusedMember (earnedIn g) ≡ i → (scoreOfLine g i .number ≡ 0 → ⊥)
@@ -351,16 +351,16 @@ module _ (g : MonthGiven) where
       → monthRefused (OfRamping i (rampedOfLine g i .number) (rampedOfLine g i .place)) ≡ rest
   at-ramping i h e z some = at-fault i _ h e (sym (ramping-fault (ownOf i) (rampedOfLine g i) (earned-some _ _ _) i (sym (number-of i) ∙ z) some))
 
-  shared-on : length (g .entries) ≤ firstRefusedMember (earnedIn g) → rest ≡ sharedMonth (g .book) (linesIn g) (map earnedGrains (earnedIn g)) (g .ramped) (sharedIn g)
+  shared-on : length (g .entries) ≤ firstRefusedMember (earnedIn g) → rest ≡ sharedMonth (g .part) (g .book) (linesIn g) (map earnedGrains (earnedIn g)) (g .ramped) (sharedIn g)
   unfolding earnedMonth
   shared-on h = rw (le-ltb (firstRefusedMember (earnedIn g)) (length (earnedIn g)) (omega (arith, earned-long))) refl
 
   shared-no : (sharedIn g .number ≡ 0 → ⊥)
-      → sharedMonth (g .book) (linesIn g) (map earnedGrains (earnedIn g)) (g .ramped) (sharedIn g) ≡ monthRefused (InSharing (sharedIn g .number) (sharedIn g .place))
+      → sharedMonth (g .part) (g .book) (linesIn g) (map earnedGrains (earnedIn g)) (g .ramped) (sharedIn g) ≡ monthRefused (InSharing (sharedIn g .number) (sharedIn g .place))
   unfolding sharedMonth
   shared-no some = rw (ne-eqb (sharedIn g .number) 0 some) refl
 
-  shared-yes : sharedIn g .number ≡ 0 → sharedMonth (g .book) (linesIn g) (map earnedGrains (earnedIn g)) (g .ramped) (sharedIn g) ≡ statementOf g
+  shared-yes : sharedIn g .number ≡ 0 → sharedMonth (g .part) (g .book) (linesIn g) (map earnedGrains (earnedIn g)) (g .ramped) (sharedIn g) ≡ statementOf g
   unfolding sharedMonth
   shared-yes z = rw (eq-eqb (sharedIn g .number) 0 z) refl
 
@@ -389,16 +389,16 @@ module _ (g : MonthGiven) (fits : length (g .entries) ≤ g .count) where
   goes-on : AllListed g → rest g ≡ settling g
   goes-on w =
       let e = first-without g (countAt (g .book)) (omega arith) (w .listed) (λ l. absurd (omega arith)) in
-      listed g (register-sound (w .front .register)) (book-none (w .front .book)) (countAt (g .book)) call refl call-is (omega arith)
+      listed g (w .front .register .part) (register-sound (w .front .register)) (book-none (w .front .book)) (countAt (g .book)) call refl call-is (omega arith)
 
-  at-sharing : AllScored g → settling g ≡ sharedMonth (g .book) (linesIn g) (map earnedGrains (earnedIn g)) (g .ramped) (sharedIn g)
+  at-sharing : AllScored g → settling g ≡ sharedMonth (g .part) (g .book) (linesIn g) (map earnedGrains (earnedIn g)) (g .ramped) (sharedIn g)
   at-sharing w =
       let e = first-refused g (length (g .entries)) (omega arith) (w .scored) (λ l. absurd (omega arith)) in
       sym (goes-on (w .front)) ∙ shared-on g (omega arith)
 
   -- Settling answers by exactly one row of the table: its condition holds, and those of the rows before it do not.
   pub outcome : MonthOutcome g (settling g)
-  outcome = register (decLt bad (g .count))
+  outcome = part (decLt mostPart (g .part))
     where
       shared : AllScored g → Dec (sharedIn g .number ≡ 0) → MonthOutcome g (settling g)
       shared w (yes z) = settled (at-sharing w ∙ shared-yes g z) w z
@@ -420,7 +420,7 @@ module _ (g : MonthGiven) (fits : length (g .entries) ≤ g .count) where
       calls : RegisterAndBook g → Dec (call < countAt (g .book)) → MonthOutcome g (settling g)
       calls w (yes h) =
           let stands = unlisted-at (g .entries) (callsOf (g .book)) noCall (omega (arith, calls-long g)) in
-          without-line call (sym (unlisted g (register-sound (w .register)) (book-none (w .book)) (countAt (g .book)) call refl call-is h)) w h
+          without-line call (sym (unlisted g (w .register .part) (register-sound (w .register)) (book-none (w .book)) (countAt (g .book)) call refl call-is h)) w h
           (none-without g call (omega arith) (omega arith)) (without-from g call (sym (ap (isUnlisted (g .entries)) (record-in g call h)) ∙ stands))
       calls w (no f) =
           let all : AllListed g = record { front = w; listed = none-without g (countAt (g .book)) (omega arith) (omega arith) } in
@@ -428,31 +428,36 @@ module _ (g : MonthGiven) (fits : length (g .entries) ≤ g .count) where
 
       book : RegisterWithin g → Dec (check (g .book) .number ≡ 0) → MonthOutcome g (settling g)
       book w (yes z) = calls (record { register = w; book = zero-accepted (g .book) z }) (decLt call (countAt (g .book)))
-      book w (no some) = bad-book (sym (in-book g (register-sound w) (check (g .book)) refl some)) w (λ e. some (book-none e))
+      book w (no some) = bad-book (sym (in-book g (w .part) (register-sound w) (check (g .book)) refl some)) w (λ e. some (book-none e))
 
-      entries : bad < g .count → Dec (bad < length (g .entries)) → MonthOutcome g (settling g)
-      entries h (yes l) = bad-entry bad (sym (in-register g h)) (bad-from 0 (g .entries) l)
-      entries h (no f) =
+      entries : g .part ≤ mostPart → bad < g .count → Dec (bad < length (g .entries)) → MonthOutcome g (settling g)
+      entries p h (yes l) = bad-entry bad (sym (in-register g p h)) p (bad-from 0 (g .entries) l)
+      entries p h (no f) =
           let e : bad ≡ length (g .entries) = omega (arith, bad-le 0 (g .entries)) in
-          one-more (sym (in-register g h) ∙ ap (λ (k : ℕ). monthRefused (InRegister k)) e) (all-from 0 (g .entries) (omega arith)) (omega arith)
+          one-more (sym (in-register g p h) ∙ ap (λ (k : ℕ). monthRefused (InRegister k)) e) p (all-from 0 (g .entries) (omega arith)) (omega arith)
 
-      register : Dec (bad < g .count) → MonthOutcome g (settling g)
-      register (yes h) = entries h (decLt bad (length (g .entries)))
-      register (no f) =
+      register : g .part ≤ mostPart → Dec (bad < g .count) → MonthOutcome g (settling g)
+      register p (yes h) = entries p h (decLt bad (length (g .entries)))
+      register p (no f) =
           let few = bad-le 0 (g .entries) in
-          book (record { count = omega arith; entries = all-from 0 (g .entries) (omega arith) }) (ℕ-discrete (check (g .book) .number) 0)
+          book (record { part = p; count = omega arith; entries = all-from 0 (g .entries) (omega arith) }) (ℕ-discrete (check (g .book) .number) 0)
+
+      part : Dec (mostPart < g .part) → MonthOutcome g (settling g)
+      part (yes h) = bad-part (sym (in-part g h)) h
+      part (no f) = register (omega arith) (decLt bad (g .count))
 
   decides : (s : Statement) → MonthOutcome g s → s ≡ settling g
-  decides s (bad-entry p e b) =
+  decides s (bad-part e h) = e ∙ in-part g h
+  decides s (bad-entry p e f b) =
       let r = bad-to 0 (g .entries) p b in
-      e ∙ ap (λ (k : ℕ). monthRefused (InRegister k)) (sym (r .0)) ∙ in-register g (omega (arith, r .0, r .1))
-  decides s (one-more e w h) =
+      e ∙ ap (λ (k : ℕ). monthRefused (InRegister k)) (sym (r .0)) ∙ in-register g f (omega (arith, r .0, r .1))
+  decides s (one-more e f w h) =
       let r = all-to 0 (g .entries) w in
-      e ∙ ap (λ (k : ℕ). monthRefused (InRegister k)) (sym r) ∙ in-register g (omega arith)
-  decides s (bad-book e w n) = e ∙ in-book g (register-sound w) (check (g .book)) refl (λ z. n (zero-accepted (g .book) z))
+      e ∙ ap (λ (k : ℕ). monthRefused (InRegister k)) (sym r) ∙ in-register g f (omega arith)
+  decides s (bad-book e w n) = e ∙ in-book g (w .part) (register-sound w) (check (g .book)) refl (λ z. n (zero-accepted (g .book) z))
   decides s (without-line i e w h l n) =
       let is = first-without g i (omega arith) l (λ k. n) in
-      e ∙ unlisted g (register-sound (w .register)) (book-none (w .book)) (countAt (g .book)) i refl (sym is ∙ call-is) h
+      e ∙ unlisted g (w .register .part) (register-sound (w .register)) (book-none (w .book)) (countAt (g .book)) i refl (sym is ∙ call-is) h
   decides s (bad-member i e w h l n) = e ∙ at-score g i h (first-refused g i (omega arith) l (λ k q. n (q .0))) n ∙ goes-on w
   decides s (bad-ramping i e w h l z n) = e ∙ at-ramping g i h (first-refused g i (omega arith) l (λ k q. n (q .1))) z n ∙ goes-on w
   decides s (not-shared e w n) = e ∙ sym (at-sharing w ∙ shared-no g n)
@@ -463,7 +468,7 @@ module _ (g : MonthGiven) (fits : length (g .entries) ≤ g .count) where
   outcome-exact s = (λ e. rw e outcome, decides s)
 
 -- The same of what `settle` is given: the first lines of an array, no more than it counts.
-pub settle-exact : (entries : List Entry) (count : ℕ) (book series lengths : List ℕ) (ramped : List Ramped) (s : Statement)
-    → let g : MonthGiven = record { entries = take count entries; count = count; book = book; series = series; lengths = lengths; ramped = ramped } in
+pub settle-exact : (part : ℕ) (entries : List Entry) (count : ℕ) (book series lengths : List ℕ) (ramped : List Ramped) (s : Statement)
+    → let g : MonthGiven = record { part = part; entries = take count entries; count = count; book = book; series = series; lengths = lengths; ramped = ramped } in
     (s ≡ settling g) ↔ MonthOutcome g s
-settle-exact entries count book series lengths ramped s = outcome-exact _ (omega (arith, length-take count entries)) s
+settle-exact part entries count book series lengths ramped s = outcome-exact _ (omega (arith, length-take count entries)) s

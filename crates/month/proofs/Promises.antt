@@ -23,11 +23,11 @@ use Rattle.score.proofs.Exact.{fen-once}
 use Rattle.score.proofs.Most.{mostRamping, hours-fit}
 use Rattle.apportion.specs.Apportion.{apportion}
 use Rattle.share.specs.declared.Line.{Line}
-use Rattle.share.specs.Sharing.{Part, partOf, parts, below, gap, weightOf, weights, SharingOutcome, sharing}
+use Rattle.share.specs.Sharing.{Part, partOf, parts, below, gap, generatorsAmount, weightOf, weights, SharingOutcome, sharing}
 use Rattle.share.specs.Forms.{blankLine}
 use Rattle.share.proofs.Lines.{part-at}
 use Rattle.share.proofs.Outcomes.{taken-list, each-given, long-shares}
-use Rattle.share.proofs.Promises.{sumℤ, gap-is, adds-to-gap, adds-to-zero}
+use Rattle.share.proofs.Promises.{sumℤ, sum-last, gap-is, adds-to-gap, adds-to-zero}
 use Rattle.register.specs.declared.Entry.{Entry}
 use Rattle.register.specs.Register.{blankEntry, entryLine}
 use Rattle.month.specs.declared.Fault.the-variants.{NoFault}
@@ -100,7 +100,7 @@ module _ (g : MonthGiven) (none : settling g .fault ≡ NoFault) where
   line-is i h =
       let row =
       settled-row g i (passed g none) h
-      ∙ ap (λ (l : Line). rowOf (below (linesIn g)) l (getD (grainsIn g) i noGrains) (rampedOfLine g i .hours) (getD (sharing (linesIn g) .parts) i noPart)) (line-in g i h) in (
+      ∙ ap (λ (l : Line). rowOf (below (linesIn g)) l (getD (grainsIn g) i noGrains) (rampedOfLine g i .hours) (getD (sharing (g .part) (linesIn g) .parts) i noPart)) (line-in g i h) in (
         ap (λ (r : Row). r .number) row,
         ap (λ (r : Row). r .hours) row,
         ap (λ (r : Row). r .energy) row,
@@ -130,10 +130,10 @@ module _ (g : MonthGiven) (none : settling g .fault ≡ NoFault) where
   amount-is i h =
       let p = passed g none in
       let ls = linesIn g in
-      let ss = apportion (natAbs (gap ls)) (weights ls) in
-      let given : getD (sharing ls .parts) i noPart ≡ partOf (below ls) (getD ls i blankLine) (getD ss i 0) =
-      ap (λ (o : SharingOutcome). getD (o .parts) i noPart) (taken-list ls (p .shared) .is)
-      ∙ part-at (below ls) ls ss i blankLine noPart (long-shares ls) (omega (arith, length-in g)) in
+      let ss = apportion (generatorsAmount (g .part) ls) (weights ls) in
+      let given : getD (sharing (g .part) ls .parts) i noPart ≡ partOf (below ls) (getD ls i blankLine) (getD ss i 0) =
+      ap (λ (o : SharingOutcome). getD (o .parts) i noPart) (taken-list (g .part) ls (p .shared) .is)
+      ∙ part-at (below ls) ls ss i blankLine noPart (long-shares (generatorsAmount (g .part) ls) ls) (omega (arith, length-in g)) in
       let row : rowOfLine g i ≡ rowOf (below ls) (getD ls i blankLine) (getD (grainsIn g) i noGrains) (rampedOfLine g i .hours) (partOf (below ls) (getD ls i blankLine) (getD ss i 0)) =
       settled-row g i p h ∙ ap (rowOf (below ls) (getD ls i blankLine) (getD (grainsIn g) i noGrains) (rampedOfLine g i .hours)) given in
       rw row refl
@@ -156,33 +156,38 @@ sum-rows f h isBelow same (l ∷ ls) gs rs (p ∷ ps) zs e z = ap₂ _+ℤ_ (sam
 
 module _ (g : MonthGiven) (none : settling g .fault ≡ NoFault) where
   column : (f : Row → ℤ) (h : Part → ℤ) → f blankRow ≡ pos 0 → ((l : Line) (x : Grains) (n : ℕ) (p : Part) → f (rowOf (below (linesIn g)) l x n p) ≡ h p)
-      → sumℤ (map f (settling g .rows)) ≡ sumℤ (map h (sharing (linesIn g) .parts))
+      → sumℤ (map f (settling g .rows)) ≡ sumℤ (map h (sharing (g .part) (linesIn g) .parts))
   unfolding filledRows
   column f h blank same =
       let p = passed g none in
       let ls = linesIn g in
-      let each = each-given _ (length ls) ls (taken-list ls (p .shared)) in
+      let each = each-given (g .part) _ (length ls) ls (taken-list (g .part) ls (p .shared)) in
       ap (λ (s : Statement). sumℤ (map f (s .rows))) (p .is)
-      ∙ sum-rows f h (below ls) same ls (grainsIn g) (g .ramped) (sharing ls .parts) _ each (blank-none f blank (64 - length (rowsSettled g)))
+      ∙ sum-rows f h (below ls) same ls (grainsIn g) (g .ramped) (sharing (g .part) ls .parts) _ each (blank-none f blank (64 - length (rowsSettled g)))
 
-  -- The amounts of a statement add up to zero.
-  pub amounts-zero : sumℤ (map (λ r. r .amount .0) (settling g .rows)) ≡ pos 0
+  -- The amounts of a statement and the user's add up to zero.
+  pub amounts-zero : sumℤ (map (λ r. r .amount .0) (settling g .rows)) +ℤ settling g .user .0 ≡ pos 0
   unfolding blankRow rowOf
-  amounts-zero = column (λ r. r .amount .0) (λ p. p .amount) refl (λ l x n p. refl) ∙ adds-to-zero (linesIn g) (passed g none .shared)
+  amounts-zero =
+      let p = passed g none in
+      let o = sharing (g .part) (linesIn g) in
+      ap₂ _+ℤ_ (column (λ r. r .amount .0) (λ q. q .amount) refl (λ l x n q. refl)) (ap (λ (s : Statement). s .user .0) (p .is))
+      ∙ sym (sum-last (map (λ q. q .amount) (o .parts)) (o .user)) ∙ adds-to-zero (g .part) (linesIn g) (p .shared)
 
-  -- Its shares add up to R.
-  pub shares-gap : sumℤ (map (λ r. r .share .0) (settling g .rows)) ≡ settling g .gap .0
+  -- Its shares and the user's amount add up to R.
+  pub shares-gap : sumℤ (map (λ r. r .share .0) (settling g .rows)) +ℤ settling g .user .0 ≡ settling g .gap .0
   unfolding blankRow rowOf
   shares-gap =
       let p = passed g none in
-      column (λ r. r .share .0) (λ q. q .share) refl (λ l x n q. refl) ∙ adds-to-gap (linesIn g) (p .shared)
-      ∙ sym (ap (λ (s : Statement). s .gap .0) (p .is) ∙ gap-is (linesIn g) (p .shared))
+      ap₂ _+ℤ_ (column (λ r. r .share .0) (λ q. q .share) refl (λ l x n q. refl)) (ap (λ (s : Statement). s .user .0) (p .is))
+      ∙ adds-to-gap (g .part) (linesIn g) (p .shared)
+      ∙ sym (ap (λ (s : Statement). s .gap .0) (p .is) ∙ gap-is (g .part) (linesIn g) (p .shared))
 
 -- What the book decides
 
 -- the same month from another book
 abbrev pub withBook : MonthGiven → List ℕ → MonthGiven
-withBook g b = record { entries = g .entries; count = g .count; book = b; series = g .series; lengths = g .lengths; ramped = g .ramped }
+withBook g b = record { part = g .part; entries = g .entries; count = g .count; book = b; series = g .series; lengths = g .lengths; ramped = g .ramped }
 
 -- A book counts by its header and its calls alone: two sound books that have them in common give one statement.
 pub book-alone : (g : MonthGiven) (b b′ : List ℕ) → Sound b → Sound b′ → headerAt b ≡ headerAt b′ → callsOf b ≡ callsOf b′

@@ -20,7 +20,7 @@ use Rattle.book.specs.Book.{headerAt, countAt, callsFrom, callsOf}
 use Rattle.book.specs.Check.{check}
 use Rattle.share.specs.declared.Line.{Line}
 use Rattle.share.specs.declared.Shared.{Shared}
-use Rattle.share.specs.Sharing.{Part, below, gap, assessed, compensated, firstBadLine, sharing, mostNumber}
+use Rattle.share.specs.Sharing.{Part, below, gap, assessed, compensated, firstBadLine, sharing, mostNumber, mostPart}
 use Rattle.share.specs.Forms.{filled, fillIn, cleared, clear, arrayOf, sharedArray}
 use Rattle.share.specs.Limits.{LineWithin, LinesWithin, CountedWithin}
 use Rattle.share.proofs.Lists.{getD-mapped}
@@ -40,7 +40,7 @@ use Rattle.register.specs.declared.Entry.{Entry}
 use Rattle.register.specs.Register.{firstBadEntry, linesFor}
 use Rattle.register.proofs.Entries.{bad-le, take-lines}
 use Rattle.month.specs.declared.Fault.{Fault}
-use Rattle.month.specs.declared.Fault.the-variants.{NoFault, InRegister, InBook, Unlisted, InSharing}
+use Rattle.month.specs.declared.Fault.the-variants.{NoFault, InPart, InRegister, InBook, Unlisted, InSharing}
 use Rattle.month.specs.Settling.{MonthGiven, firstUnlisted, earnings, firstRefusedMember, memberFault, earnedGrains, compensations, filledRows, monthRefused, sharedMonth, rowsOf}
 use Rattle.month.specs.Settling.{monthLines, earnedMonth, settling}
 use Rattle.month.specs.Inner.{rowsIn}
@@ -82,49 +82,49 @@ within-filled ps ls e w i d h =
     subst LineWithin (sym is) (record { energy = k .energy; compensation = k .compensation; assessment = k .assessment })
 
 -- The sharing of the first lines of an array
-module _ (book : List ℕ) (lines : List Line) (grains : List Grains) (ramped : List Ramped) (count : ℕ) (h : count ≤ 64) (long : length lines ≡ 64)
-    (s : Shared) (is : s ≡ sharedArray lines count) where
+module _ (part : ℕ) (book : List ℕ) (lines : List Line) (grains : List Grains) (ramped : List Ramped) (count : ℕ) (h : count ≤ 64) (long : length lines ≡ 64)
+    (s : Shared) (is : s ≡ sharedArray part lines count) where
   abbrev ls : List Line
   ls = take count lines
 
-  array-is : s ≡ arrayOf lines (sharing ls)
+  array-is : s ≡ arrayOf lines (sharing part ls)
   unfolding sharedArray
-  array-is = is ∙ ap (arrayOf lines) (counted-few lines count (omega arith))
+  array-is = is ∙ ap (arrayOf lines) (counted-few part lines count (omega arith))
 
   length-ls : length ls ≡ count
   length-ls = length-take-le count lines (omega arith)
 
-  number-is : s .number ≡ sharing ls .number
+  number-is : s .number ≡ sharing part ls .number
   number-is = ap (λ (x : Shared). x .number) array-is
 
-  pub shared-refused : (s .number ≡ 0 → ⊥) → monthRefused (InSharing (s .number) (s .place)) ≡ sharedMonth book ls (take count grains) ramped (sharing ls)
+  pub shared-refused : (s .number ≡ 0 → ⊥) → monthRefused (InSharing (s .number) (s .place)) ≡ sharedMonth part book ls (take count grains) ramped (sharing part ls)
   unfolding sharedMonth
   shared-refused some =
-      rw (number-is, ap (λ (x : Shared). x .place) array-is, ne-eqb (sharing ls .number) 0 (λ e. some (number-is ∙ e))) refl
+      rw (number-is, ap (λ (x : Shared). x .place) array-is, ne-eqb (sharing part ls .number) 0 (λ e. some (number-is ∙ e))) refl
 
   module _ (none : s .number ≡ 0) where
-    none-told : sharing ls .number ≡ 0
+    none-told : sharing part ls .number ≡ 0
     none-told = sym number-is ∙ none
 
-    taken : Taken (firstBadLine 0 (take mostNumber ls)) (length ls) ls
-    taken = taken-list ls none-told
+    taken : Taken part (firstBadLine 0 (take mostNumber ls)) (length ls) ls
+    taken = taken-list part ls none-told
 
-    each : length (sharing ls .parts) ≡ length ls
-    each = each-given _ (length ls) ls taken
+    each : length (sharing part ls .parts) ≡ length ls
+    each = each-given part _ (length ls) ls taken
 
-    lines-are : take count (s .lines) ≡ fillIn (sharing ls .parts) (clear ls)
+    lines-are : take count (s .lines) ≡ fillIn (sharing part ls .parts) (clear ls)
     lines-are =
         ap (λ (x : Shared). take count (x .lines)) array-is
-        ∙ take-fill count (sharing ls .parts) (clear lines) (omega (arith, each, length-ls))
-        ∙ ap (fillIn (sharing ls .parts)) (take-clear count lines)
+        ∙ take-fill count (sharing part ls .parts) (clear lines) (omega (arith, each, length-ls))
+        ∙ ap (fillIn (sharing part ls .parts)) (take-clear count lines)
 
     pub shared-within : CountedWithin (s .lines) count
     shared-within =
         let bad = bad-of-64 ls in
-        (h, subst LinesWithin (sym lines-are) (within-filled (sharing ls .parts) ls each (all-within 0 ls (omega (arith, taken .sound, bad .0)))))
+        (h, subst LinesWithin (sym lines-are) (within-filled (sharing part ls .parts) ls each (all-within 0 ls (omega (arith, taken .sound, bad .0)))))
 
     gap-told : s .gap .0 ≡ gap ls
-    gap-told = ap (λ (x : Shared). x .gap .0) array-is ∙ gap-is ls none-told
+    gap-told = ap (λ (x : Shared). x .gap .0) array-is ∙ gap-is part ls none-told
 
     below-told : ltZ (s .gap .0) (pos 0) ≡ below ls
     unfolding gap
@@ -132,14 +132,15 @@ module _ (book : List ℕ) (lines : List Line) (grains : List Grains) (ramped : 
 
     pub shared-is : (header : Header) (calls : ℕ) (negative : Bool) (rows : List Row) → header ≡ headerAt book → calls ≡ countAt book
         → negative ≡ ltZ (s .gap .0) (pos 0) → rows ≡ filledRows (rowsIn negative (take count (s .lines)) (take count grains) ramped)
-        → _≡_ {A = Statement} (record { fault = NoFault; header = header; calls = calls; gap = s .gap; count = count; rows = rows }) (sharedMonth book ls (take count grains) ramped (sharing ls))
+        → _≡_ {A = Statement} (record { fault = NoFault; header = header; calls = calls; part = part; gap = s .gap; user = s .user; count = count; rows = rows }) (sharedMonth part book ls (take count grains) ramped (sharing part ls))
     unfolding sharedMonth
     shared-is header calls negative rows eh ec en er =
-        let all : rows ≡ filledRows (rowsOf (below ls) ls (take count grains) ramped (sharing ls .parts)) =
-        er ∙ rw (en, below-told, lines-are) (ap filledRows (rows-filled (below ls) ls (take count grains) ramped (sharing ls .parts) each)) in
-        let g : s .gap .0 ≡ sharing ls .gap = ap (λ (x : Shared). x .gap .0) array-is in
-        rw (eq-eqb (sharing ls .number) 0 none-told)
-        (λ i. record { fault = NoFault; header = eh i; calls = ec i; gap = record { 0 = g i }; count = sym length-ls i; rows = all i })
+        let all : rows ≡ filledRows (rowsOf (below ls) ls (take count grains) ramped (sharing part ls .parts)) =
+        er ∙ rw (en, below-told, lines-are) (ap filledRows (rows-filled (below ls) ls (take count grains) ramped (sharing part ls .parts) each)) in
+        let g : s .gap .0 ≡ sharing part ls .gap = ap (λ (x : Shared). x .gap .0) array-is in
+        let u : s .user .0 ≡ sharing part ls .user = ap (λ (x : Shared). x .user .0) array-is in
+        rw (eq-eqb (sharing part ls .number) 0 none-told)
+        (λ i. record { fault = NoFault; header = eh i; calls = ec i; part = part; gap = record { 0 = g i }; user = record { 0 = u i }; count = sym length-ls i; rows = all i })
 
 -- The members
 
@@ -149,16 +150,16 @@ module _ {A B : Type 0} (f : A → B) where
   take-map (suc n) [] = refl
   take-map (suc n) (x ∷ xs) = ap (λ (ys : List B). f x ∷ ys) (take-map n xs)
 
-pub earned-refused : (es : List Entry) (book : List ℕ) (ramped : List Ramped) (earned : List MemberEarned) (fault : Fault) → firstRefusedMember earned < length earned
-    → fault ≡ memberFault (firstRefusedMember earned) (getD earned (firstRefusedMember earned) (NotScored 0 0)) → monthRefused fault ≡ earnedMonth es book ramped earned
+pub earned-refused : (part : ℕ) (es : List Entry) (book : List ℕ) (ramped : List Ramped) (earned : List MemberEarned) (fault : Fault) → firstRefusedMember earned < length earned
+    → fault ≡ memberFault (firstRefusedMember earned) (getD earned (firstRefusedMember earned) (NotScored 0 0)) → monthRefused fault ≡ earnedMonth part es book ramped earned
 unfolding earnedMonth
-earned-refused es book ramped earned fault h e = rw (lt-ltb _ _ h, e) refl
+earned-refused part es book ramped earned fault h e = rw (lt-ltb _ _ h, e) refl
 
-pub earned-shared : (entries : List Entry) (book : List ℕ) (ramped : List Ramped) (earned : List MemberEarned) (count : ℕ) (grains : List Grains) (fens : List Fen) (lines : List Line)
+pub earned-shared : (part : ℕ) (entries : List Entry) (book : List ℕ) (ramped : List Ramped) (earned : List MemberEarned) (count : ℕ) (grains : List Grains) (fens : List Fen) (lines : List Line)
     → firstRefusedMember earned ≡ length earned → take count grains ≡ map earnedGrains earned → fens ≡ compensations grains → lines ≡ linesFor entries fens
-    → sharedMonth book (take count lines) (take count grains) ramped (sharing (take count lines)) ≡ earnedMonth (take count entries) book ramped earned
+    → sharedMonth part book (take count lines) (take count grains) ramped (sharing part (take count lines)) ≡ earnedMonth part (take count entries) book ramped earned
 unfolding earnedMonth monthLines
-earned-shared entries book ramped earned count grains fens lines none eg ef el =
+earned-shared part entries book ramped earned count grains fens lines none eg ef el =
     let all : take count lines ≡ linesFor (take count entries) (compensations (map earnedGrains earned)) =
     ap (take count) el ∙ take-lines count entries fens
     ∙ ap (linesFor (take count entries)) (ap (take count) ef ∙ take-map fenOf count grains ∙ ap compensations eg) in
@@ -184,25 +185,30 @@ module _ (g : MonthGiven) where
   abbrev bad : ℕ
   bad = firstBadEntry 0 (g .entries)
 
-  pub in-register : bad < g .count → monthRefused (InRegister bad) ≡ settling g
+  pub in-part : mostPart < g .part → monthRefused InPart ≡ settling g
   unfolding settling
-  in-register h = rw (lt-ltb bad (g .count) h) refl
+  in-part h = rw (lt-ltb mostPart (g .part) h) refl
 
-  module _ (sound : g .count ≤ bad) where
-    pub in-book : (v : Verdict) → v ≡ check (g .book) → (v .number ≡ 0 → ⊥) → monthRefused (InBook (v .number) (v .place)) ≡ settling g
+  module _ (fair : g .part ≤ mostPart) where
+    pub in-register : bad < g .count → monthRefused (InRegister bad) ≡ settling g
     unfolding settling
-    in-book v e some = rw (le-ltb bad (g .count) sound, ← e, ne-eqb (v .number) 0 some) refl
+    in-register h = rw (le-ltb mostPart (g .part) fair, lt-ltb bad (g .count) h) refl
 
-    module _ (none : check (g .book) .number ≡ 0) where
-      pub unlisted : (n i : ℕ) → n ≡ countAt (g .book) → i ≡ firstUnlisted (g .entries) (callsFrom (g .book) 0 n) → i < n → monthRefused (Unlisted i) ≡ settling g
-      unfolding settling callsOf
-      unlisted n i en ei h =
-          let is : i ≡ firstUnlisted (g .entries) (callsFrom (g .book) 0 (countAt (g .book))) = ei ∙ ap (λ (k : ℕ). firstUnlisted (g .entries) (callsFrom (g .book) 0 k)) en in
-          rw (le-ltb bad (g .count) sound, none, ← is, ← en, lt-ltb i n h) refl
+    module _ (sound : g .count ≤ bad) where
+      pub in-book : (v : Verdict) → v ≡ check (g .book) → (v .number ≡ 0 → ⊥) → monthRefused (InBook (v .number) (v .place)) ≡ settling g
+      unfolding settling
+      in-book v e some = rw (le-ltb mostPart (g .part) fair, le-ltb bad (g .count) sound, ← e, ne-eqb (v .number) 0 some) refl
 
-      pub listed : (n i : ℕ) → n ≡ countAt (g .book) → i ≡ firstUnlisted (g .entries) (callsFrom (g .book) 0 n) → n ≤ i
-          → earnedMonth (g .entries) (g .book) (g .ramped) (earnings (g .entries) (g .book) (g .series) (g .lengths) (g .ramped)) ≡ settling g
-      unfolding settling callsOf
-      listed n i en ei h =
-          let is : i ≡ firstUnlisted (g .entries) (callsFrom (g .book) 0 (countAt (g .book))) = ei ∙ ap (λ (k : ℕ). firstUnlisted (g .entries) (callsFrom (g .book) 0 k)) en in
-          rw (le-ltb bad (g .count) sound, none, ← is, ← en, le-ltb i n h) refl
+      module _ (none : check (g .book) .number ≡ 0) where
+        pub unlisted : (n i : ℕ) → n ≡ countAt (g .book) → i ≡ firstUnlisted (g .entries) (callsFrom (g .book) 0 n) → i < n → monthRefused (Unlisted i) ≡ settling g
+        unfolding settling callsOf
+        unlisted n i en ei h =
+            let is : i ≡ firstUnlisted (g .entries) (callsFrom (g .book) 0 (countAt (g .book))) = ei ∙ ap (λ (k : ℕ). firstUnlisted (g .entries) (callsFrom (g .book) 0 k)) en in
+            rw (le-ltb mostPart (g .part) fair, le-ltb bad (g .count) sound, none, ← is, ← en, lt-ltb i n h) refl
+
+        pub listed : (n i : ℕ) → n ≡ countAt (g .book) → i ≡ firstUnlisted (g .entries) (callsFrom (g .book) 0 n) → n ≤ i
+            → earnedMonth (g .part) (g .entries) (g .book) (g .ramped) (earnings (g .entries) (g .book) (g .series) (g .lengths) (g .ramped)) ≡ settling g
+        unfolding settling callsOf
+        listed n i en ei h =
+            let is : i ≡ firstUnlisted (g .entries) (callsFrom (g .book) 0 (countAt (g .book))) = ei ∙ ap (λ (k : ℕ). firstUnlisted (g .entries) (callsFrom (g .book) 0 k)) en in
+            rw (le-ltb mostPart (g .part) fair, le-ltb bad (g .count) sound, none, ← is, ← en, le-ltb i n h) refl

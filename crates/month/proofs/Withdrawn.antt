@@ -28,14 +28,14 @@ use Rattle.score.specs.Scoring.{grainsEarned}
 use Rattle.score.specs.Lowered.{lowerPlace, isOfRecord, loweredEarned}
 use Rattle.score.proofs.Withdrawn.{withdrawn-nobody}
 use Rattle.share.specs.declared.Line.{Line}
-use Rattle.share.specs.Sharing.{SharingOutcome, sharing}
+use Rattle.share.specs.Sharing.{SharingOutcome, sharing, mostPart}
 use Rattle.register.specs.declared.Entry.{Entry}
 use Rattle.register.specs.Register.{firstBadEntry}
 use Rattle.month.specs.declared.Ramped.{Ramped}
 use Rattle.month.specs.declared.members.MemberEarned.{MemberEarned}
 use Rattle.month.specs.declared.members.MemberEarned.the-variants.{ScoreAndHours, NotScored, NotRamped}
 use Rattle.month.specs.declared.Fault.{Fault}
-use Rattle.month.specs.declared.Fault.the-variants.{InRegister, Unlisted}
+use Rattle.month.specs.declared.Fault.the-variants.{InPart, InRegister, Unlisted}
 use Rattle.month.specs.Settling.{MonthGiven, isUnlisted, firstUnlisted, noRamping, earnedWith, earnings, firstRefusedMember, memberFault, earnedGrains}
 use Rattle.month.specs.Settling.{monthRefused, sharedMonth, monthLines, earnedMonth, settling}
 use Rattle.month.specs.Lowered.{loweredFault, loweredStatement}
@@ -175,6 +175,10 @@ module _ (j : ℕ) where
   fault-lowered line (NotScored number place) = refl
   fault-lowered line (NotRamped number place) = refl
 
+  part-lowered : InPart ≡ loweredFault j InPart
+  unfolding loweredFault
+  part-lowered = refl
+
   line-lowered : (line : ℕ) → InRegister line ≡ loweredFault j (InRegister line)
   unfolding loweredFault
   line-lowered line = refl
@@ -187,29 +191,29 @@ module _ (j : ℕ) where
   unfolding monthRefused loweredStatement
   refused-lowered f = refl
 
-  module _ (b b′ : List ℕ) (header : headerAt b′ ≡ headerAt b) (count : countAt b′ ≡ countAt b - 1) where
-    shared-lowered : (ls : List Line) (gs : List Grains) (rs : List Ramped) (o : SharingOutcome) → sharedMonth b′ ls gs rs o ≡ loweredStatement j (sharedMonth b ls gs rs o)
+  module _ (part : ℕ) (b b′ : List ℕ) (header : headerAt b′ ≡ headerAt b) (count : countAt b′ ≡ countAt b - 1) where
+    shared-lowered : (ls : List Line) (gs : List Grains) (rs : List Ramped) (o : SharingOutcome) → sharedMonth part b′ ls gs rs o ≡ loweredStatement j (sharedMonth part b ls gs rs o)
     unfolding sharedMonth loweredStatement loweredFault monthRefused
     shared-lowered ls gs rs o = go (ℕ-discrete (o .number) 0)
       where
-        go : Dec (o .number ≡ 0) → sharedMonth b′ ls gs rs o ≡ loweredStatement j (sharedMonth b ls gs rs o)
+        go : Dec (o .number ≡ 0) → sharedMonth part b′ ls gs rs o ≡ loweredStatement j (sharedMonth part b ls gs rs o)
         go (yes e) = rw (eq-eqb (o .number) 0 e, header, count) refl
         go (no e) = rw (ne-eqb (o .number) 0 e) refl
 
-    month-lowered : (es : List Entry) (rs : List Ramped) (earned : List MemberEarned) → earnedMonth es b′ rs (map (loweredTurn j) earned) ≡ loweredStatement j (earnedMonth es b rs earned)
+    month-lowered : (es : List Entry) (rs : List Ramped) (earned : List MemberEarned) → earnedMonth part es b′ rs (map (loweredTurn j) earned) ≡ loweredStatement j (earnedMonth part es b rs earned)
     unfolding earnedMonth monthLines
     month-lowered es rs earned = go (decLt (firstRefusedMember earned) (length earned))
       where
         f : ℕ
         f = firstRefusedMember earned
 
-        go : Dec (f < length earned) → earnedMonth es b′ rs (map (loweredTurn j) earned) ≡ loweredStatement j (earnedMonth es b rs earned)
+        go : Dec (f < length earned) → earnedMonth part es b′ rs (map (loweredTurn j) earned) ≡ loweredStatement j (earnedMonth part es b rs earned)
         go (yes l) =
             rw (first-same earned, length-map earned (loweredTurn j), one-lowered earned f, lt-ltb f (length earned) l)
             (ap monthRefused (fault-lowered f (getD earned f (NotScored 0 0))) ∙ refused-lowered (memberFault f (getD earned f (NotScored 0 0))))
         go (no l) =
             rw (first-same earned, length-map earned (loweredTurn j), grains-same earned, le-ltb f (length earned) (omega arith))
-            (shared-lowered (monthLines es earned) (map earnedGrains earned) rs (sharing (monthLines es earned)))
+            (shared-lowered (monthLines es earned) (map earnedGrains earned) rs (sharing part (monthLines es earned)))
 
 -- The month
 
@@ -263,7 +267,7 @@ module _ (b : List ℕ) (sound : Sound b) (j : ℕ) (l : j < countAt b) (gone : 
   -- The statement over a sound book without a withdrawn record is that over the book, one call fewer, places behind the record one lower.
   pub withdrawn-month : (g : MonthGiven) → settling (withBook g less) ≡ loweredStatement j (settling (withBook g b))
   unfolding settling
-  withdrawn-month g = go (decLt bad (g .count)) (decLt first (countAt b))
+  withdrawn-month g = fair (decLt mostPart (g .part))
     where
       bad : ℕ
       bad = firstBadEntry 0 (g .entries)
@@ -271,17 +275,21 @@ module _ (b : List ℕ) (sound : Sound b) (j : ℕ) (l : j < countAt b) (gone : 
       first : ℕ
       first = firstUnlisted (g .entries) (callsOf b)
 
-      in-turn : earnedMonth (g .entries) less (g .ramped) (earnings (g .entries) less (g .series) (g .lengths) (g .ramped))
-          ≡ loweredStatement j (earnedMonth (g .entries) b (g .ramped) (earnings (g .entries) b (g .series) (g .lengths) (g .ramped)))
+      in-turn : earnedMonth (g .part) (g .entries) less (g .ramped) (earnings (g .entries) less (g .series) (g .lengths) (g .ramped))
+          ≡ loweredStatement j (earnedMonth (g .part) (g .entries) b (g .ramped) (earnings (g .entries) b (g .series) (g .lengths) (g .ramped)))
       in-turn =
-          ap (earnedMonth (g .entries) less (g .ramped)) (earnings-lowered (g .entries) (g .series) (g .lengths) (g .ramped))
-          ∙ month-lowered j b less (without-reads key b sound .0) (omega (arith, one-fewer)) (g .entries) (g .ramped) (earnings (g .entries) b (g .series) (g .lengths) (g .ramped))
+          ap (earnedMonth (g .part) (g .entries) less (g .ramped)) (earnings-lowered (g .entries) (g .series) (g .lengths) (g .ramped))
+          ∙ month-lowered j (g .part) b less (without-reads key b sound .0) (omega (arith, one-fewer)) (g .entries) (g .ramped) (earnings (g .entries) b (g .series) (g .lengths) (g .ramped))
 
-      go : Dec (bad < g .count) → Dec (first < countAt b) → settling (withBook g less) ≡ loweredStatement j (settling (withBook g b))
-      go (yes h) t = rw (lt-ltb bad (g .count) h) (ap monthRefused (line-lowered j bad) ∙ refused-lowered j (InRegister bad))
-      go (no h) (yes t) =
-          rw (le-ltb bad (g .count) (omega arith), zero-check b sound, zero-check less (without-sound key b sound), test-same (g .entries), lt-ltb first (countAt b) t, first-lowered (g .entries))
+      go : g .part ≤ mostPart → Dec (bad < g .count) → Dec (first < countAt b) → settling (withBook g less) ≡ loweredStatement j (settling (withBook g b))
+      go p (yes h) t = rw (le-ltb mostPart (g .part) p, lt-ltb bad (g .count) h) (ap monthRefused (line-lowered j bad) ∙ refused-lowered j (InRegister bad))
+      go p (no h) (yes t) =
+          rw (le-ltb mostPart (g .part) p, le-ltb bad (g .count) (omega arith), zero-check b sound, zero-check less (without-sound key b sound), test-same (g .entries), lt-ltb first (countAt b) t, first-lowered (g .entries))
           (ap monthRefused (call-lowered j first) ∙ refused-lowered j (Unlisted first))
-      go (no h) (no t) =
-          rw (le-ltb bad (g .count) (omega arith), zero-check b sound, zero-check less (without-sound key b sound), test-same (g .entries), le-ltb first (countAt b) (omega arith))
+      go p (no h) (no t) =
+          rw (le-ltb mostPart (g .part) p, le-ltb bad (g .count) (omega arith), zero-check b sound, zero-check less (without-sound key b sound), test-same (g .entries), le-ltb first (countAt b) (omega arith))
           in-turn
+
+      fair : Dec (mostPart < g .part) → settling (withBook g less) ≡ loweredStatement j (settling (withBook g b))
+      fair (yes h) = rw (lt-ltb mostPart (g .part) h) (ap monthRefused (part-lowered j) ∙ refused-lowered j InPart)
+      fair (no h) = go (omega arith) (decLt bad (g .count)) (decLt first (countAt b))

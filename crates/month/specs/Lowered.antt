@@ -3,12 +3,13 @@ use mathlib.Core.Bool.{cond}
 use Prim.Native.Nat.{ℕ, _-_}
 use Rattle.score.specs.Lowered.{lowerPlace, isOfRecord}
 use Rattle.month.specs.declared.Fault.{Fault}
-use Rattle.month.specs.declared.Fault.the-variants.{NoFault, InRegister, InBook, Unlisted, OfMember, OfRamping, InSharing}
+use Rattle.month.specs.declared.Fault.the-variants.{NoFault, InPart, InRegister, InBook, Unlisted, OfMember, OfRamping, InSharing}
 use Rattle.month.specs.declared.Statement.{Statement}
 
 -- the places of records, of a call without a line and of 12 to 14, are one lower behind record j
 unfoldable pub loweredFault : ℕ → Fault → Fault
 loweredFault j NoFault = NoFault
+loweredFault j InPart = InPart
 loweredFault j (InRegister line) = InRegister line
 loweredFault j (InBook number place) = InBook number place
 loweredFault j (Unlisted call) = Unlisted (lowerPlace j call)
@@ -16,7 +17,16 @@ loweredFault j (OfMember line number place) = OfMember line number (cond (isOfRe
 loweredFault j (OfRamping line number place) = OfRamping line number place
 loweredFault j (InSharing number place) = InSharing number place
 
--- header, R and every line are the same, and there is one call fewer
+-- header, part, R, the user's amount and every line are the same, and there is one call fewer
 unfoldable pub loweredStatement : ℕ → Statement → Statement
 loweredStatement j s =
-    record { fault = loweredFault j (s .fault); header = s .header; calls = s .calls - 1; gap = s .gap; count = s .count; rows = s .rows }
+    record {
+      fault = loweredFault j (s .fault);
+      header = s .header;
+      calls = s .calls - 1;
+      part = s .part;
+      gap = s .gap;
+      user = s .user;
+      count = s .count;
+      rows = s .rows;
+    }

@@ -1,7 +1,7 @@
 -- What settling a month answers exactly when: a row for each fault and one for a statement, with its condition and those before it not met. Assumes nothing.
 use mathlib.Core.Path.{_≡_}
 use mathlib.Core.List.{List, [], _∷_, map}
-use Prim.Native.Nat.{ℕ, zero, suc, _<_}
+use Prim.Native.Nat.{ℕ, zero, suc, _≤_, _<_}
 use lib.ListN.{length, getD, take, drop}
 use Rattle.units.specs.declared.Grains.{Grains}
 use Rattle.call.specs.Revising.{withdrawn}
@@ -12,11 +12,11 @@ use Rattle.score.specs.Scoring.{scoring}
 use Rattle.pay.specs.Member.{MemberWithin}
 use Rattle.apportion.specs.Apportion.{total}
 use Rattle.share.specs.declared.Line.{Line}
-use Rattle.share.specs.Sharing.{below, SharingOutcome, sharing}
+use Rattle.share.specs.Sharing.{below, mostPart, SharingOutcome, sharing}
 use Rattle.share.specs.Verdict.{SoundLine}
 use Rattle.register.specs.declared.Entry.{Entry}
 use Rattle.register.specs.Register.{blankEntry, entryLine}
-use Rattle.month.specs.declared.Fault.the-variants.{NoFault, InRegister, InBook, Unlisted, OfMember, OfRamping, InSharing}
+use Rattle.month.specs.declared.Fault.the-variants.{NoFault, InPart, InRegister, InBook, Unlisted, OfMember, OfRamping, InSharing}
 use Rattle.month.specs.declared.Ramped.{Ramped}
 use Rattle.month.specs.declared.Statement.{Statement}
 use Rattle.month.specs.declared.members.MemberEarned.{MemberEarned}
@@ -47,7 +47,7 @@ abbrev pub grainsIn : MonthGiven → List Grains
 grainsIn g = map earnedGrains (earnedIn g)
 
 abbrev pub sharedIn : MonthGiven → SharingOutcome
-sharedIn g = sharing (linesIn g)
+sharedIn g = sharing (g .part) (linesIn g)
 
 -- the statement of a month that is settled
 abbrev pub statementOf : MonthGiven → Statement
@@ -56,7 +56,9 @@ statementOf g =
       fault = NoFault;
       header = headerAt (g .book);
       calls = countAt (g .book);
+      part = g .part;
       gap = record { 0 = sharedIn g .gap };
+      user = record { 0 = sharedIn g .user };
       count = length (linesIn g);
       rows = filledRows (rowsOf (below (linesIn g)) (linesIn g) (grainsIn g) (g .ramped) (sharedIn g .parts));
     }
@@ -79,8 +81,9 @@ FirstBadAt before [] p = ⊥
 FirstBadAt before (e ∷ es) zero = EntryWithin before e → ⊥
 FirstBadAt before (e ∷ es) (suc p) = EntryWithin before e × FirstBadAt (e .member .number) es p
 
--- the register has all its lines, and they are within the limits
+-- the part is within its limit; the register has all its lines, and they are within theirs
 pub record RegisterWithin (g : MonthGiven) : Type 0 where
+  pub part : g .part ≤ mostPart
   pub count : length (g .entries) ≡ g .count
   pub entries : AllWithin 0 (g .entries)
 
@@ -114,8 +117,9 @@ pub record AllScored (g : MonthGiven) : Type 0 where
 
 -- the answer s of settling, a row each
 pub data MonthOutcome (g : MonthGiven) (s : Statement) : Type 0 where
-  bad-entry : (p : ℕ) → s ≡ monthRefused (InRegister p) → FirstBadAt 0 (g .entries) p → MonthOutcome g s
-  one-more : s ≡ monthRefused (InRegister (length (g .entries))) → AllWithin 0 (g .entries) → length (g .entries) < g .count → MonthOutcome g s
+  bad-part : s ≡ monthRefused InPart → mostPart < g .part → MonthOutcome g s
+  bad-entry : (p : ℕ) → s ≡ monthRefused (InRegister p) → g .part ≤ mostPart → FirstBadAt 0 (g .entries) p → MonthOutcome g s
+  one-more : s ≡ monthRefused (InRegister (length (g .entries))) → g .part ≤ mostPart → AllWithin 0 (g .entries) → length (g .entries) < g .count → MonthOutcome g s
   bad-book : s ≡ monthRefused (InBook (check (g .book) .number) (check (g .book) .place)) → RegisterWithin g → (check (g .book) ≡ accepted → ⊥)
       → MonthOutcome g s
   without-line : (i : ℕ) → s ≡ monthRefused (Unlisted i) → RegisterAndBook g → i < countAt (g .book) → Listed g i → Without g i → MonthOutcome g s

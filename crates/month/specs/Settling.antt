@@ -17,20 +17,21 @@ use Rattle.score.specs.declared.answer.Earned.{Earned}
 use Rattle.score.specs.declared.answer.Earned.the-variants.{Accepted, Refused}
 use Rattle.score.specs.Scoring.{grainsEarned}
 use Rattle.share.specs.declared.Line.{Line}
-use Rattle.share.specs.Sharing.{Part, weightOf, below, mostNumber, SharingOutcome, sharing}
+use Rattle.share.specs.Sharing.{Part, weightOf, below, mostNumber, mostPart, SharingOutcome, sharing}
 use Rattle.register.specs.declared.Entry.{Entry}
 use Rattle.register.specs.Register.{firstBadEntry, linesFor}
 use Rattle.month.specs.declared.Fault.{Fault}
-use Rattle.month.specs.declared.Fault.the-variants.{NoFault, InRegister, InBook, Unlisted, OfMember, OfRamping, InSharing}
+use Rattle.month.specs.declared.Fault.the-variants.{NoFault, InPart, InRegister, InBook, Unlisted, OfMember, OfRamping, InSharing}
 use Rattle.month.specs.declared.Ramped.{Ramped}
 use Rattle.month.specs.declared.Row.{Row}
 use Rattle.month.specs.declared.Statement.{Statement}
 use Rattle.month.specs.declared.members.MemberEarned.{MemberEarned}
 use Rattle.month.specs.declared.members.MemberEarned.the-variants.{ScoreAndHours, NotScored, NotRamped}
 
--- What a month is settled from: the register's lines, the joined book, the members' series one after another with each one's length, and what
--- each member's ramping file gives
+-- What a month is settled from: the generators' part of the gap, the register's lines, the joined book, the members' series one after another
+-- with each one's length, and what each member's ramping file gives
 pub record MonthGiven : Type 0 where
+  pub part : ℕ
   pub entries : List Entry
   pub count : ℕ
   pub book : List ℕ
@@ -149,20 +150,24 @@ monthRefused fault =
       fault = fault;
       header = record { area = 0; year = 0; month = 0 };
       calls = 0;
+      part = 0;
       gap = record { 0 = pos 0 };
+      user = record { 0 = pos 0 };
       count = 0;
       rows = filledRows [];
     }
 
 -- the lines shared, or sharing's refusal: 10 (a compensation above its limit), 15, 16
-unfoldable pub sharedMonth : List ℕ → List Line → List Grains → List Ramped → SharingOutcome → Statement
-sharedMonth book ls gs rs o =
+unfoldable pub sharedMonth : ℕ → List ℕ → List Line → List Grains → List Ramped → SharingOutcome → Statement
+sharedMonth part book ls gs rs o =
     cond (eqb (o .number) 0)
     (record {
       fault = NoFault;
       header = headerAt book;
       calls = countAt book;
+      part = part;
       gap = record { 0 = o .gap };
+      user = record { 0 = o .user };
       count = length ls;
       rows = filledRows (rowsOf (below ls) ls gs rs (o .parts));
     })
@@ -173,16 +178,17 @@ unfoldable pub monthLines : List Entry → List MemberEarned → List Line
 monthLines es earned = linesFor es (compensations (map earnedGrains earned))
 
 -- the members in turn, then sharing
-unfoldable pub earnedMonth : List Entry → List ℕ → List Ramped → List MemberEarned → Statement
-earnedMonth es book rs earned =
+unfoldable pub earnedMonth : ℕ → List Entry → List ℕ → List Ramped → List MemberEarned → Statement
+earnedMonth part es book rs earned =
     cond (ltb (firstRefusedMember earned) (length earned))
     (monthRefused (memberFault (firstRefusedMember earned) (getD earned (firstRefusedMember earned) (NotScored 0 0))))
-    (sharedMonth book (monthLines es earned) (map earnedGrains earned) rs (sharing (monthLines es earned)))
+    (sharedMonth part book (monthLines es earned) (map earnedGrains earned) rs (sharing part (monthLines es earned)))
 
--- THE MONTH IS SETTLED: the register (10, a 65th line included), the book, a call of a member without a line, the members in turn, sharing
+-- THE MONTH IS SETTLED: the part (10 at 65), the register (10, a 65th line included), the book, a call of a member without a line, the members in turn, sharing
 unfoldable pub settling : MonthGiven → Statement
 settling g =
-    cond (ltb (firstBadEntry 0 (g .entries)) (g .count)) (monthRefused (InRegister (firstBadEntry 0 (g .entries))))
+    cond (ltb mostPart (g .part)) (monthRefused InPart)
+    (cond (ltb (firstBadEntry 0 (g .entries)) (g .count)) (monthRefused (InRegister (firstBadEntry 0 (g .entries))))
     (cond (not (eqb (check (g .book) .number) 0)) (monthRefused (InBook (check (g .book) .number) (check (g .book) .place)))
     (cond (ltb (firstUnlisted (g .entries) (callsOf (g .book))) (countAt (g .book))) (monthRefused (Unlisted (firstUnlisted (g .entries) (callsOf (g .book)))))
-    (earnedMonth (g .entries) (g .book) (g .ramped) (earnings (g .entries) (g .book) (g .series) (g .lengths) (g .ramped)))))
+    (earnedMonth (g .part) (g .entries) (g .book) (g .ramped) (earnings (g .entries) (g .book) (g .series) (g .lengths) (g .ramped))))))

@@ -1,4 +1,4 @@
-// The month as one operation: the register, the joined book, the members' series and ramping files in, the month's statement out.
+// The month as one operation: the generators' part, the register, the joined book, the members' series and ramping files in, the month's statement out.
 use book::Header;
 use book::check;
 use book::count_at;
@@ -10,6 +10,7 @@ use register::lines_for;
 use share::Line;
 use share::array::seen;
 use share::lent::share_front;
+use share::limits::MOST_PART;
 use units::Fen;
 use units::Grains;
 use units::Mwh;
@@ -34,10 +35,11 @@ use rows::blank_rows;
 use rows::filled_rows;
 use rows::is_below;
 
-// Why a month is not settled: a register's line; a book's refusal, by number and place; the call of a member without a line; a line whose
+// Why a month is not settled: the generators' part; a register's line; a book's refusal, by number and place; the call of a member without a line; a line whose
 // member is refused, by number and place; a line whose ramping file is refused, by number and place; sharing's refusal, by number and place.
 pub enum Fault {
     NoFault,
+    InPart,
     InRegister(usize),
     InBook(u32, usize),
     Unlisted(usize),
@@ -68,13 +70,16 @@ pub struct Row {
     pub hours: u16,
 }
 
-// The statement: why there is none, and zeros; or the book's header and its calls, R, and a line for each member.
+// The statement: why there is none, and zeros; or the book's header and its calls, the generators' part, R, the user's amount, and a line for
+// each member.
 pub struct Statement {
     pub calls: usize,
     pub gap: SignedFen,
+    pub user: SignedFen,
     pub count: usize,
     pub rows: [Row; MOST_ENTRIES],
     pub fault: Fault,
+    pub part: u32,
     pub header: Header,
 }
 
@@ -86,9 +91,11 @@ fn month_refused(fault: Fault) -> Statement
     Statement {
         calls: 0,
         gap: SignedFen(0),
+        user: SignedFen(0),
         count: 0,
         rows,
         fault,
+        part: 0,
         header: Header {
             area: 0,
             year: 0,
@@ -99,6 +106,7 @@ fn month_refused(fault: Fault) -> Statement
 
 // The lines shared, with what each member earned; or sharing's refusal.
 fn shared_month(
+    part: u32,
     book: &[u8],
     lines: [Line; MOST_ENTRIES],
     grains: [Grains; MOST_ENTRIES],
@@ -107,14 +115,15 @@ fn shared_month(
 ) -> Statement
     requires { ⌜ HasHeader (now book) ⌝ }
     requires { ⌜ count ≤ mostEntries ⌝ }
-    ensures { λ r. ⌜ r ≡ sharedMonth (now (book .entry)) (take count lines) (take count grains) ramped (sharing (take count lines)) ⌝ }
+    ensures { λ r. ⌜ r ≡ sharedMonth part (now (book .entry)) (take count lines) (take count grains) ramped (sharing part (take count lines)) ⌝ }
 {
-    let shared = share_front(lines, count);
+    let shared = share_front(part, lines, count);
     let number = shared.number;
     if number != 0 {
         return month_refused(Fault::InSharing(number, shared.place));
     }
     let gap = shared.gap;
+    let user = shared.user;
     let filled = shared.lines;
     let negative = is_below(gap);
     let rows = filled_rows(filled, grains, ramped, count, negative);
@@ -123,15 +132,18 @@ fn shared_month(
     Statement {
         calls,
         gap,
+        user,
         count,
         rows,
         fault: Fault::NoFault,
+        part,
         header,
     }
 }
 
 // The members in turn, then sharing.
 fn earned_month(
+    part: u32,
     entries: [Entry; MOST_ENTRIES],
     count: usize,
     book: &[u8],
@@ -141,7 +153,7 @@ fn earned_month(
 ) -> Statement
     requires { ⌜ HasHeader (now book) ⌝ }
     requires { ⌜ count ≤ mostEntries ⌝ }
-    ensures { λ r. ⌜ r ≡ earnedMonth (take count entries) (now (book .entry)) ramped (earnings (take count entries) (now (book .entry)) (now (series .entry)) lengths ramped) ⌝ }
+    ensures { λ r. ⌜ r ≡ earnedMonth part (take count entries) (now (book .entry)) ramped (earnings (take count entries) (now (book .entry)) (now (series .entry)) lengths ramped) ⌝ }
 {
     let earned = members_earned(entries, count, book, series, lengths, ramped);
     if earned.refused {
@@ -151,11 +163,12 @@ fn earned_month(
     let grains = earned.grains;
     let fens = compensations(grains);
     let lines = lines_for(entries, fens);
-    shared_month(book, lines, grains, ramped, count)
+    shared_month(part, book, lines, grains, ramped, count)
 }
 
-// The month: the register, the book, calls of members without a line, the members in turn, sharing. The first of them that is at fault is told.
+// The month: the part, the register, the book, calls of members without a line, the members in turn, sharing. The first of them that is at fault is told.
 pub fn settle(
+    part: u32,
     entries: [Entry; MOST_ENTRIES],
     count: usize,
     book: &[u8],
@@ -163,8 +176,11 @@ pub fn settle(
     lengths: [usize; MOST_ENTRIES],
     ramped: [Ramped; MOST_ENTRIES],
 ) -> Statement
-    ensures { λ r. ⌜ r ≡ settling (record { entries = take count entries; count = count; book = now (book .entry); series = now (series .entry); lengths = lengths; ramped = ramped }) ⌝ }
+    ensures { λ r. ⌜ r ≡ settling (record { part = part; entries = take count entries; count = count; book = now (book .entry); series = now (series .entry); lengths = lengths; ramped = ramped }) ⌝ }
 {
+    if MOST_PART < part {
+        return month_refused(Fault::InPart);
+    }
     let bad = first_bad_entry(entries, seen(count));
     if bad < count {
         return month_refused(Fault::InRegister(bad));
@@ -179,5 +195,5 @@ pub fn settle(
     if call < n {
         return month_refused(Fault::Unlisted(call));
     }
-    earned_month(entries, count, book, series, lengths, ramped)
+    earned_month(part, entries, count, book, series, lengths, ramped)
 }

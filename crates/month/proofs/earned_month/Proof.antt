@@ -18,7 +18,7 @@ returns c =
     let es = take (a .count) (a .entries) in
     let e = c .before .before .members-earned .ensures .refusal (c .before .if1 .taken) in
     c .month-refused .ensures
-    ∙ earned-refused es (a .book .now) (a .ramped) (earnings es (a .book .now) (a .series .now) (a .lengths) (a .ramped)) (c .before .before .members-earned .result .fault) (e .0) (e .1)
+    ∙ earned-refused (a .part) es (a .book .now) (a .ramped) (earnings es (a .book .now) (a .series .now) (a .lengths) (a .ramped)) (c .before .before .members-earned .result .fault) (e .0) (e .1)
 
 compensations-requires : tie.Need-compensations-requires
 compensations-requires c κs = search needs
@@ -36,7 +36,7 @@ returns-2 c =
     let m = c .before .before .before .before .before .members-earned in
     let e = m .ensures .each (c .before .before .before .before .if1 .left) in
     c .shared-month .ensures
-    ∙ earned-shared (a .entries) (a .book .now) (a .ramped) (earnings es (a .book .now) (a .series .now) (a .lengths) (a .ramped)) (a .count) (m .result .grains)
+    ∙ earned-shared (a .part) (a .entries) (a .book .now) (a .ramped) (earnings es (a .book .now) (a .series .now) (a .lengths) (a .ramped)) (a .count) (m .result .grains)
     (c .before .before .compensations .result) (c .before .lines-for .result) (e .0) (e .1) (c .before .before .compensations .ensures) (c .before .lines-for .ensures)
 
 pub earned-month-spec : {M : Type 1} → statement M

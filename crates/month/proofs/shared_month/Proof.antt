@@ -17,18 +17,18 @@ returns c =
     let long : length (a .lines) ≡ 64 = search needs in
     let s = c .before .before .share-front in
     c .month-refused .ensures
-    ∙ shared-refused (a .book .now) (a .lines) (a .grains) (a .ramped) (a .count) (c .before .before .before .before .pre .1) long (s .result) (s .ensures) (c .before .if1 .taken)
+    ∙ shared-refused (a .part) (a .book .now) (a .lines) (a .grains) (a .ramped) (a .count) (c .before .before .before .before .pre .1) long (s .result) (s .ensures) (c .before .if1 .taken)
 
 is-below-requires : tie.Need-is-below-requires
 is-below-requires c κs = search needs
 
 filled-rows-requires : tie.Need-filled-rows-requires
 filled-rows-requires c κs =
-    let a = c .before .before .before .before .before .before .args in
+    let a = c .before .before .before .before .before .before .before .args in
     let long : length (a .lines) ≡ 64 = search needs in
-    let e = c .before .before .before in
+    let e = c .before .before .before .before in
     let s = e .before .share-front in
-    shared-within (a .book .now) (a .lines) (a .grains) (a .ramped) (a .count) (c .before .before .before .before .before .before .pre .1) long (s .result) (s .ensures) (e .if1 .left)
+    shared-within (a .part) (a .book .now) (a .lines) (a .grains) (a .ramped) (a .count) (c .before .before .before .before .before .before .before .pre .1) long (s .result) (s .ensures) (e .if1 .left)
 
 header-at-requires : tie.Need-header-at-requires
 header-at-requires c κs = search needs
@@ -38,11 +38,11 @@ count-at-requires c κs = search needs
 
 returns-2 : tie.Need-returns-2
 returns-2 c =
-    let a = c .before .before .before .before .before .before .before .before .before .args in
+    let a = c .before .before .before .before .before .before .before .before .before .before .args in
     let long : length (a .lines) ≡ 64 = search needs in
-    let e = c .before .before .before .before .before .before in
+    let e = c .before .before .before .before .before .before .before in
     let s = e .before .share-front in
-    shared-is (a .book .now) (a .lines) (a .grains) (a .ramped) (a .count) (c .before .before .before .before .before .before .before .before .before .pre .1) long
+    shared-is (a .part) (a .book .now) (a .lines) (a .grains) (a .ramped) (a .count) (c .before .before .before .before .before .before .before .before .before .before .pre .1) long
     (s .result) (s .ensures) (e .if1 .left)
     _ _ _ _ (c .before .header-at .ensures) (c .count-at .ensures .0) (c .before .before .before .is-below .ensures) (c .before .before .filled-rows .ensures)
 
