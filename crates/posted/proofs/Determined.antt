@@ -12,10 +12,10 @@ use mir.Val.{SFits}
 use Rattle.book.specs.declared.Header.{Header}
 use Rattle.month.specs.declared.Row.{Row}
 use Rattle.render.specs.Decimal.{word, decimal, signedDecimal, field, signedField}
-use Rattle.posted.specs.Posted.{headText, earnedText, carriedText, rowText, rowsText, totalText}
+use Rattle.posted.specs.Posted.{headText, earnedText, carriedText, rowText, rowsText, totalText, userText}
 use Rattle.posted.specs.declared.Posted.{Posted}
-use Rattle.posted.specs.Reading.{RowsFit, more, BeginsHead, BeginsRow, BeginsTotal, head-line, row-line, total-line, Taken, readWhole, badLine}
-use Rattle.posted.specs.Reading.{ReadPosted, no-head, no-line, no-end, whole}
+use Rattle.posted.specs.Reading.{RowsFit, more, BeginsHead, BeginsRow, BeginsTotal, BeginsUser, head-line, row-line, total-line, user-line, Taken, readWhole, badLine}
+use Rattle.posted.specs.Reading.{ReadPosted, no-head, no-line, no-user, no-end, whole}
 use Rattle.posted.specs.Inner.{worth, behindDigits, startsDigit, startsMinus}
 use Rattle.posted.proofs.Words.{never}
 use Rattle.posted.proofs.Posting.{append-none}
@@ -53,22 +53,25 @@ money-same name y z a b e f cut = sign-same y z a b e f (behind-name name (signe
 
 -- Lines
 
-five : (a b c d e f : List ℕ) → ((((a ++ b) ++ c) ++ d) ++ e) ++ f ≡ a ++ (b ++ (c ++ (d ++ (e ++ f))))
-five a b c d e f = simp append-assoc
+six : (a b c d e f g : List ℕ) → (((((a ++ b) ++ c) ++ d) ++ e) ++ f) ++ g ≡ a ++ (b ++ (c ++ (d ++ (e ++ (f ++ g)))))
+six a b c d e f g = simp append-assoc
 
 ten : (a b c d e f g h i j k : List ℕ) → (((((a ++ b) ++ c) ++ d) ++ e) ++ ((((f ++ g) ++ h) ++ i) ++ j)) ++ k ≡ a ++ (b ++ (c ++ (d ++ (e ++ (f ++ (g ++ (h ++ (i ++ (j ++ k)))))))))
 ten a b c d e f g h i j k = simp append-assoc
 
-pub head-same : (g h : Header) (m n : ℕ) (x y : List ℕ) → headText g m ++ x ≡ headText h n ++ y → (g ≡ h) × (m ≡ n) × (x ≡ y)
+pub head-same : (g h : Header) (m n p q : ℕ) (x y : List ℕ) → headText g m p ++ x ≡ headText h n q ++ y → (g ≡ h) × (m ≡ n) × (p ≡ q) × (x ≡ y)
 unfolding headText startsDigit
-head-same g h m n x y cut =
-    let whole = sym (five (field "area " (g .area)) (field " year " (g .year)) (field " month " (g .month)) (field " calls " m) (word "\n") x) ∙ cut
-    ∙ five (field "area " (h .area)) (field " year " (h .year)) (field " month " (h .month)) (field " calls " n) (word "\n") y in
-    let p = field-same (word "area ") (g .area) (h .area) _ _ refl refl whole in
-    let q = field-same (word " year ") (g .year) (h .year) _ _ refl refl (p .1) in
-    let r = field-same (word " month ") (g .month) (h .month) _ _ refl refl (q .1) in
-    let s = field-same (word " calls ") m n _ _ refl refl (r .1) in
-    (λ i. record { area = p .0 i; year = q .0 i; month = r .0 i }, s .0, ap (drop 1) (s .1))
+head-same g h m n p q x y cut =
+    let whole =
+    sym (six (field "area " (g .area)) (field " year " (g .year)) (field " month " (g .month)) (field " calls " m) (field " part " p) (word "\n") x)
+    ∙ cut
+    ∙ six (field "area " (h .area)) (field " year " (h .year)) (field " month " (h .month)) (field " calls " n) (field " part " q) (word "\n") y in
+    let a = field-same (word "area ") (g .area) (h .area) _ _ refl refl whole in
+    let b = field-same (word " year ") (g .year) (h .year) _ _ refl refl (a .1) in
+    let c = field-same (word " month ") (g .month) (h .month) _ _ refl refl (b .1) in
+    let d = field-same (word " calls ") m n _ _ refl refl (c .1) in
+    let e = field-same (word " part ") p q _ _ refl refl (d .1) in
+    (λ i. record { area = a .0 i; year = b .0 i; month = c .0 i }, d .0, e .0, ap (drop 1) (e .1))
 
 pub row-same : (r s : Row) (x y : List ℕ) → rowText r ++ x ≡ rowText s ++ y → (r ≡ s) × (x ≡ y)
 unfolding rowText earnedText carriedText startsDigit
@@ -110,7 +113,14 @@ total-same y z a b cut =
     let p = money-same (word "total ") y z _ _ refl refl whole in
     (p .0, ap (drop 1) (p .1))
 
--- a last line is none of a member
+pub user-same : (y z : ℤ) (a b : List ℕ) → userText y ++ a ≡ userText z ++ b → (y ≡ z) × (a ≡ b)
+unfolding userText startsDigit
+user-same y z a b cut =
+    let whole = sym (append-assoc (signedField "user " y) (word "\n") a) ∙ cut ∙ append-assoc (signedField "user " z) (word "\n") b in
+    let p = money-same (word "user ") y z _ _ refl refl whole in
+    (p .0, ap (drop 1) (p .1))
+
+-- the line of R is none of a member
 pub total-no-row : (z : ℤ) (x : List ℕ) → ¬ BeginsRow (totalText z ++ x)
 unfolding totalText rowText earnedText
 total-no-row z x (row-line r rest fits cut) = absurd (let e : _≡_ {A = ℕ} 116 109 = ap (λ (l : List ℕ). getD l 0 0) cut in omega (arith, e))
@@ -142,62 +152,86 @@ abbrev Ended : List Row → List ℕ → Type 0
 Ended rows rest = ¬ (BeginsRow rest × (length rows < 64))
 
 -- the lines that are taken, and what is left
-pub record Same (h g : Header) (m n : ℕ) (rs ss : List Row) (x y : List ℕ) : Type 0 where
+pub record Same (h g : Header) (m n p q : ℕ) (rs ss : List Row) (x y : List ℕ) : Type 0 where
   pub header : h ≡ g
   pub calls : m ≡ n
+  pub part : p ≡ q
   pub rows : rs ≡ ss
   pub rest : x ≡ y
 
-taken-same : {t x y : List ℕ} {h g : Header} {m n : ℕ} {rs ss : List Row} → Taken t h m rs x → Taken t g n ss y → Ended rs x → Ended ss y → Same h g m n rs ss x y
-taken-same {t} {x} {y} {h} {g} {m} {n} {rs} {ss} p q e f =
-    let cut = sym (append-assoc (headText h m) (rowsText rs) x) ∙ sym (p .is) ∙ q .is ∙ append-assoc (headText g n) (rowsText ss) y in
-    let d = head-same h g m n _ _ cut in
-    go (d .0) (d .1) (compare rs ss x y (p .fit) (q .fit) (d .2))
+taken-same : {t x y : List ℕ} {h g : Header} {m n p q : ℕ} {rs ss : List Row} → Taken t h m p rs x → Taken t g n q ss y → Ended rs x → Ended ss y → Same h g m n p q rs ss x y
+taken-same {t} {x} {y} {h} {g} {m} {n} {p} {q} {rs} {ss} k l e f =
+    let cut = sym (append-assoc (headText h m p) (rowsText rs) x) ∙ sym (k .is) ∙ l .is ∙ append-assoc (headText g n q) (rowsText ss) y in
+    let d = head-same h g m n p q _ _ cut in
+    go (d .0) (d .1) (d .2) (compare rs ss x y (k .fit) (l .fit) (d .3))
   where
-    go : h ≡ g → m ≡ n → Compared rs ss x y → Same h g m n rs ss x y
-    go a b (same c d) = record { header = a; calls = b; rows = c; rest = d }
-    go a b (first-goes-on c l) = absurd (f (c, omega (arith, p .few)))
-    go a b (second-goes-on c l) = absurd (e (c, omega (arith, q .few)))
+    go : h ≡ g → m ≡ n → p ≡ q → Compared rs ss x y → Same h g m n p q rs ss x y
+    go a b o (same c d) = record { header = a; calls = b; part = o; rows = c; rest = d }
+    go a b o (first-goes-on c less) = absurd (f (c, omega (arith, k .few)))
+    go a b o (second-goes-on c less) = absurd (e (c, omega (arith, l .few)))
 
 total-ends : (rs : List Row) (z : ℤ) (x : List ℕ) → Ended rs (totalText z ++ x)
 total-ends rs z x p = total-no-row z x (p .0)
 
-last-ends : (rs : List Row) (z : ℤ) → Ended rs (totalText z)
-last-ends rs z p = total-no-row z [] (rw (append-none (totalText z)) (p .0))
+has-head : {t x : List ℕ} {h : Header} {m p : ℕ} {rs : List Row} → Taken t h m p rs x → BeginsHead t
+has-head {t} {x} {h} {m} {p} {rs} k = head-line h m p (rowsText rs ++ x) (k .head) (k .is ∙ append-assoc (headText h m p) (rowsText rs) x)
 
-has-head : {t x : List ℕ} {h : Header} {m : ℕ} {rs : List Row} → Taken t h m rs x → BeginsHead t
-has-head {t} {x} {h} {m} {rs} p = head-line h m (rowsText rs ++ x) (p .head) (p .is ∙ append-assoc (headText h m) (rowsText rs) x)
+-- R is not there, and it is
+no-total : {t x : List ℕ} {h g : Header} {m n p q : ℕ} {rs ss : List Row} (z : ℤ) (y : List ℕ) → Taken t h m p rs x → Ended rs x → ¬ BeginsTotal x
+    → Taken t g n q ss (totalText z ++ y) → SFits w64 z → ⊥
+no-total {ss = ss} z y k e none l f = none (total-line z y f (taken-same k l e (total-ends ss z y) .rest))
 
-has-total : {x : List ℕ} (z : ℤ) (y : List ℕ) → SFits w64 z → x ≡ totalText z ++ y → BeginsTotal x
-has-total z y f e = total-line z y f e
+-- R is there twice
+record SameTotal (h g : Header) (m n p q : ℕ) (rs ss : List Row) (z w : ℤ) (x y : List ℕ) : Type 0 where
+  lines : Same h g m n p q rs ss (totalText z ++ x) (totalText w ++ y)
+  gap : z ≡ w
+  rest : x ≡ y
 
-has-last : {x : List ℕ} (z : ℤ) → SFits w64 z → x ≡ totalText z → BeginsTotal x
-has-last z f e = total-line z [] f (e ∙ sym (append-none (totalText z)))
+both-total : {t x y : List ℕ} {h g : Header} {m n p q : ℕ} {rs ss : List Row} (z w : ℤ) → Taken t h m p rs (totalText z ++ x) → Taken t g n q ss (totalText w ++ y)
+    → SameTotal h g m n p q rs ss z w x y
+both-total {x = x} {y} {rs = rs} {ss} z w k l =
+    let lines = taken-same k l (total-ends rs z x) (total-ends ss w y) in
+    let same = total-same z w x y (lines .rest) in
+    record { lines = lines; gap = same .0; rest = same .1 }
+
+-- the user's amount is there, with something behind it or nothing
+begins-user : (u : ℤ) (x : List ℕ) → SFits w64 u → BeginsUser (userText u ++ x)
+begins-user u x f = user-line u x f refl
+
+begins-last : (u : ℤ) → SFits w64 u → BeginsUser (userText u)
+begins-last u f = user-line u [] f (sym (append-none (userText u)))
 
 -- THE READER'S ANSWER IS DETERMINED by the text.
 pub posted-determined : {t : List ℕ} {r s : Posted} → ReadPosted t r → ReadPosted t s → r ≡ s
 posted-determined (no-head e n) (no-head f k) = e ∙ sym f
-posted-determined (no-head e n) (no-line h c rs x f p k l) = absurd (n (has-head p))
-posted-determined (no-head e n) (no-end h c rs z x f p k l) = absurd (n (has-head p))
-posted-determined (no-head e n) (whole h c rs z f p k) = absurd (n (has-head p))
-posted-determined (no-line h c rs x f p k l) (no-head e n) = absurd (n (has-head p))
-posted-determined (no-line h c rs x f p k l) (no-line g d ss y e q m n) = let w = taken-same p q k m in f ∙ ap (λ (us : List Row). badLine (1 + length us)) (w .rows) ∙ sym e
-posted-determined (no-line h c rs x f p k l) (no-end g d ss z y e q m n) = let w = taken-same p q k (total-ends ss z y) in absurd (l (has-total z y m (w .rest)))
-posted-determined (no-line h c rs x f p k l) (whole g d ss z e q m) = let w = taken-same p q k (last-ends ss z) in absurd (l (has-last z m (w .rest)))
-posted-determined (no-end h c rs z x f p k l) (no-head e n) = absurd (n (has-head p))
-posted-determined (no-end h c rs z x f p k l) (no-line g d ss y e q m n) = let w = taken-same q p m (total-ends rs z x) in absurd (n (has-total z x k (w .rest)))
-posted-determined (no-end h c rs z x f p k l) (no-end g d ss u y e q m n) =
-    let w = taken-same p q (total-ends rs z x) (total-ends ss u y) in
-    f ∙ ap (λ (us : List Row). badLine (2 + length us)) (w .rows) ∙ sym e
-posted-determined (no-end h c rs z x f p k l) (whole g d ss u e q m) =
-    let w = taken-same p q (total-ends rs z x) (last-ends ss u) in
-    absurd (l (total-same z u x [] (w .rest ∙ sym (append-none (totalText u))) .1))
-posted-determined (whole h c rs z f p k) (no-head e n) = absurd (n (has-head p))
-posted-determined (whole h c rs z f p k) (no-line g d ss y e q m n) = let w = taken-same q p m (last-ends rs z) in absurd (n (has-last z k (w .rest)))
-posted-determined (whole h c rs z f p k) (no-end g d ss u y e q m n) =
-    let w = taken-same q p (total-ends ss u y) (last-ends rs z) in
-    absurd (n (total-same u z y [] (w .rest ∙ sym (append-none (totalText z))) .1))
-posted-determined (whole h c rs z f p k) (whole g d ss u e q m) =
-    let w = taken-same p q (last-ends rs z) (last-ends ss u) in
-    let v = total-same z u [] [] (append-none (totalText z) ∙ w .rest ∙ sym (append-none (totalText u))) in
-    f ∙ (λ i. readWhole (w .header i) (w .calls i) (w .rows i) (v .0 i)) ∙ sym e
+posted-determined (no-head e n) (no-line h c o rs x f p k l) = absurd (n (has-head p))
+posted-determined (no-head e n) (no-user h c o rs z x f p k l) = absurd (n (has-head p))
+posted-determined (no-head e n) (no-end h c o rs z u x f p k v l) = absurd (n (has-head p))
+posted-determined (no-head e n) (whole h c o rs z u f p k v) = absurd (n (has-head p))
+posted-determined (no-line h c o rs x f p k l) (no-head e n) = absurd (n (has-head p))
+posted-determined (no-line h c o rs x f p k l) (no-line g d a ss y e q m n) = let w = taken-same p q k m in f ∙ ap (λ (us : List Row). badLine (1 + length us)) (w .rows) ∙ sym e
+posted-determined (no-line h c o rs x f p k l) (no-user g d a ss z y e q m n) = absurd (no-total z _ p k l q m)
+posted-determined (no-line h c o rs x f p k l) (no-end g d a ss z u y e q m v n) = absurd (no-total z _ p k l q m)
+posted-determined (no-line h c o rs x f p k l) (whole g d a ss z u e q m v) = absurd (no-total z _ p k l q m)
+posted-determined (no-user h c o rs z x f p k l) (no-head e n) = absurd (n (has-head p))
+posted-determined (no-user h c o rs z x f p k l) (no-line g d a ss y e q m n) = absurd (no-total z _ q m n p k)
+posted-determined (no-user h c o rs z x f p k l) (no-user g d a ss w y e q m n) =
+    f ∙ ap (λ (us : List Row). badLine (2 + length us)) (both-total z w p q .lines .rows) ∙ sym e
+posted-determined (no-user h c o rs z x f p k l) (no-end g d a ss w u y e q m v n) = absurd (l (rw (both-total z w p q .rest) (begins-user u y v)))
+posted-determined (no-user h c o rs z x f p k l) (whole g d a ss w u e q m v) = absurd (l (rw (both-total z w p q .rest) (begins-last u v)))
+posted-determined (no-end h c o rs z u x f p k v l) (no-head e n) = absurd (n (has-head p))
+posted-determined (no-end h c o rs z u x f p k v l) (no-line g d a ss y e q m n) = absurd (no-total z _ q m n p k)
+posted-determined (no-end h c o rs z u x f p k v l) (no-user g d a ss w y e q m n) = absurd (n (rw (both-total w z q p .rest) (begins-user u x v)))
+posted-determined (no-end h c o rs z u x f p k v l) (no-end g d a ss w b y e q m i n) =
+    f ∙ ap (λ (us : List Row). badLine (3 + length us)) (both-total z w p q .lines .rows) ∙ sym e
+posted-determined (no-end h c o rs z u x f p k v l) (whole g d a ss w b e q m i) =
+    absurd (l (user-same u b x [] (both-total z w p q .rest ∙ sym (append-none (userText b))) .1))
+posted-determined (whole h c o rs z u f p k v) (no-head e n) = absurd (n (has-head p))
+posted-determined (whole h c o rs z u f p k v) (no-line g d a ss y e q m n) = absurd (no-total z _ q m n p k)
+posted-determined (whole h c o rs z u f p k v) (no-user g d a ss w y e q m n) = absurd (n (rw (both-total w z q p .rest) (begins-last u v)))
+posted-determined (whole h c o rs z u f p k v) (no-end g d a ss w b y e q m i n) =
+    absurd (n (user-same b u y [] (both-total w z q p .rest ∙ sym (append-none (userText u))) .1))
+posted-determined (whole h c o rs z u f p k v) (whole g d a ss w b e q m j) =
+    let s = both-total z w p q in
+    let y = user-same u b [] [] (append-none (userText u) ∙ s .rest ∙ sym (append-none (userText b))) in
+    f ∙ (λ i. readWhole (s .lines .header i) (s .lines .calls i) (s .lines .part i) (s .lines .rows i) (s .gap i) (y .0 i)) ∙ sym e

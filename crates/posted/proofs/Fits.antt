@@ -17,7 +17,7 @@ use Rattle.book.specs.Check.{accepted, check}
 use Rattle.book.proofs.Exact.{accepted-tests}
 use Rattle.book.proofs.Heads.{headed-is}
 use Rattle.share.specs.declared.Line.{Line}
-use Rattle.share.specs.Sharing.{Part, weightOf, below, gap, sharing}
+use Rattle.share.specs.Sharing.{Part, weightOf, below, gap, sharing, mostPart}
 use Rattle.share.specs.Forms.{blankLine}
 use Rattle.share.specs.Verdict.{SoundLine, numberBefore, AllSound}
 use Rattle.share.proofs.Signs.{small-fits}
@@ -25,7 +25,7 @@ use Rattle.share.proofs.Bounds.{weight-le}
 use Rattle.share.proofs.Cases.{bad-of-64}
 use Rattle.share.proofs.Outcomes.{taken-list}
 use Rattle.share.proofs.Refusals.{all-sound}
-use Rattle.share.proofs.Promises.{gap-is, gap-most, part-within}
+use Rattle.share.proofs.Promises.{gap-is, gap-most, user-within, part-within}
 use Rattle.month.specs.declared.Fault.the-variants.{NoFault}
 use Rattle.month.specs.declared.Row.{Row}
 use Rattle.month.specs.declared.Statement.{Statement}
@@ -50,15 +50,16 @@ held-fits : (a b : ℕ) → grainsPlus a b < 2 ^ 64
 unfolding grainsPlus
 held-fits a b = omega arith
 
--- the header of a book that is accepted, and its count
-head-fits : (b : List ℕ) → check b ≡ accepted → HeadFits (headerAt b) (countAt b)
-head-fits b e =
+-- the header of a book that is accepted, and its count, with a part
+head-fits : (b : List ℕ) (part : ℕ) → check b ≡ accepted → part ≤ mostPart → HeadFits (headerAt b) (countAt b) part
+head-fits b part e k =
     let h = headed-is b (accepted-tests b e .header) in
     record {
       area = omega (arith, h .heading .area .1);
       year = omega (arith, h .heading .year .1);
       month = omega (arith, h .heading .month .1);
       calls = omega (arith, h .few);
+      part = omega arith;
     }
 
 -- a row of a sound line
@@ -85,19 +86,19 @@ module _ (g : MonthGiven) (settled : settling g .fault ≡ NoFault) (counted : H
   -- sharing took every line as sound, and 64 at most
   sound : AllSound ls
   sound =
-      let t = taken-list ls (passed g settled .shared) in
+      let t = taken-list (g .part) ls (passed g settled .shared) in
       let b = bad-of-64 ls in
       all-sound ls (omega (arith, t .sound, b .0))
 
   pub few-entries : length (g .entries) ≤ 64
   few-entries =
-      let t = taken-list ls (passed g settled .shared) in
+      let t = taken-list (g .part) ls (passed g settled .shared) in
       omega (arith, t .few, length-in g)
 
-  pub month-head : HeadFits (settling g .header) (settling g .calls)
+  pub month-head : HeadFits (settling g .header) (settling g .calls) (settling g .part)
   month-head =
       let p = passed g settled in
-      rw (p .is) (head-fits (g .book) (p .book))
+      rw (p .is) (head-fits (g .book) (g .part) (p .book) (p .part))
 
   grains-fit : (i : ℕ) → i < length (g .entries) → getD (grainsIn g) i noGrains .0 < 2 ^ 64
   unfolding rowOf
@@ -110,10 +111,10 @@ module _ (g : MonthGiven) (settled : settling g .fault ≡ NoFault) (counted : H
   month-row i l =
       let p = passed g settled in
       let long = length-in g in
-      let rows = length-rows (below ls) ls (grainsIn g) (g .ramped) (sharing ls .parts) in
-      let w = part-within ls (p .shared) i noPart (omega arith) in
-      rw (row-at (below ls) ls (grainsIn g) (g .ramped) (sharing ls .parts) i blankRow (omega arith))
-      (row-fits (below ls) (numberBefore 0 ls i) (getD ls i blankLine) (getD (grainsIn g) i noGrains) (rampedOfLine g i .hours) (getD (sharing ls .parts) i noPart)
+      let rows = length-rows (below ls) ls (grainsIn g) (g .ramped) (sharing (g .part) ls .parts) in
+      let w = part-within (g .part) ls (p .shared) i noPart (omega arith) in
+      rw (row-at (below ls) ls (grainsIn g) (g .ramped) (sharing (g .part) ls .parts) i blankRow (omega arith))
+      (row-fits (below ls) (numberBefore 0 ls i) (getD ls i blankLine) (getD (grainsIn g) i noGrains) (rampedOfLine g i .hours) (getD (sharing (g .part) ls .parts) i noPart)
       (sound i (omega arith)) (grains-fit i (omega arith)) (counted i) (w .0) (w .1))
 
   pub month-rows : RowsFit (rowsSettled g)
@@ -122,5 +123,10 @@ module _ (g : MonthGiven) (settled : settling g .fault ≡ NoFault) (counted : H
   pub month-gap : SFits w64 (settling g .gap .0)
   month-gap =
       let p = passed g settled in
-      let e : settling g .gap .0 ≡ gap ls = ap (λ (s : Statement). s .gap .0) (p .is) ∙ gap-is ls (p .shared) in
-      rw e (small-fits (gap ls) 100000000000 (gap-most ls (p .shared)) (omega arith))
+      let e : settling g .gap .0 ≡ gap ls = ap (λ (s : Statement). s .gap .0) (p .is) ∙ gap-is (g .part) ls (p .shared) in
+      rw e (small-fits (gap ls) 100000000000 (gap-most (g .part) ls (p .shared)) (omega arith))
+
+  pub month-user : SFits w64 (settling g .user .0)
+  month-user =
+      let p = passed g settled in
+      rw (p .is) (small-fits (sharing (g .part) ls .user) 100000000000 (user-within (g .part) ls (p .shared)) (omega arith))

@@ -19,14 +19,17 @@ use Rattle.render.proofs.Printed.{front-put}
 use Rattle.posted.specs.declared.line.Heads.{Heads}
 use Rattle.posted.specs.declared.line.Earned.{Earned}
 use Rattle.posted.specs.declared.line.Carried.{Carried}
-use Rattle.posted.specs.Posted.{headText, earnedText, carriedText, rowText, totalText}
-use Rattle.posted.specs.Reading.{HeadFits, RowFits, BeginsHead, BeginsRow, BeginsTotal, head-line, row-line, total-line}
-use Rattle.posted.specs.Inner.{startsDigit, Behind, FieldIs, SignedFieldIs, Begins, EarnedSame, CarriedSame, EarnedIs, CarriedIs, HeadIs, RowIs, TotalIs}
-use Rattle.posted.specs.Inner.{HeadAt, RowAt, TotalAt}
+use Rattle.posted.specs.Posted.{headText, earnedText, carriedText, rowText}
+use Rattle.posted.specs.Reading.{HeadFits, RowFits, BeginsHead, BeginsRow, head-line, row-line}
+use Rattle.posted.specs.Inner.{startsDigit, Behind, FieldIs, SignedFieldIs, Begins, EarnedSame, CarriedSame, EarnedIs, CarriedIs, HeadIs, RowIs, SumIs, sumText}
+use Rattle.posted.specs.Inner.{HeadAt, RowAt, SumAt}
 use Rattle.posted.proofs.Signing.{through}
 
 five : (a b c d e f : List ℕ) → ((((a ++ b) ++ c) ++ d) ++ e) ++ f ≡ a ++ (b ++ (c ++ (d ++ (e ++ f))))
 five a b c d e f = simp append-assoc
+
+six : (a b c d e f g : List ℕ) → (((((a ++ b) ++ c) ++ d) ++ e) ++ f) ++ g ≡ a ++ (b ++ (c ++ (d ++ (e ++ (f ++ g)))))
+six a b c d e f g = simp append-assoc
 
 module _ (t : List ℕ) (at : ℕ) where
   pub earned-reads : (a b c d e : Number) → FieldIs 7 t at a → FieldIs 7 t (a .next) b → FieldIs 8 t (b .next) c → FieldIs 14 t (c .next) d → FieldIs 12 t (d .next) e
@@ -68,29 +71,37 @@ module _ (t : List ℕ) (at : ℕ) where
             record { energy = one .0; weight = two .0; share = through _ _ (fits .share) (three .0); amount = through _ _ (fits .amount) (last .0) };
       }
 
-  pub heads-reads : (a b c d : Number) (area year month : ℕ) → FieldIs 5 t at a → FieldIs 6 t (a .next) b → FieldIs 7 t (b .next) c → FieldIs 7 t (c .next) d
-      → (a .value < 2 ^ 8 → area ≡ a .value) → (b .value < 2 ^ 16 → year ≡ b .value) → (c .value < 2 ^ 8 → month ≡ c .value)
-      → (g : Header) (n : ℕ) (rest : List ℕ) → HeadFits g n → drop at t ≡ headText g n ++ rest
-      → (area ≡ g .area) × (year ≡ g .year) × (month ≡ g .month) × (d .value ≡ n)
+  pub heads-reads : (a b c d e : Number) (area year month part : ℕ)
+      → FieldIs 5 t at a → FieldIs 6 t (a .next) b → FieldIs 7 t (b .next) c → FieldIs 7 t (c .next) d → FieldIs 6 t (d .next) e
+      → (a .value < 2 ^ 8 → area ≡ a .value) → (b .value < 2 ^ 16 → year ≡ b .value) → (c .value < 2 ^ 8 → month ≡ c .value) → (e .value < 2 ^ 32 → part ≡ e .value)
+      → (g : Header) (n p : ℕ) (rest : List ℕ) → HeadFits g n p → drop at t ≡ headText g n p ++ rest
+      → (area ≡ g .area) × (year ≡ g .year) × (month ≡ g .month) × (d .value ≡ n) × (part ≡ p)
   unfolding headText startsDigit
-  heads-reads a b c d area year month f g h i u v w x n rest fits cut =
+  heads-reads a b c d e area year month part f g h i j u v w o x n p rest fits cut =
       let years = field " year " (x .year) in
       let months = field " month " (x .month) in
       let calls = field " calls " n in
-      let one = f .reads (word "area ") (x .area) (years ++ (months ++ (calls ++ (word "\n" ++ rest)))) refl (omega (arith, fits .area)) refl
-      (cut ∙ five (field "area " (x .area)) years months calls (word "\n") rest) in
-      let two = g .reads (word " year ") (x .year) (months ++ (calls ++ (word "\n" ++ rest))) refl (omega (arith, fits .year)) refl (one .1) in
-      let three = h .reads (word " month ") (x .month) (calls ++ (word "\n" ++ rest)) refl (omega (arith, fits .month)) refl (two .1) in
-      let last = i .reads (word " calls ") n (word "\n" ++ rest) refl (fits .calls) refl (three .1) in
-      (u (omega (arith, one .0, fits .area)) ∙ one .0, v (omega (arith, two .0, fits .year)) ∙ two .0, w (omega (arith, three .0, fits .month)) ∙ three .0, last .0)
+      let parts = field " part " p in
+      let one = f .reads (word "area ") (x .area) (years ++ (months ++ (calls ++ (parts ++ (word "\n" ++ rest))))) refl (omega (arith, fits .area)) refl
+      (cut ∙ six (field "area " (x .area)) years months calls parts (word "\n") rest) in
+      let two = g .reads (word " year ") (x .year) (months ++ (calls ++ (parts ++ (word "\n" ++ rest)))) refl (omega (arith, fits .year)) refl (one .1) in
+      let three = h .reads (word " month ") (x .month) (calls ++ (parts ++ (word "\n" ++ rest))) refl (omega (arith, fits .month)) refl (two .1) in
+      let four = i .reads (word " calls ") n (parts ++ (word "\n" ++ rest)) refl (fits .calls) refl (three .1) in
+      let last = j .reads (word " part ") p (word "\n" ++ rest) refl (omega (arith, fits .part)) refl (four .1) in (
+        u (omega (arith, one .0, fits .area)) ∙ one .0,
+        v (omega (arith, two .0, fits .year)) ∙ two .0,
+        w (omega (arith, three .0, fits .month)) ∙ three .0,
+        four .0,
+        o (omega (arith, last .0, fits .part)) ∙ last .0,
+      )
 
-  pub total-reads : (a : SignedNumber) → SignedFieldIs 6 t at a → TotalIs t at (toZ w64 (ofZ w64 (a .value)))
-  unfolding totalText startsDigit
-  total-reads a f =
+  pub sum-reads : (size : ℕ) (a : SignedNumber) → SignedFieldIs size t at a → SumIs size t at (toZ w64 (ofZ w64 (a .value)))
+  unfolding startsDigit
+  sum-reads size a f =
       record {
         reads =
-            λ z rest fits cut.
-            through _ _ fits (f .reads (word "total ") z (word "\n" ++ rest) refl fits refl (cut ∙ append-assoc (signedField "total " z) (word "\n") rest) .0);
+            λ name z rest long fits cut.
+            through _ _ fits (f .reads name z (word "\n" ++ rest) long fits refl (cut ∙ append-assoc (name ++ signedDecimal z) (word "\n") rest) .0);
       }
 
 -- a header of the same numbers
@@ -146,8 +157,8 @@ module _ (t : List ℕ) (at : ℕ) where
       let rest : drop next t ≡ drop (at + length w) t = g .rest ∙ ap (drop k) cut ∙ drop-at w (drop (at + length w) t) k (sym e) in
       cut ∙ ap (λ (xs : List ℕ). w ++ xs) (sym rest)
 
-  pub head-taken : (h : Heads) (w : List ℕ) (k next : ℕ) (is : Bool) → HeadIs t at h → w ≡ headText (h .header) (h .calls) → k ≡ length w → Begins t at w is → Behind t at k next
-      → HeadAt t at (record { calls = h .calls; next = next; header = h .header; is = is })
+  pub head-taken : (h : Heads) (w : List ℕ) (k next : ℕ) (is : Bool) → HeadIs t at h → w ≡ headText (h .header) (h .calls) (h .part) → k ≡ length w → Begins t at w is → Behind t at k next
+      → HeadAt t at (record { calls = h .calls; next = next; part = h .part; header = h .header; is = is })
   head-taken h w k next is l e long f g =
       record {
         within = g .within;
@@ -156,9 +167,9 @@ module _ (t : List ℕ) (at : ℕ) where
       }
     where
       refused : is ≡ false → BeginsHead (drop at t) → ⊥
-      refused n (head-line x calls rest fits cut) =
-          let same = l .reads x calls rest fits cut in
-          f .no n rest (cut ∙ sym (ap (λ (xs : List ℕ). xs ++ rest) (e ∙ (λ i. headText (same .0 i) (same .1 i)))))
+      refused n (head-line x calls part rest fits cut) =
+          let same = l .reads x calls part rest fits cut in
+          f .no n rest (cut ∙ sym (ap (λ (xs : List ℕ). xs ++ rest) (e ∙ (λ i. headText (same .0 i) (same .1 i) (same .2 i)))))
 
   pub row-taken : (row : Row) (w : List ℕ) (k next : ℕ) (is : Bool) → RowIs t at row → w ≡ rowText row → k ≡ length w → Begins t at w is → Behind t at k next
       → RowAt t at (record { row = row; next = next; is = is })
@@ -172,20 +183,19 @@ module _ (t : List ℕ) (at : ℕ) where
       refused : is ≡ false → BeginsRow (drop at t) → ⊥
       refused n (row-line r rest fits cut) = f .no n rest (cut ∙ sym (ap (λ (xs : List ℕ). xs ++ rest) (e ∙ ap (λ (x : Row). rowText x) (l .reads r rest fits cut))))
 
-  pub total-taken : (gap : ℤ) (w : List ℕ) (k next : ℕ) (is : Bool) → SFits w64 gap → TotalIs t at gap → w ≡ totalText gap → k ≡ length w → Begins t at w is → Behind t at k next
-      → TotalAt t at (record { gap = record { 0 = gap }; next = next; is = is })
-  total-taken gap w k next is few l e long f g =
+  pub sum-taken : (name : List ℕ) (amount : ℤ) (w : List ℕ) (k next : ℕ) (is : Bool) → SFits w64 amount → SumIs (length name) t at amount → w ≡ sumText name amount → k ≡ length w
+      → Begins t at w is → Behind t at k next → SumAt name t at (record { amount = record { 0 = amount }; next = next; is = is })
+  sum-taken name amount w k next is few l e long f g =
       record {
         within = g .within;
         yes = λ y. (few, cut-there w k next is long f g y ∙ ap (λ (xs : List ℕ). xs ++ drop next t) e);
-        no = refused;
+        no =
+            λ n z rest fits cut.
+            f .no n rest (cut ∙ sym (ap (λ (xs : List ℕ). xs ++ rest) (e ∙ ap (λ (x : ℤ). sumText name x) (l .reads name z rest refl fits cut))));
       }
-    where
-      refused : is ≡ false → BeginsTotal (drop at t) → ⊥
-      refused n (total-line z rest fits cut) = f .no n rest (cut ∙ sym (ap (λ (xs : List ℕ). xs ++ rest) (e ∙ ap (λ (x : ℤ). totalText x) (l .reads z rest fits cut))))
 
-  pub total-again : (z : ℤ) → TotalIs t at z → TotalIs t at (toZ w64 (ofZ w64 z))
-  total-again z l = record { reads = λ y rest fits cut. through z y fits (l .reads y rest fits cut) }
+  pub sum-again : (size : ℕ) (z : ℤ) → SumIs size t at z → SumIs size t at (toZ w64 (ofZ w64 z))
+  sum-again size z l = record { reads = λ name y rest long fits cut. through z y fits (l .reads name y rest long fits cut) }
 
 -- what was put at the front of a buffer
 pub put-long : {most : ℕ} {text before after : List ℕ} {r : ℕ} → most ≤ length before → Puts most before 0 text after r → r ≡ length (take r after)

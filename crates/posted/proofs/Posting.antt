@@ -14,7 +14,7 @@ use Rattle.month.specs.declared.Statement.{Statement}
 use Rattle.render.specs.Inner.{Puts}
 use Rattle.render.specs.Room.{Renders}
 use Rattle.render.proofs.Placed.{and-then, looser, same-put, none-put}
-use Rattle.posted.specs.Posted.{headText, rowText, rowsText, totalText, isSettled, postedText, mostRow}
+use Rattle.posted.specs.Posted.{headText, rowText, rowsText, totalText, userText, isSettled, postedText, mostRow}
 
 pub append-none : (xs : List ℕ) → xs ++ [] ≡ xs
 append-none [] = refl
@@ -45,7 +45,8 @@ seen-rows rs count seen e f = go (decLe count 64)
     go (yes h) = ap (λ (n : ℕ). take n rs) (f ∙ min-eq-left h)
     go (no h) = ap (λ (n : ℕ). take n rs) (f ∙ min-eq-right (omega arith)) ∙ take-all 64 rs (omega arith) ∙ sym (take-all count rs (omega arith))
 
-pub settled-text : (s : Statement) → isSettled (s .fault) ≡ true → headText (s .header) (s .calls) ++ rowsText (take (s .count) (s .rows)) ++ totalText (s .gap .0) ≡ postedText s
+pub settled-text : (s : Statement) → isSettled (s .fault) ≡ true
+    → headText (s .header) (s .calls) (s .part) ++ rowsText (take (s .count) (s .rows)) ++ totalText (s .gap .0) ++ userText (s .user .0) ≡ postedText s
 unfolding postedText
 settled-text s e = rw e
 

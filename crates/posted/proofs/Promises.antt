@@ -1,6 +1,6 @@
 -- What is written reads back, and nothing else reads whole. Assumes nothing.
 use mathlib.Core.Path.{_≡_, refl, sym, _∙_, ap}
-use mathlib.Core.List.{List, [], _∷_, _++_}
+use mathlib.Core.List.{List, [], _∷_, _++_, append-assoc}
 use Prim.Native.Nat.{ℕ, _+_, _-_, _≤_, _<_}
 use native.Mathlib.Omega.{arith}
 use lib.IntN.{ℤ}
@@ -20,10 +20,10 @@ use Rattle.render.proofs.Printed.{front-is}
 use Rattle.posted.specs.declared.Posted.{Posted}
 use Rattle.posted.specs.declared.Reading.{Reading}
 use Rattle.posted.specs.declared.Reading.the-variants.{Whole, BadLine}
-use Rattle.posted.specs.Posted.{headText, rowsText, totalText, isSettled, postedText, mostPosted}
-use Rattle.posted.specs.Reading.{HeadFits, RowsFit, Settled, Taken, statementWith, readWhole, badLine, ReadPosted, no-head, no-line, no-end, whole}
+use Rattle.posted.specs.Posted.{headText, rowsText, totalText, userText, isSettled, postedText, mostPosted}
+use Rattle.posted.specs.Reading.{HeadFits, RowsFit, Settled, Taken, statementWith, readWhole, badLine, ReadPosted, no-head, no-line, no-user, no-end, whole}
 use Rattle.posted.proofs.Posting.{settled-text}
-use Rattle.posted.proofs.Fits.{HoursCounted, few-entries, month-head, month-rows, month-gap}
+use Rattle.posted.proofs.Fits.{HoursCounted, few-entries, month-head, month-rows, month-gap, month-user}
 use Rattle.posted.proofs.Determined.{posted-determined}
 
 front-rows : (rs : List Row) → take (length rs) (filledRows rs) ≡ rs
@@ -35,9 +35,10 @@ unfolding filledRows
 filled-long rs h = omega (arith, length-append rs (replicate (64 - length rs) blankRow), length-replicate (64 - length rs) blankRow)
 
 -- a statement of so many rows is a settled one
-pub settled-of : (h : Header) (calls : ℕ) (rs : List Row) (gap : ℤ) → HeadFits h calls → length rs ≤ 64 → RowsFit rs → SFits w64 gap → Settled (statementWith h calls rs gap)
+pub settled-of : (h : Header) (calls part : ℕ) (rs : List Row) (gap user : ℤ) → HeadFits h calls part → length rs ≤ 64 → RowsFit rs → SFits w64 gap → SFits w64 user
+    → Settled (statementWith h calls part rs gap user)
 unfolding statementWith
-settled-of h calls rs gap f few g k =
+settled-of h calls part rs gap user f few g k l =
     record {
       fault = refl;
       few = few;
@@ -46,11 +47,15 @@ settled-of h calls rs gap f few g k =
       head = f;
       fit = rw (front-rows rs) g;
       gap = k;
+      user = l;
     }
 
-settled-fault : (s : Statement) → s .fault ≡ NoFault → headText (s .header) (s .calls) ++ rowsText (take (s .count) (s .rows)) ++ totalText (s .gap .0) ≡ postedText s
+settled-fault : (s : Statement) → s .fault ≡ NoFault
+    → headText (s .header) (s .calls) (s .part) ++ rowsText (take (s .count) (s .rows)) ++ (totalText (s .gap .0) ++ userText (s .user .0)) ≡ postedText s
 unfolding isSettled
-settled-fault s e = settled-text s (ap isSettled e)
+settled-fault s e =
+    sym (append-assoc (headText (s .header) (s .calls) (s .part) ++ rowsText (take (s .count) (s .rows))) (totalText (s .gap .0)) (userText (s .user .0)))
+    ∙ settled-text s (ap isSettled e)
 
 -- a settled statement's text reads as that statement
 reads-settled : (s : Statement) → Settled s → ReadPosted (postedText s) (record { reading = Whole; statement = s })
@@ -61,10 +66,10 @@ reads-settled s h =
     let n = sym many in
     let f = h .fault in
     let k = h .filled in
-    whole (s .header) (s .calls) rs (s .gap .0)
-    (λ i. record { reading = Whole; statement = record { fault = f i; header = s .header; calls = s .calls; gap = s .gap; count = n i; rows = k i } })
+    whole (s .header) (s .calls) (s .part) rs (s .gap .0) (s .user .0)
+    (λ i. record { reading = Whole; statement = record { fault = f i; header = s .header; calls = s .calls; part = s .part; gap = s .gap; user = s .user; count = n i; rows = k i } })
     (record { head = h .head; few = omega (arith, many, h .few); fit = h .fit; is = sym (settled-fault s f) })
-    (h .gap)
+    (h .gap) (h .user)
 
 -- WHAT IS WRITTEN READS BACK as the same statement.
 pub posted-back : (s : Statement) → Settled s → {r : Posted} → ReadPosted (postedText s) r → r ≡ record { reading = Whole; statement = s }
@@ -75,9 +80,10 @@ pub written-back : (s : Statement) → Settled s → {before after : List ℕ} {
     → {r : Posted} → ReadPosted (take n after) r → r ≡ record { reading = Whole; statement = s }
 written-back s h room f k g = posted-back s h (rw (front-is room f k) at g)
 
-text-of : (h : Header) (c : ℕ) (rs : List Row) (z : ℤ) → headText h c ++ rowsText rs ++ totalText z ≡ postedText (statementWith h c rs z)
+text-of : (h : Header) (c p : ℕ) (rs : List Row) (z u : ℤ) → headText h c p ++ rowsText rs ++ (totalText z ++ userText u) ≡ postedText (statementWith h c p rs z u)
 unfolding statementWith
-text-of h c rs z = ap (λ (us : List Row). headText h c ++ rowsText us ++ totalText z) (sym (front-rows rs)) ∙ settled-fault (statementWith h c rs z) refl
+text-of h c p rs z u =
+    ap (λ (us : List Row). headText h c p ++ rowsText us ++ (totalText z ++ userText u)) (sym (front-rows rs)) ∙ settled-fault (statementWith h c p rs z u) refl
 
 not-bad : {A : Type 0} {r : Posted} (n : ℕ) → r ≡ badLine n → r .reading ≡ Whole → A
 unfolding badLine
@@ -88,9 +94,10 @@ not-bad {r = r} n e w =
 pub posted-only : {t : List ℕ} {r : Posted} → ReadPosted t r → r .reading ≡ Whole → Settled (r .statement) × (t ≡ postedText (r .statement))
 unfolding readWhole
 posted-only (no-head e n) w = not-bad 0 e w
-posted-only (no-line h c rs x e p k l) w = not-bad (1 + length rs) e w
-posted-only (no-end h c rs z x e p k l) w = not-bad (2 + length rs) e w
-posted-only (whole h c rs z e p k) w = rw e (settled-of h c rs z (p .head) (p .few) (p .fit) k, p .is ∙ text-of h c rs z)
+posted-only (no-line h c o rs x e p k l) w = not-bad (1 + length rs) e w
+posted-only (no-user h c o rs z x e p k l) w = not-bad (2 + length rs) e w
+posted-only (no-end h c o rs z u x e p k v l) w = not-bad (3 + length rs) e w
+posted-only (whole h c o rs z u e p k v) w = rw e (settled-of h c o rs z u (p .head) (p .few) (p .fit) k v, p .is ∙ text-of h c o rs z u)
 
 -- A MONTH THAT WAS SETTLED HAS SUCH A STATEMENT: a row for each member, 64 at most, and every number fits its bits.
 pub month-settled : (g : MonthGiven) → HoursCounted g → settling g .fault ≡ NoFault → Settled (settling g)
@@ -110,6 +117,7 @@ month-settled g n e =
       head = month-head g e n;
       fit = rw front (month-rows g e n);
       gap = month-gap g e n;
+      user = month-user g e n;
     }
 
 -- SETTLED, WRITTEN, READ: whatever month is settled, its statement's text reads back as that statement, and as nothing else;

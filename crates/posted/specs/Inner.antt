@@ -9,7 +9,7 @@ use lib.ListN.{length, take, drop, replicate}
 use mir.Syntax.{w64}
 use mir.Val.{SFits}
 use Rattle.row.specs.Numbers.{isDigit}
-use Rattle.render.specs.Decimal.{field, decimal, signedDecimal}
+use Rattle.render.specs.Decimal.{word, field, decimal, signedDecimal}
 use Rattle.render.specs.Room.{mostDecimal}
 use Rattle.book.specs.declared.Header.{Header}
 use Rattle.month.specs.declared.Row.{Row}
@@ -20,10 +20,10 @@ use Rattle.posted.specs.declared.line.Earned.{Earned}
 use Rattle.posted.specs.declared.line.Carried.{Carried}
 use Rattle.posted.specs.declared.line.HeadLine.{HeadLine}
 use Rattle.posted.specs.declared.line.RowLine.{RowLine}
-use Rattle.posted.specs.declared.line.TotalLine.{TotalLine}
+use Rattle.posted.specs.declared.line.SumLine.{SumLine}
 use Rattle.posted.specs.declared.line.RowLines.{RowLines}
-use Rattle.posted.specs.Posted.{headText, earnedText, carriedText, rowText, rowsText, totalText}
-use Rattle.posted.specs.Reading.{HeadFits, RowFits, RowsFit, BeginsHead, BeginsRow, BeginsTotal}
+use Rattle.posted.specs.Posted.{headText, earnedText, carriedText, rowText, rowsText}
+use Rattle.posted.specs.Reading.{HeadFits, RowFits, RowsFit, BeginsHead, BeginsRow}
 use Rattle.posted.specs.declared.taken.Number.{Number}
 use Rattle.posted.specs.declared.taken.SignedNumber.{SignedNumber}
 
@@ -46,6 +46,10 @@ loadText r = field " energy " (r .energy .0) ++ field " weight " (r .weight)
 
 abbrev pub mostLoad : ℕ
 mostLoad = 16 + 2 * mostDecimal
+
+-- a line of one signed number behind a name: R, the user's amount
+abbrev pub sumText : List ℕ → ℤ → List ℕ
+sumText name n = name ++ signedDecimal n ++ word "\n"
 
 -- what the digits at the front of a text are worth, behind digits that are worth v
 unfoldable pub worth : ℕ → List ℕ → ℕ
@@ -121,22 +125,23 @@ pub record EarnedIs (text : List ℕ) (at : ℕ) (e : Earned) : Type 0 where
 pub record CarriedIs (text : List ℕ) (at : ℕ) (c : Carried) : Type 0 where
   pub reads : (r : Row) (rest : List ℕ) → RowFits r → drop at text ≡ carriedText r ++ rest → CarriedSame c r
 
--- where a first line, a member's or the last stands from a place on: what it says
+-- where a first line, a member's or that of one number stands from a place on: what it says
 pub record HeadIs (text : List ℕ) (at : ℕ) (h : Heads) : Type 0 where
-  pub fits : HeadFits (h .header) (h .calls)
-  pub reads : (g : Header) (n : ℕ) (rest : List ℕ) → HeadFits g n → drop at text ≡ headText g n ++ rest → (h .header ≡ g) × (h .calls ≡ n)
+  pub fits : HeadFits (h .header) (h .calls) (h .part)
+  pub reads : (g : Header) (n part : ℕ) (rest : List ℕ) → HeadFits g n part → drop at text ≡ headText g n part ++ rest
+      → (h .header ≡ g) × (h .calls ≡ n) × (h .part ≡ part)
 
 pub record RowIs (text : List ℕ) (at : ℕ) (row : Row) : Type 0 where
   pub fits : RowFits row
   pub reads : (r : Row) (rest : List ℕ) → RowFits r → drop at text ≡ rowText r ++ rest → row ≡ r
 
-pub record TotalIs (text : List ℕ) (at : ℕ) (gap : ℤ) : Type 0 where
-  pub reads : (z : ℤ) (rest : List ℕ) → SFits w64 z → drop at text ≡ totalText z ++ rest → gap ≡ z
+pub record SumIs (size : ℕ) (text : List ℕ) (at : ℕ) (amount : ℤ) : Type 0 where
+  pub reads : (name : List ℕ) (z : ℤ) (rest : List ℕ) → length name ≡ size → SFits w64 z → drop at text ≡ sumText name z ++ rest → amount ≡ z
 
 -- whether such a line stands there, and the place behind it
 pub record HeadAt (text : List ℕ) (at : ℕ) (h : HeadLine) : Type 0 where
   pub within : h .next ≤ length text
-  pub yes : h .is ≡ true → HeadFits (h .header) (h .calls) × (drop at text ≡ headText (h .header) (h .calls) ++ drop (h .next) text)
+  pub yes : h .is ≡ true → HeadFits (h .header) (h .calls) (h .part) × (drop at text ≡ headText (h .header) (h .calls) (h .part) ++ drop (h .next) text)
   pub no : h .is ≡ false → ¬ BeginsHead (drop at text)
 
 pub record RowAt (text : List ℕ) (at : ℕ) (l : RowLine) : Type 0 where
@@ -144,10 +149,10 @@ pub record RowAt (text : List ℕ) (at : ℕ) (l : RowLine) : Type 0 where
   pub yes : l .is ≡ true → RowFits (l .row) × (drop at text ≡ rowText (l .row) ++ drop (l .next) text)
   pub no : l .is ≡ false → ¬ BeginsRow (drop at text)
 
-pub record TotalAt (text : List ℕ) (at : ℕ) (l : TotalLine) : Type 0 where
+pub record SumAt (name text : List ℕ) (at : ℕ) (l : SumLine) : Type 0 where
   pub within : l .next ≤ length text
-  pub yes : l .is ≡ true → SFits w64 (l .gap .0) × (drop at text ≡ totalText (l .gap .0) ++ drop (l .next) text)
-  pub no : l .is ≡ false → ¬ BeginsTotal (drop at text)
+  pub yes : l .is ≡ true → SFits w64 (l .amount .0) × (drop at text ≡ sumText name (l .amount .0) ++ drop (l .next) text)
+  pub no : l .is ≡ false → (z : ℤ) (rest : List ℕ) → SFits w64 z → drop at text ≡ sumText name z ++ rest → ⊥
 
 -- the members' lines from a place on
 pub record RowsAt (text : List ℕ) (at : ℕ) (l : RowLines) : Type 0 where

@@ -6,15 +6,16 @@ use lib.IntN.{ℤ}
 use lib.ListN.{take}
 use Rattle.book.specs.declared.Header.{Header}
 use Rattle.month.specs.declared.Fault.{Fault}
-use Rattle.month.specs.declared.Fault.the-variants.{NoFault, InRegister, InBook, Unlisted, OfMember, OfRamping, InSharing}
+use Rattle.month.specs.declared.Fault.the-variants.{NoFault, InPart, InRegister, InBook, Unlisted, OfMember, OfRamping, InSharing}
 use Rattle.month.specs.declared.Row.{Row}
 use Rattle.month.specs.declared.Statement.{Statement}
 use Rattle.render.specs.Decimal.{word, field, signedField}
 use Rattle.render.specs.Room.{mostDecimal}
 
--- the first line: whose month it is, and how many calls its book has
-unfoldable pub headText : Header → ℕ → List ℕ
-headText h calls = field "area " (h .area) ++ field " year " (h .year) ++ field " month " (h .month) ++ field " calls " calls ++ word "\n"
+-- the first line: whose month it is, how many calls its book has, and the generators' part of the gap
+unfoldable pub headText : Header → ℕ → ℕ → List ℕ
+headText h calls part =
+    field "area " (h .area) ++ field " year " (h .year) ++ field " month " (h .month) ++ field " calls " calls ++ field " part " part ++ word "\n"
 
 -- a member, how many ramping hours its file has, and what it earned and is charged: fen, and thousandths of a point
 unfoldable pub earnedText : Row → List ℕ
@@ -36,13 +37,18 @@ unfoldable pub rowsText : List Row → List ℕ
 rowsText [] = []
 rowsText (r ∷ rs) = rowText r ++ rowsText rs
 
--- the last line: R
+-- the line behind them: R
 unfoldable pub totalText : ℤ → List ℕ
 totalText gap = signedField "total " gap ++ word "\n"
+
+-- the last line: the user's amount
+unfoldable pub userText : ℤ → List ℕ
+userText user = signedField "user " user ++ word "\n"
 
 -- the month was settled
 unfoldable pub isSettled : Fault → Bool
 isSettled NoFault = true
+isSettled InPart = false
 isSettled (InRegister line) = false
 isSettled (InBook number place) = false
 isSettled (Unlisted place) = false
@@ -50,14 +56,17 @@ isSettled (OfMember line number place) = false
 isSettled (OfRamping line number place) = false
 isSettled (InSharing number place) = false
 
--- THE STATEMENT AS A TEXT: its first line, a line for each member, R; no text of a month that was not settled
+-- THE STATEMENT AS A TEXT: its first line, a line for each member, R, the user's amount; no text of a month that was not settled
 unfoldable pub postedText : Statement → List ℕ
-postedText s = cond (isSettled (s .fault)) (headText (s .header) (s .calls) ++ rowsText (take (s .count) (s .rows)) ++ totalText (s .gap .0)) []
+postedText s =
+    cond (isSettled (s .fault))
+    (headText (s .header) (s .calls) (s .part) ++ rowsText (take (s .count) (s .rows)) ++ totalText (s .gap .0) ++ userText (s .user .0))
+    []
 
 -- The most bytes: the words, and 20 for each number
 
 abbrev pub mostHead : ℕ
-mostHead = 26 + 4 * mostDecimal
+mostHead = 32 + 5 * mostDecimal
 
 abbrev pub mostEarned : ℕ
 mostEarned = 48 + 5 * mostDecimal
@@ -71,5 +80,8 @@ mostRow = mostEarned + mostCarried
 abbrev pub mostTotal : ℕ
 mostTotal = 7 + mostDecimal
 
+abbrev pub mostUser : ℕ
+mostUser = 6 + mostDecimal
+
 abbrev pub mostPosted : ℕ
-mostPosted = mostHead + 64 * mostRow + mostTotal
+mostPosted = mostHead + 64 * mostRow + mostTotal + mostUser

@@ -16,7 +16,7 @@ mod taken;
 
 use line::head_at;
 use line::rows_at;
-use line::total_at;
+use line::sum_at;
 use put::put_posted;
 
 // How a text reads: whole, or refused at a line, counted from 0.
@@ -31,14 +31,15 @@ pub struct Posted {
     pub reading: Reading,
 }
 
-// The most bytes: 106 of the first line, 27 of R, and 260 for each of 64 members.
-pub const MOST_POSTED: usize = 16773;
+// The most bytes: 132 of the first line, 27 of R, 26 of the user's amount, and 260 for each of 64 members.
+pub const MOST_POSTED: usize = 16825;
 
 fn is_settled(fault: Fault) -> bool
     ensures { λ r. ⌜ r ≡ isSettled fault ⌝ }
 {
     match fault {
         Fault::NoFault => true,
+        Fault::InPart => false,
         Fault::InRegister(line) => false,
         Fault::InBook(number, place) => false,
         Fault::Unlisted(place) => false,
@@ -63,7 +64,8 @@ pub fn posted_text(s: Statement, out: &mut [u8]) -> usize
     let header = s.header;
     let rows = s.rows;
     let gap = s.gap;
-    put_posted(out, header, s.calls, rows, s.count, gap)
+    let user = s.user;
+    put_posted(out, header, s.calls, s.part, rows, s.count, gap, user)
 }
 
 // Refused at a line, and zeros.
@@ -74,9 +76,11 @@ fn bad_line(line: usize) -> Posted
     let statement = Statement {
         calls: 0,
         gap: SignedFen(0),
+        user: SignedFen(0),
         count: 0,
         rows,
         fault: Fault::NoFault,
+        part: 0,
         header: Header {
             area: 0,
             year: 0,
@@ -99,22 +103,29 @@ pub fn read_posted(text: &[u8]) -> Posted
     }
     let members = rows_at(text, head.next);
     let count = members.count;
-    let total = total_at(text, members.next);
+    let total = sum_at(text, members.next, b"total ");
     if !total.is {
         return bad_line(count + 1);
     }
-    if total.next < text.len() {
+    let last = sum_at(text, total.next, b"user ");
+    if !last.is {
         return bad_line(count + 2);
+    }
+    if last.next < text.len() {
+        return bad_line(count + 3);
     }
     let header = head.header;
     let rows = members.rows;
-    let gap = total.gap;
+    let gap = total.amount;
+    let user = last.amount;
     let statement = Statement {
         calls: head.calls,
         gap,
+        user,
         count,
         rows,
         fault: Fault::NoFault,
+        part: head.part,
         header,
     };
     Posted {

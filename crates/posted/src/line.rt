@@ -1,7 +1,7 @@
 // The lines of a text, each judged by itself: its numbers are taken, what they would be printed as is compared with it.
 use crate::put::put_head;
 use crate::put::put_row;
-use crate::put::put_total;
+use crate::put::put_sum;
 use crate::taken::begins;
 use crate::taken::behind;
 use crate::taken::field_at;
@@ -18,12 +18,13 @@ use units::Thousandths;
 ghost use mathlib.Core.Path.{_≡_};
 ghost use Prim.Native.Nat.{_^_, _≤_, _<_};
 ghost use lib.ListN.{length};
-ghost use Rattle.posted.specs.Inner.{EarnedIs, CarriedIs, HeadIs, RowIs, TotalIs, HeadAt, RowAt, TotalAt, RowsAt};
+ghost use Rattle.posted.specs.Inner.{EarnedIs, CarriedIs, HeadIs, RowIs, SumIs, HeadAt, RowAt, SumAt, RowsAt};
 
 // The numbers of a first line.
 pub struct Heads {
-    pub header: Header,
     pub calls: usize,
+    pub part: u32,
+    pub header: Header,
 }
 
 // The numbers of the two halves of a member's line.
@@ -47,6 +48,7 @@ pub struct Carried {
 pub struct HeadLine {
     pub calls: usize,
     pub next: usize,
+    pub part: u32,
     pub header: Header,
     pub is: bool,
 }
@@ -57,8 +59,8 @@ pub struct RowLine {
     pub is: bool,
 }
 
-pub struct TotalLine {
-    pub gap: SignedFen,
+pub struct SumLine {
+    pub amount: SignedFen,
     pub next: usize,
     pub is: bool,
 }
@@ -97,13 +99,15 @@ fn heads_at(text: &[u8], at: usize) -> Heads
     let b = field_at(text, a.next, 6);
     let c = field_at(text, b.next, 7);
     let d = field_at(text, c.next, 7);
+    let e = field_at(text, d.next, 6);
     Heads {
+        calls: d.value as usize,
+        part: in_32(e.value),
         header: Header {
             area: in_8(a.value),
             year: in_16(b.value),
             month: in_8(c.value),
         },
-        calls: d.value as usize,
     }
 }
 
@@ -167,13 +171,14 @@ pub fn head_at(text: &[u8], at: usize) -> HeadLine
 {
     let h = heads_at(text, at);
     let header = h.header;
-    let mut line = [0u8; 106];
-    let k = put_head(&mut line, 0, header, h.calls);
+    let mut line = [0u8; 132];
+    let k = put_head(&mut line, 0, header, h.calls, h.part);
     let is = begins(text, at, &line[..k]);
     let next = behind(text, at, k);
     HeadLine {
         calls: h.calls,
         next,
+        part: h.part,
         header,
         is,
     }
@@ -191,24 +196,26 @@ pub fn row_at(text: &[u8], at: usize) -> RowLine
     RowLine { row, next, is }
 }
 
-fn total_of(text: &[u8], at: usize) -> i64
+fn sum_of(text: &[u8], at: usize, name: usize) -> i64
     requires { ⌜ at ≤ length (now text) ⌝ }
-    ensures { λ r. ⌜ TotalIs (now (text .entry)) at r ⌝ }
+    ensures { λ r. ⌜ SumIs name (now (text .entry)) at r ⌝ }
 {
-    let n = signed_field_at(text, at, 6);
+    let n = signed_field_at(text, at, name);
     n.value
 }
 
-pub fn total_at(text: &[u8], at: usize) -> TotalLine
+// The line of R or of the user's amount, by its name.
+pub fn sum_at(text: &[u8], at: usize, name: &[u8]) -> SumLine
     requires { ⌜ at ≤ length (now text) ⌝ }
-    ensures { λ r. ⌜ TotalAt (now (text .entry)) at r ⌝ }
+    requires { ⌜ length (now name) ≤ 6 ⌝ }
+    ensures { λ r. ⌜ SumAt (now (name .entry)) (now (text .entry)) at r ⌝ }
 {
-    let gap = SignedFen(total_of(text, at));
+    let amount = SignedFen(sum_of(text, at, name.len()));
     let mut line = [0u8; 27];
-    let k = put_total(&mut line, 0, gap);
+    let k = put_sum(&mut line, 0, name, amount);
     let is = begins(text, at, &line[..k]);
     let next = behind(text, at, k);
-    TotalLine { gap, next, is }
+    SumLine { amount, next, is }
 }
 
 pub fn rows_at(text: &[u8], at: usize) -> RowLines

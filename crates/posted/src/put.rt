@@ -12,9 +12,10 @@ ghost use Prim.Native.Nat.{_+_, _*_, _≤_};
 ghost use lib.ListN.{length, take};
 ghost use Rattle.register.specs.Register.{mostEntries};
 ghost use Rattle.render.specs.Inner.{Puts};
-ghost use Rattle.posted.specs.Posted.{headText, earnedText, carriedText, rowText, rowsText, totalText};
-ghost use Rattle.posted.specs.Inner.{dateText, mostDate, whoText, mostWho, loadText, mostLoad};
-ghost use Rattle.posted.specs.Posted.{mostHead, mostEarned, mostCarried, mostRow, mostTotal, mostPosted};
+ghost use Rattle.render.specs.Room.{mostDecimal};
+ghost use Rattle.posted.specs.Posted.{headText, earnedText, carriedText, rowText, rowsText, totalText, userText};
+ghost use Rattle.posted.specs.Inner.{dateText, mostDate, whoText, mostWho, loadText, mostLoad, sumText};
+ghost use Rattle.posted.specs.Posted.{mostHead, mostEarned, mostCarried, mostRow, mostPosted};
 
 fn put_date(out: &mut [u8], at: usize, h: Header) -> usize
     requires { ⌜ at + mostDate ≤ length (now out) ⌝ }
@@ -25,13 +26,14 @@ fn put_date(out: &mut [u8], at: usize, h: Header) -> usize
     put_field(out, b, b" month ", h.month as u64)
 }
 
-pub fn put_head(out: &mut [u8], at: usize, h: Header, calls: usize) -> usize
+pub fn put_head(out: &mut [u8], at: usize, h: Header, calls: usize, part: u32) -> usize
     requires { ⌜ at + mostHead ≤ length (now out) ⌝ }
-    ensures { λ r. ⌜ Puts mostHead (now (out .entry)) at (headText h calls) (now (out .exit)) r ⌝ }
+    ensures { λ r. ⌜ Puts mostHead (now (out .entry)) at (headText h calls part) (now (out .exit)) r ⌝ }
 {
     let a = put_date(out, at, h);
     let b = put_field(out, a, b" calls ", calls as u64);
-    put_word(out, b, b"\n")
+    let c = put_field(out, b, b" part ", part as u64);
+    put_word(out, c, b"\n")
 }
 
 fn put_who(out: &mut [u8], at: usize, r: Row) -> usize
@@ -100,11 +102,12 @@ fn put_rows(out: &mut [u8], at: usize, rows: [Row; MOST_ENTRIES], count: usize) 
     next
 }
 
-pub fn put_total(out: &mut [u8], at: usize, gap: SignedFen) -> usize
-    requires { ⌜ at + mostTotal ≤ length (now out) ⌝ }
-    ensures { λ next. ⌜ Puts mostTotal (now (out .entry)) at (totalText (gap .0)) (now (out .exit)) next ⌝ }
+// A line of one signed number behind a name.
+pub fn put_sum(out: &mut [u8], at: usize, name: &[u8], amount: SignedFen) -> usize
+    requires { ⌜ at + length (now name) + mostDecimal + 1 ≤ length (now out) ⌝ }
+    ensures { λ next. ⌜ Puts (length (now (name .entry)) + mostDecimal + 1) (now (out .entry)) at (sumText (now (name .entry)) (amount .0)) (now (out .exit)) next ⌝ }
 {
-    let next = put_money(out, at, b"total ", gap);
+    let next = put_money(out, at, name, amount);
     put_word(out, next, b"\n")
 }
 
@@ -112,14 +115,17 @@ pub fn put_posted(
     out: &mut [u8],
     h: Header,
     calls: usize,
+    part: u32,
     rows: [Row; MOST_ENTRIES],
     count: usize,
     gap: SignedFen,
+    user: SignedFen,
 ) -> usize
     requires { ⌜ mostPosted ≤ length (now out) ⌝ }
-    ensures { λ next. ⌜ Puts mostPosted (now (out .entry)) 0 (headText h calls ++ rowsText (take count rows) ++ totalText (gap .0)) (now (out .exit)) next ⌝ }
+    ensures { λ next. ⌜ Puts mostPosted (now (out .entry)) 0 (headText h calls part ++ rowsText (take count rows) ++ totalText (gap .0) ++ userText (user .0)) (now (out .exit)) next ⌝ }
 {
-    let a = put_head(out, 0, h, calls);
+    let a = put_head(out, 0, h, calls, part);
     let b = put_rows(out, a, rows, seen(count));
-    put_total(out, b, gap)
+    let c = put_sum(out, b, b"total ", gap);
+    put_sum(out, c, b"user ", user)
 }

@@ -28,17 +28,11 @@ same-length c = search needs
 
 returns-3 : tie.Need-returns-3
 returns-3 c =
-    let a = c .before .before .before .before .before .before .before .before .before .before .before .args in
-    let yes = sym (c .before .before .before .before .before .before .before .before .is-settled .ensures) ∙ not-false _ (c .before .before .before .before .before .before .before .if2 .left) in
-    rendered mostPosted (c .before .before .before .before .before .before .before .before .before .if1 .left) (same-put (settled-text (a .s) yes) (c .before .before .put-posted .ensures))
+    let i = c .before .before .before .before .before .before .before .before .before in
+    let yes = sym (i .is-settled .ensures) ∙ not-false _ (c .before .before .before .before .before .before .before .before .if2 .left) in
+    rendered mostPosted (i .before .if1 .left) (same-put (settled-text (i .before .before .before .args .s) yes) (c .before .before .put-posted .ensures))
 
 pub posted-text-spec : {M : Type 1} → statement M
 posted-text-spec =
     tie.close
-    (tie.spec
-    returns
-    is-settled-requires
-    returns-2
-    put-posted-requires
-    same-length
-    returns-3)
+    (tie.spec returns is-settled-requires returns-2 put-posted-requires same-length returns-3)

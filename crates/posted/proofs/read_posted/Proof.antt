@@ -1,6 +1,6 @@
 use native.Mathlib.Omega.{arith}
 use borrow.Author.Tests.{not-true, not-false}
-use Rattle.posted.proofs.Answers.{reads-no-head, reads-no-line, reads-no-end, reads-whole}
+use Rattle.posted.proofs.Answers.{reads-no-head, reads-no-line, reads-no-user, reads-no-end, reads-whole}
 use borrow.Author.Needs.{needs}
 use Rattle.posted.proofs.read_posted.Statement.{statement}
 use Rattle.posted.proofs.read_posted.Tie as tie
@@ -17,8 +17,11 @@ returns c = reads-no-head _ (c .before .before .before .head-at .result) (c .bef
 rows-at-requires : tie.Need-rows-at-requires
 rows-at-requires c κs = search needs
 
-total-at-requires : tie.Need-total-at-requires
-total-at-requires c κs = search needs
+slice-aggregate-sum-at : tie.Need-slice-aggregate-sum-at
+slice-aggregate-sum-at c = search needs
+
+sum-at-requires : tie.Need-sum-at-requires
+sum-at-requires c κs = search needs
 
 add-bad-line : tie.Need-add-bad-line
 add-bad-line c = search needs
@@ -28,9 +31,17 @@ bad-line-requires-2 c κs = search needs
 
 returns-2 : tie.Need-returns-2
 returns-2 c =
-    reads-no-line _ (c .before .before .before .before .before .before .before .head-at .result) (c .before .before .before .before .before .before .before .head-at .ensures)
-    (not-false _ (c .before .before .before .before .before .if1 .left)) (c .before .before .before .before .rows-at .result) (c .before .before .before .before .rows-at .ensures)
-    (c .before .before .before .total-at .result) (c .before .before .before .total-at .ensures) _ (not-true _ (c .before .if2 .taken)) (c .bad-line2 .ensures)
+    let g = c .before .before .before in
+    let l = g .before .before in
+    let h = l .before .before .before in
+    reads-no-line _ (h .head-at .result) (h .head-at .ensures) (not-false _ (l .before .if1 .left)) (l .rows-at .result) (l .rows-at .ensures) (g .sum-at .result) (g .sum-at .ensures) _
+    (not-true _ (c .before .if2 .taken)) (c .bad-line2 .ensures)
+
+slice-aggregate-sum-at-2 : tie.Need-slice-aggregate-sum-at-2
+slice-aggregate-sum-at-2 c = search needs
+
+sum-at-requires-2 : tie.Need-sum-at-requires-2
+sum-at-requires-2 c κs = search needs
 
 add-bad-line-2 : tie.Need-add-bad-line-2
 add-bad-line-2 c = search needs
@@ -40,19 +51,39 @@ bad-line-requires-3 c κs = search needs
 
 returns-3 : tie.Need-returns-3
 returns-3 c =
-    reads-no-end _ (c .before .before .before .before .before .before .before .before .before .head-at .result)
-    (c .before .before .before .before .before .before .before .before .before .head-at .ensures) (not-false _ (c .before .before .before .before .before .before .before .if1 .left))
-    (c .before .before .before .before .before .before .rows-at .result) (c .before .before .before .before .before .before .rows-at .ensures)
-    (c .before .before .before .before .before .total-at .result) (c .before .before .before .before .before .total-at .ensures) (not-false _ (c .before .before .before .if2 .left)) _
-    (omega arith) (c .bad-line3 .ensures)
+    let u = c .before .before .before in
+    let g = u .before .before .before .before in
+    let l = g .before .before in
+    let h = l .before .before .before in
+    reads-no-user _ (h .head-at .result) (h .head-at .ensures) (not-false _ (l .before .if1 .left)) (l .rows-at .result) (l .rows-at .ensures) (g .sum-at .result) (g .sum-at .ensures)
+    (not-false _ (u .before .before .if2 .left)) (u .sum-at2 .result) (u .sum-at2 .ensures) _ (not-true _ (c .before .if3 .taken)) (c .bad-line3 .ensures)
+
+add-bad-line-3 : tie.Need-add-bad-line-3
+add-bad-line-3 c = search needs
+
+bad-line-requires-4 : tie.Need-bad-line-requires-4
+bad-line-requires-4 c κs = search needs
 
 returns-4 : tie.Need-returns-4
 returns-4 c =
-    reads-whole _ (c .before .before .before .before .before .before .before .before .before .before .before .head-at .result)
-    (c .before .before .before .before .before .before .before .before .before .before .before .head-at .ensures)
-    (not-false _ (c .before .before .before .before .before .before .before .before .before .if1 .left)) (c .before .before .before .before .before .before .before .before .rows-at .result)
-    (c .before .before .before .before .before .before .before .before .rows-at .ensures) (c .before .before .before .before .before .before .before .total-at .result)
-    (c .before .before .before .before .before .before .before .total-at .ensures) (not-false _ (c .before .before .before .before .before .if2 .left)) (omega arith)
+    let u = c .before .before .before .before .before in
+    let g = u .before .before .before .before in
+    let l = g .before .before in
+    let h = l .before .before .before in
+    reads-no-end _ (h .head-at .result) (h .head-at .ensures) (not-false _ (l .before .if1 .left)) (l .rows-at .result) (l .rows-at .ensures) (g .sum-at .result) (g .sum-at .ensures)
+    (not-false _ (u .before .before .if2 .left)) (u .sum-at2 .result) (u .sum-at2 .ensures) (not-false _ (c .before .before .before .if3 .left)) _ (omega arith) (c .bad-line4 .ensures)
+
+returns-5 : tie.Need-returns-5
+returns-5 c =
+    reads-whole _ (c .before .before .before .before .before .before .before .before .before .before .before .before .before .before .before .before .before .head-at .result)
+    (c .before .before .before .before .before .before .before .before .before .before .before .before .before .before .before .before .before .head-at .ensures)
+    (not-false _ (c .before .before .before .before .before .before .before .before .before .before .before .before .before .before .before .if1 .left))
+    (c .before .before .before .before .before .before .before .before .before .before .before .before .before .before .rows-at .result)
+    (c .before .before .before .before .before .before .before .before .before .before .before .before .before .before .rows-at .ensures)
+    (c .before .before .before .before .before .before .before .before .before .before .before .before .sum-at .result)
+    (c .before .before .before .before .before .before .before .before .before .before .before .before .sum-at .ensures)
+    (not-false _ (c .before .before .before .before .before .before .before .before .before .before .if2 .left)) (c .before .before .before .before .before .before .before .before .sum-at2 .result)
+    (c .before .before .before .before .before .before .before .before .sum-at2 .ensures) (not-false _ (c .before .before .before .before .before .before .if3 .left)) (omega arith)
 
 pub read-posted-spec : {M : Type 1} → statement M
 read-posted-spec =
@@ -62,11 +93,17 @@ read-posted-spec =
     bad-line-requires
     returns
     rows-at-requires
-    total-at-requires
+    slice-aggregate-sum-at
+    sum-at-requires
     add-bad-line
     bad-line-requires-2
     returns-2
+    slice-aggregate-sum-at-2
+    sum-at-requires-2
     add-bad-line-2
     bad-line-requires-3
     returns-3
-    returns-4)
+    add-bad-line-3
+    bad-line-requires-4
+    returns-4
+    returns-5)

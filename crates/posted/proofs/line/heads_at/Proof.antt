@@ -15,6 +15,12 @@ field-at-requires-3 c κs = search needs
 field-at-requires-4 : tie.Need-field-at-requires-4
 field-at-requires-4 c κs = search needs
 
+field-at-requires-5 : tie.Need-field-at-requires-5
+field-at-requires-5 c κs = search needs
+
+in-32-requires : tie.Need-in-32-requires
+in-32-requires c κs = search needs
+
 in-8-requires : tie.Need-in-8-requires
 in-8-requires c κs = search needs
 
@@ -26,12 +32,13 @@ in-8-requires-2 c κs = search needs
 
 returns : tie.Need-returns
 returns c =
-    let l = heads-reads _ _ _ _ _ _ _ _ _ (c .before .before .before .before .before .before .field-at .ensures) (c .before .before .before .before .before .field-at2 .ensures)
-    (c .before .before .before .before .field-at3 .ensures) (c .before .before .before .field-at4 .ensures)
-    (c .before .before .in-8 .ensures) (c .before .in-16 .ensures) (c .in-82 .ensures) in
+    let l = heads-reads _ _ _ _ _ _ _ _ _ _ _ (c .before .before .before .before .before .before .before .before .field-at .ensures)
+    (c .before .before .before .before .before .before .before .field-at2 .ensures) (c .before .before .before .before .before .before .field-at3 .ensures)
+    (c .before .before .before .before .before .field-at4 .ensures) (c .before .before .before .before .field-at5 .ensures)
+    (c .before .before .in-8 .ensures) (c .before .in-16 .ensures) (c .in-82 .ensures) (c .before .before .before .in-32 .ensures) in
     record {
-      fits = record { area = search needs; year = search needs; month = search needs; calls = search needs };
-      reads = λ g n rest fits cut. let p = l g n rest fits cut in (same-header g (p .0) (p .1) (p .2), p .3);
+      fits = record { area = search needs; year = search needs; month = search needs; calls = search needs; part = search needs };
+      reads = λ g n part rest fits cut. let p = l g n part rest fits cut in (same-header g (p .0) (p .1) (p .2), p .3, p .4);
     }
 
 pub heads-at-spec : {M : Type 1} → statement M
@@ -42,6 +49,8 @@ heads-at-spec =
     field-at-requires-2
     field-at-requires-3
     field-at-requires-4
+    field-at-requires-5
+    in-32-requires
     in-8-requires
     in-16-requires
     in-8-requires-2

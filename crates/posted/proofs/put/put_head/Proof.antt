@@ -13,6 +13,12 @@ slice-aggregate-put-field c = search needs
 put-field-requires : tie.Need-put-field-requires
 put-field-requires c κs = search needs
 
+slice-aggregate-put-field-2 : tie.Need-slice-aggregate-put-field-2
+slice-aggregate-put-field-2 c = search needs
+
+put-field-requires-2 : tie.Need-put-field-requires-2
+put-field-requires-2 c κs = search needs
+
 slice-aggregate-put-word : tie.Need-slice-aggregate-put-word
 slice-aggregate-put-word c = search needs
 
@@ -25,8 +31,9 @@ same-length c = search needs
 returns : tie.Need-returns
 unfolding headText
 returns c =
-    and-then (and-then (c .before .before .before .before .before .before .before .before .before .before .before .before .put-date .ensures)
-    (c .before .before .before .before .before .before .before .put-field .ensures)) (c .before .before .put-word .ensures)
+    let p = c .before .before .before .before .before .before .before in
+    let f = p .before .before .before .before .before in
+    and-then (and-then (and-then (f .before .before .before .before .before .put-date .ensures) (f .put-field .ensures)) (p .put-field2 .ensures)) (c .before .before .put-word .ensures)
 
 pub put-head-spec : {M : Type 1} → statement M
 put-head-spec =
@@ -35,6 +42,8 @@ put-head-spec =
     put-date-requires
     slice-aggregate-put-field
     put-field-requires
+    slice-aggregate-put-field-2
+    put-field-requires-2
     slice-aggregate-put-word
     put-word-requires
     same-length

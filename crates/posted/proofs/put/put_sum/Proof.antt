@@ -1,11 +1,7 @@
-use Rattle.posted.specs.Posted.{totalText}
 use Rattle.render.proofs.Placed.{and-then}
 use borrow.Author.Needs.{needs}
-use Rattle.posted.proofs.put.put_total.Statement.{statement}
-use Rattle.posted.proofs.put.put_total.Tie as tie
-
-slice-aggregate-put-money : tie.Need-slice-aggregate-put-money
-slice-aggregate-put-money c = search needs
+use Rattle.posted.proofs.put.put_sum.Statement.{statement}
+use Rattle.posted.proofs.put.put_sum.Tie as tie
 
 put-money-requires : tie.Need-put-money-requires
 put-money-requires c κs = search needs
@@ -20,16 +16,9 @@ same-length : tie.Need-same-length
 same-length c = search needs
 
 returns : tie.Need-returns
-unfolding totalText
 returns c = and-then (c .before .before .before .before .before .before .before .put-money .ensures) (c .before .before .put-word .ensures)
 
-pub put-total-spec : {M : Type 1} → statement M
-put-total-spec =
+pub put-sum-spec : {M : Type 1} → statement M
+put-sum-spec =
     tie.close
-    (tie.spec
-    slice-aggregate-put-money
-    put-money-requires
-    slice-aggregate-put-word
-    put-word-requires
-    same-length
-    returns)
+    (tie.spec put-money-requires slice-aggregate-put-word put-word-requires same-length returns)
