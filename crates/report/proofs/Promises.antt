@@ -21,7 +21,8 @@ use Rattle.month.specs.Settling.{MonthGiven, blankRow, filledRows, settling}
 use Rattle.month.specs.Outcomes.{linesIn, grainsIn}
 use Rattle.month.proofs.Accepted.{rowsSettled, passed, length-rows}
 use Rattle.month.proofs.Promises.{amounts-zero}
-use Rattle.report.specs.Totals.{fenPlus, dueOf, owedOf, withRow, totalsOf}
+use Rattle.report.specs.declared.totals.Totals.{Totals}
+use Rattle.report.specs.Totals.{fenPlus, dueOf, owedOf, withRow, withUser, totalsOf}
 use Rattle.report.specs.Texts.{balanceText}
 
 -- Two outcomes allowed by a contract coincide: the buffer byte by byte, and the answer.
@@ -109,29 +110,35 @@ even m =
     let z : m - m ≡ 0 = omega arith in
     rw (le-ltb m m (omega arith)) (ap yuan z ∙ none-left)
 
--- THE SUM OF ALL AMOUNTS below a settled month's table is 0.00.
-pub amounts-told : (g : MonthGiven) → settling g .fault ≡ NoFault
-    → balanceText (totalsOf (settling g .rows) (min (settling g .count) 64) .due) (totalsOf (settling g .rows) (min (settling g .count) 64) .owed) ≡ word "0.00"
-unfolding filledRows
+-- what is due and what is owed below a month's table, the user's amount included
+abbrev told : Statement → Totals
+told s = withUser (totalsOf (s .rows) (min (s .count) 64)) (s .user .0)
+
+-- THE SUM OF ALL AMOUNTS below a settled month's table, the user's among them, is 0.00.
+pub amounts-told : (g : MonthGiven) → settling g .fault ≡ NoFault → balanceText (told (settling g) .due) (told (settling g) .owed) ≡ word "0.00"
+unfolding filledRows withUser fenPlus
 amounts-told g none =
     let p = passed g none in
     let ls = linesIn g in
     let xs = rowsSettled g in
     let zs = replicate (64 - length xs) blankRow in
-    let long : length xs ≡ length ls = length-rows (below ls) ls (grainsIn g) (g .ramped) (sharing ls .parts) in
-    let few : length ls ≤ 64 = taken-list ls (p .shared) .few in
-    let rows : settling g .rows ≡ xs ++ zs = ap (λ (s : Statement). s .rows) (p .is) in
+    let all = settling g .rows in
+    let user = settling g .user .0 in
+    let long : length xs ≡ length ls = length-rows (below ls) ls (grainsIn g) (g .ramped) (sharing (g .part) ls .parts) in
+    let few : length ls ≤ 64 = taken-list (g .part) ls (p .shared) .few in
+    let rows : all ≡ xs ++ zs = ap (λ (s : Statement). s .rows) (p .is) in
     let said : settling g .count ≡ length ls = ap (λ (s : Statement). s .count) (p .is) in
     let count : min (settling g .count) 64 ≡ length xs = omega arith in
     let room : length xs ≤ length (xs ++ zs) = omega (arith, length-append xs zs) in
     let front : take (length xs) (xs ++ zs) ≡ xs = take-at xs zs (length xs) refl in
-    let same : dueAll (settling g .rows) ≡ owedAll (settling g .rows) =
-    level (dueAll (settling g .rows)) (owedAll (settling g .rows)) (sym (balance (settling g .rows)) ∙ amounts-zero g none) in
-    let due : dueAll (settling g .rows) ≡ dueAll xs + dueAll zs = ap (λ (rs : List Row). dueAll rs) rows ∙ due-append xs zs in
-    let owed : owedAll (settling g .rows) ≡ owedAll xs + owedAll zs = ap (λ (rs : List Row). owedAll rs) rows ∙ owed-append xs zs in
-    let equal : owedAll xs ≡ dueAll xs = omega (arith, due-blank (64 - length xs), owed-blank (64 - length xs)) in
+    let same : dueOf user + dueAll all ≡ owedOf user + owedAll all =
+    level (dueOf user + dueAll all) (owedOf user + owedAll all)
+    (sym (one-more user (dueAll all) (owedAll all)) ∙ ap (λ (z : ℤ). user +ℤ z) (sym (balance all)) ∙ +ℤ-comm user (sumℤ (map (λ r. r .amount .0) all)) ∙ amounts-zero g none) in
+    let due : dueAll all ≡ dueAll xs + dueAll zs = ap (λ (rs : List Row). dueAll rs) rows ∙ due-append xs zs in
+    let owed : owedAll all ≡ owedAll xs + owedAll zs = ap (λ (rs : List Row). owedAll rs) rows ∙ owed-append xs zs in
+    let equal : owedAll xs + owedOf user ≡ dueAll xs + dueOf user = omega (arith, due-blank (64 - length xs), owed-blank (64 - length xs)) in
     let d = ap₂ (λ (rs : List Row) (n : ℕ). totalsOf rs n .due) rows count ∙ due-told (xs ++ zs) (length xs) room ∙ ap (λ (rs : List Row). min (dueAll rs) top) front in
-    let o =
-    ap₂ (λ (rs : List Row) (n : ℕ). totalsOf rs n .owed) rows count ∙ owed-told (xs ++ zs) (length xs) room
-    ∙ ap (λ (rs : List Row). min (owedAll rs) top) front ∙ ap (λ (n : ℕ). min n top) equal in
-    ap₂ balanceText d o ∙ even (min (dueAll xs) top)
+    let o = ap₂ (λ (rs : List Row) (n : ℕ). totalsOf rs n .owed) rows count ∙ owed-told (xs ++ zs) (length xs) room ∙ ap (λ (rs : List Row). min (owedAll rs) top) front in
+    ap₂ balanceText (ap (λ (n : ℕ). min (n + dueOf user) top) d ∙ held (dueAll xs) (dueOf user))
+    (ap (λ (n : ℕ). min (n + owedOf user) top) o ∙ held (owedAll xs) (owedOf user) ∙ ap (λ (n : ℕ). min n top) equal)
+    ∙ even (min (dueAll xs + dueOf user) top)

@@ -13,7 +13,7 @@ use Rattle.month.specs.declared.Row.{Row}
 use Rattle.month.specs.declared.Statement.{Statement}
 use Rattle.month.specs.Settling.{blankRow}
 use Rattle.report.specs.declared.totals.Totals.{Totals}
-use Rattle.report.specs.Totals.{totalsOf}
+use Rattle.report.specs.Totals.{withUser, totalsOf}
 
 -- a member, and how many ramping hours its file has
 unfoldable pub whoText : Row → List ℕ
@@ -40,21 +40,27 @@ unfoldable pub rowsText : List Row → ℕ → List ℕ
 rowsText rows zero = []
 rowsText rows (suc n) = rowsText rows n ++ rowText (getD rows n blankRow)
 
+-- the user's line: its amount
+unfoldable pub userText : ℤ → List ℕ
+userText user = signedYuanField "user amount " user ++ word "\n"
+
 -- what is due less what is owed
 unfoldable pub balanceText : ℕ → ℕ → List ℕ
 balanceText due owed = cond (ltb due owed) (word "-" ++ yuan (owed - due)) (yuan (due - owed))
 
--- C, A and R
-unfoldable pub sumsText : ℤ → Totals → List ℕ
-sumsText gap t = yuanField "all compensation " (t .compensation) ++ yuanField " assessment " (t .assessment) ++ signedYuanField " R " gap
+-- C, A, R and the generators' part of it
+unfoldable pub sumsText : ℤ → ℕ → Totals → List ℕ
+sumsText gap part t =
+    yuanField "all compensation " (t .compensation) ++ yuanField " assessment " (t .assessment) ++ signedYuanField " R " gap ++ field " part " part
 
 -- the same, and the sum of all amounts
-unfoldable pub totalsText : ℤ → Totals → List ℕ
-totalsText gap t = sumsText gap t ++ word " amounts " ++ balanceText (t .due) (t .owed) ++ word "\n"
+unfoldable pub totalsText : ℤ → ℕ → Totals → List ℕ
+totalsText gap part t = sumsText gap part t ++ word " amounts " ++ balanceText (t .due) (t .owed) ++ word "\n"
 
--- a line for each of so many members, and the sums
+-- a line for each of so many members, the user's, and the sums with it
 unfoldable pub monthOf : Statement → ℕ → List ℕ
-monthOf s count = rowsText (s .rows) count ++ totalsText (s .gap .0) (totalsOf (s .rows) count)
+monthOf s count =
+    rowsText (s .rows) count ++ userText (s .user .0) ++ totalsText (s .gap .0) (s .part) (withUser (totalsOf (s .rows) count) (s .user .0))
 
 -- the month of all members, 64 at most
 unfoldable pub monthText : Statement → List ℕ
@@ -85,14 +91,17 @@ mostAmount = 16 + 2 * mostSignedYuan
 abbrev pub mostRow : ℕ
 mostRow = mostEarned + mostCarried + mostAmount
 
+abbrev pub mostUser : ℕ
+mostUser = 13 + mostSignedYuan
+
 abbrev pub mostSums : ℕ
-mostSums = 32 + 2 * mostYuan + mostSignedYuan
+mostSums = 38 + 2 * mostYuan + mostSignedYuan + mostDecimal
 
 abbrev pub mostTotals : ℕ
 mostTotals = mostSums + 10 + mostSignedYuan
 
 abbrev pub mostMonth : ℕ
-mostMonth = 64 * mostRow + mostTotals
+mostMonth = 64 * mostRow + mostUser + mostTotals
 
 -- besides these bytes the register's name
 abbrev pub mostNoLine : List ℕ → ℕ

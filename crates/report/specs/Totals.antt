@@ -31,6 +31,16 @@ withRow t r =
       owed = fenPlus (t .owed) (owedOf (r .amount .0));
     }
 
+-- the sums with the user's amount
+unfoldable pub withUser : Totals → ℤ → Totals
+withUser t user =
+    record {
+      compensation = t .compensation;
+      assessment = t .assessment;
+      due = fenPlus (t .due) (dueOf user);
+      owed = fenPlus (t .owed) (owedOf user);
+    }
+
 -- the sums of so many lines: C, A, what is due to members and what members owe
 unfoldable pub totalsOf : List Row → ℕ → Totals
 totalsOf rows zero = record { compensation = 0; assessment = 0; due = 0; owed = 0 }

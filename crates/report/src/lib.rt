@@ -18,8 +18,8 @@ ghost use Rattle.io.specs.Counts.{Counts};
 ghost use Rattle.render.specs.Inner.{Puts};
 ghost use Rattle.render.specs.Room.{Renders};
 ghost use Rattle.render.specs.Yuan.{mostSignedYuan};
-ghost use Rattle.report.specs.Texts.{whoText, earnedText, carriedText, amountText, rowText, rowsText, balanceText, sumsText, totalsText, monthOf, monthText, noLineText, aboveText};
-ghost use Rattle.report.specs.Texts.{mostWho, mostEarned, mostCarried, mostAmount, mostRow, mostSums, mostTotals, mostMonth, mostNoLine, mostAbove};
+ghost use Rattle.report.specs.Texts.{whoText, earnedText, carriedText, amountText, rowText, rowsText, userText, balanceText, sumsText, totalsText, monthOf, monthText, noLineText, aboveText};
+ghost use Rattle.report.specs.Texts.{mostWho, mostEarned, mostCarried, mostAmount, mostRow, mostUser, mostSums, mostTotals, mostMonth, mostNoLine, mostAbove};
 
 pub mod hourly;
 mod totals;
@@ -27,9 +27,10 @@ pub mod why;
 
 use totals::Totals;
 use totals::totals_of;
+use totals::with_user;
 
-// The most bytes of a month: 280 for each of 64 members, and 136 of the sums.
-pub const MOST_MONTH: usize = 18056;
+// The most bytes of a month: 280 for each of 64 members, 37 of the user's line, and 162 of the sums.
+pub const MOST_MONTH: usize = 18119;
 
 // The most bytes besides the register's name.
 pub const MOST_NO_LINE: usize = 50;
@@ -103,6 +104,14 @@ fn put_rows(out: &mut [u8], rows: [Row; MOST_ENTRIES], count: usize) -> usize
     next
 }
 
+fn put_user(out: &mut [u8], at: usize, user: SignedFen) -> usize
+    requires { ⌜ at + mostUser ≤ length (now out) ⌝ }
+    ensures { λ r. ⌜ Puts mostUser (now (out .entry)) at (userText (user .0)) (now (out .exit)) r ⌝ }
+{
+    let a = put_signed_yuan_field(out, at, b"user amount ", user.0);
+    put_word(out, a, b"\n")
+}
+
 fn put_balance(out: &mut [u8], at: usize, due: u64, owed: u64) -> usize
     requires { ⌜ at + mostSignedYuan ≤ length (now out) ⌝ }
     ensures { λ r. ⌜ Puts mostSignedYuan (now (out .entry)) at (balanceText due owed) (now (out .exit)) r ⌝ }
@@ -114,20 +123,21 @@ fn put_balance(out: &mut [u8], at: usize, due: u64, owed: u64) -> usize
     put_yuan(out, at, due - owed)
 }
 
-fn put_sums(out: &mut [u8], at: usize, gap: SignedFen, t: Totals) -> usize
+fn put_sums(out: &mut [u8], at: usize, gap: SignedFen, part: u32, t: Totals) -> usize
     requires { ⌜ at + mostSums ≤ length (now out) ⌝ }
-    ensures { λ r. ⌜ Puts mostSums (now (out .entry)) at (sumsText (gap .0) t) (now (out .exit)) r ⌝ }
+    ensures { λ r. ⌜ Puts mostSums (now (out .entry)) at (sumsText (gap .0) part t) (now (out .exit)) r ⌝ }
 {
     let a = put_yuan_field(out, at, b"all compensation ", t.compensation);
     let b = put_yuan_field(out, a, b" assessment ", t.assessment);
-    put_signed_yuan_field(out, b, b" R ", gap.0)
+    let c = put_signed_yuan_field(out, b, b" R ", gap.0);
+    put_field(out, c, b" part ", part as u64)
 }
 
-fn put_totals(out: &mut [u8], at: usize, gap: SignedFen, t: Totals) -> usize
+fn put_totals(out: &mut [u8], at: usize, gap: SignedFen, part: u32, t: Totals) -> usize
     requires { ⌜ at + mostTotals ≤ length (now out) ⌝ }
-    ensures { λ r. ⌜ Puts mostTotals (now (out .entry)) at (totalsText (gap .0) t) (now (out .exit)) r ⌝ }
+    ensures { λ r. ⌜ Puts mostTotals (now (out .entry)) at (totalsText (gap .0) part t) (now (out .exit)) r ⌝ }
 {
-    let a = put_sums(out, at, gap, t);
+    let a = put_sums(out, at, gap, part, t);
     let b = put_word(out, a, b" amounts ");
     let c = put_balance(out, b, t.due, t.owed);
     put_word(out, c, b"\n")
@@ -140,9 +150,12 @@ fn put_month(out: &mut [u8], s: Statement, count: usize) -> usize
 {
     let rows = s.rows;
     let gap = s.gap;
+    let user = s.user;
     let t = totals_of(rows, count);
-    let next = put_rows(out, rows, count);
-    put_totals(out, next, gap, t)
+    let all = with_user(t, user);
+    let a = put_rows(out, rows, count);
+    let b = put_user(out, a, user);
+    put_totals(out, b, gap, s.part, all)
 }
 
 // The month's table.

@@ -2,9 +2,10 @@
 use month::Row;
 use register::MOST_ENTRIES;
 use render::size;
+use units::SignedFen;
 ghost use mathlib.Core.Path.{_≡_};
 ghost use Prim.Native.Nat.{_≤_};
-ghost use Rattle.report.specs.Totals.{fenPlus, dueOf, owedOf, withRow, totalsOf};
+ghost use Rattle.report.specs.Totals.{fenPlus, dueOf, owedOf, withRow, withUser, totalsOf};
 
 // C, A, what is due to members and what members owe, in fen.
 pub struct Totals {
@@ -53,6 +54,20 @@ fn with_row(t: Totals, r: Row) -> Totals
     Totals {
         compensation,
         assessment,
+        due,
+        owed,
+    }
+}
+
+// The sums with the user's amount.
+pub fn with_user(t: Totals, user: SignedFen) -> Totals
+    ensures { λ r. ⌜ r ≡ withUser t (user .0) ⌝ }
+{
+    let due = plus(t.due, due_of(user.0));
+    let owed = plus(t.owed, owed_of(user.0));
+    Totals {
+        compensation: t.compensation,
+        assessment: t.assessment,
         due,
         owed,
     }

@@ -1,5 +1,6 @@
-use mathlib.Core.Path.{ap}
+use mathlib.Core.Path.{_∙_, ap}
 use Rattle.report.specs.declared.totals.Totals.{Totals}
+use Rattle.report.specs.Totals.{withUser}
 use Rattle.report.specs.Texts.{totalsText, monthOf}
 use Rattle.render.proofs.Placed.{and-then, same-put}
 use borrow.Author.Needs.{needs}
@@ -9,8 +10,14 @@ use Rattle.report.proofs.put_month.Tie as tie
 totals-of-requires : tie.Need-totals-of-requires
 totals-of-requires c κs = search needs
 
+with-user-requires : tie.Need-with-user-requires
+with-user-requires c κs = search needs
+
 put-rows-requires : tie.Need-put-rows-requires
 put-rows-requires c κs = search needs
+
+put-user-requires : tie.Need-put-user-requires
+put-user-requires c κs = search needs
 
 put-totals-requires : tie.Need-put-totals-requires
 put-totals-requires c κs = search needs
@@ -21,13 +28,22 @@ same-length c = search needs
 returns : tie.Need-returns
 unfolding monthOf
 returns c =
-    let s = c .before .before .before .before .before .before .before .before .before .before .before .before .args .s in
-    let p = c .before .before .before .before .before .before .put-rows .ensures in
-    let q = c .before .before .before .before .before .before .before .before .totals-of .ensures in
-    let r = c .before .before .put-totals .ensures in
-    and-then p (same-put (ap (λ (t : Totals). totalsText (s .gap .0) t) q) r)
+    let s = c .before .before .before .before .before .before .before .before .before .before .before .before .before .before .before .before .before .before .args .s in
+    let p = c .before .before .before .before .before .before .before .before .before .before .put-rows .ensures in
+    let u = c .before .before .before .before .before .before .put-user .ensures in
+    let w = c .before .before .before .before .before .before .before .before .before .before .before .before .with-user .ensures in
+    let t = c .before .before .before .before .before .before .before .before .before .before .before .before .before .totals-of .ensures in
+    let q = w ∙ ap (λ (x : Totals). withUser x (s .user .0)) t in
+    and-then (and-then p u) (same-put (ap (λ (x : Totals). totalsText (s .gap .0) (s .part) x) q) (c .before .before .put-totals .ensures))
 
 pub put-month-spec : {M : Type 1} → statement M
 put-month-spec =
     tie.close
-    (tie.spec totals-of-requires put-rows-requires put-totals-requires same-length returns)
+    (tie.spec
+    totals-of-requires
+    with-user-requires
+    put-rows-requires
+    put-user-requires
+    put-totals-requires
+    same-length
+    returns)

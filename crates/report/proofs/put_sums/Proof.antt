@@ -24,18 +24,25 @@ slice-aggregate-put-signed-yuan-field c = search needs
 put-signed-yuan-field-requires : tie.Need-put-signed-yuan-field-requires
 put-signed-yuan-field-requires c κs = search needs
 
+slice-aggregate-put-field : tie.Need-slice-aggregate-put-field
+slice-aggregate-put-field c = search needs
+
+put-field-requires : tie.Need-put-field-requires
+put-field-requires c κs = search needs
+
 same-length : tie.Need-same-length
 same-length c = search needs
 
 returns : tie.Need-returns
 unfolding sumsText
 returns c =
-    let p = c .before .before .before .before .before .before .before .before .before .before .before .before .before .put-yuan-field .ensures in
-    let q = c .before .before .before .before .before .before .before .before .put-yuan-field2 .ensures in
-    let r = c .before .before .before .before .before .before .before .before .before .before .before .before .before .before .before .before .before .args .gap .0 in
-    let s = c .before .before .before .struct-told .given .0 .1 in
-    let t = c .before .before .put-signed-yuan-field .ensures in
-    and-then (and-then p q) (rw (toZ-ofZ w64 r (record { sfits = s })) at t)
+    let p = c .before .before .before .before .before .before .before .before .before .before .before .before .before .before .before .before .before .before .put-yuan-field .ensures in
+    let q = c .before .before .before .before .before .before .before .before .before .before .before .before .before .put-yuan-field2 .ensures in
+    let r =
+    c .before .before .before .before .before .before .before .before .before .before .before .before .before .before .before .before .before .before .before .before .before .before .args .gap .0 in
+    let s = c .before .before .before .before .before .before .before .before .struct-told .given .0 .1 in
+    let t = c .before .before .before .before .before .before .before .put-signed-yuan-field .ensures in
+    and-then (and-then (and-then p q) (rw (toZ-ofZ w64 r (record { sfits = s })) at t)) (c .before .before .put-field .ensures)
 
 pub put-sums-spec : {M : Type 1} → statement M
 put-sums-spec =
@@ -47,5 +54,7 @@ put-sums-spec =
     put-yuan-field-requires-2
     slice-aggregate-put-signed-yuan-field
     put-signed-yuan-field-requires
+    slice-aggregate-put-field
+    put-field-requires
     same-length
     returns)

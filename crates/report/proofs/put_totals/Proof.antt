@@ -28,11 +28,12 @@ same-length c = search needs
 returns : tie.Need-returns
 unfolding totalsText
 returns c =
-    let p = c .before .before .before .before .before .before .before .before .before .before .before .before .before .before .before .before .put-sums .ensures in
-    let q = c .before .before .before .before .before .before .before .before .before .before .before .put-word .ensures in
-    let r = c .before .before .before .before .before .before .before .put-balance .ensures in
-    let s = c .before .before .put-word2 .ensures in
-    and-then (and-then (and-then p q) r) s
+    and-then
+    (and-then
+    (and-then (c .before .before .before .before .before .before .before .before .before .before .before .before .before .before .before .before .put-sums .ensures)
+    (c .before .before .before .before .before .before .before .before .before .before .before .put-word .ensures))
+    (c .before .before .before .before .before .before .before .put-balance .ensures))
+    (c .before .before .put-word2 .ensures)
 
 pub put-totals-spec : {M : Type 1} → statement M
 put-totals-spec =

@@ -1,0 +1,41 @@
+use mir.Syntax.{w64}
+use mir.ValLaws.{toZ-ofZ}
+use Rattle.report.specs.Texts.{userText}
+use Rattle.render.proofs.Placed.{and-then}
+use borrow.Author.Needs.{needs}
+use Rattle.report.proofs.put_user.Statement.{statement}
+use Rattle.report.proofs.put_user.Tie as tie
+
+slice-aggregate-put-signed-yuan-field : tie.Need-slice-aggregate-put-signed-yuan-field
+slice-aggregate-put-signed-yuan-field c = search needs
+
+put-signed-yuan-field-requires : tie.Need-put-signed-yuan-field-requires
+put-signed-yuan-field-requires c κs = search needs
+
+slice-aggregate-put-word : tie.Need-slice-aggregate-put-word
+slice-aggregate-put-word c = search needs
+
+put-word-requires : tie.Need-put-word-requires
+put-word-requires c κs = search needs
+
+same-length : tie.Need-same-length
+same-length c = search needs
+
+returns : tie.Need-returns
+unfolding userText
+returns c =
+    let s = c .before .before .before .before .before .before .before .before .struct-told .given .0 .1 in
+    let u = c .before .before .before .before .before .before .before .before .before .before .before .before .args .user .0 in
+    let t = c .before .before .before .before .before .before .before .put-signed-yuan-field .ensures in
+    and-then (rw (toZ-ofZ w64 u (record { sfits = s })) at t) (c .before .before .put-word .ensures)
+
+pub put-user-spec : {M : Type 1} → statement M
+put-user-spec =
+    tie.close
+    (tie.spec
+    slice-aggregate-put-signed-yuan-field
+    put-signed-yuan-field-requires
+    slice-aggregate-put-word
+    put-word-requires
+    same-length
+    returns)
