@@ -41,28 +41,39 @@ fn same_lines(x: [Line; 64], y: [Line; 64]) -> bool {
 }
 
 fn same(x: Taken, y: Taken) -> bool {
-    let told = (x.number == y.number) & (x.place == y.place) & (x.count == y.count);
+    let told = (x.number == y.number)
+        & (x.place == y.place)
+        & (x.part == y.part)
+        & (x.count == y.count);
     let a = x.lines;
     let b = y.lines;
     told & same_lines(a, b)
 }
 
 fn same_shared(x: Shared, y: Shared) -> bool {
-    let told = (x.number == y.number) & (x.place == y.place) & (x.gap.0 == y.gap.0);
+    let told = (x.number == y.number)
+        & (x.place == y.place)
+        & (x.gap.0 == y.gap.0)
+        & (x.user.0 == y.user.0);
     let a = x.lines;
     let b = y.lines;
     told & same_lines(a, b)
 }
 
 // Whether the array form and the lent form share the first `count` lines alike.
-fn forms_agree(lines: [Line; 64], count: usize) -> bool {
-    same_shared(share(lines, count), share_front(lines, count))
+fn forms_agree(part: u32, lines: [Line; 64], count: usize) -> bool {
+    same_shared(share(part, lines, count), share_front(part, lines, count))
 }
 
-// The same of the lines read, of all 64, and of one more than there can be: where fewer were read, both refuse.
+// The same of the lines read, of all 64, and of one more than there can be: where fewer were read, both refuse. So do they with a part above
+// the whole.
 fn both_forms(t: Taken) -> bool {
     let lines = t.lines;
-    forms_agree(lines, t.count) & forms_agree(lines, 64) & forms_agree(lines, 65)
+    let part = t.part;
+    let agree = forms_agree(part, lines, t.count)
+        & forms_agree(part, lines, 64)
+        & forms_agree(part, lines, 65);
+    agree & forms_agree(10_001, lines, t.count)
 }
 
 // The text read a byte at a time.
@@ -112,7 +123,7 @@ fn part_is(s: Shared, numbers: Numbers, i: usize) -> bool {
         let l = lines[i];
         let share = le::bits64(l.share.0);
         let amount = le::bits64(l.amount.0);
-        return (share == numbers.value(4 + 2 * i)) & (amount == numbers.value(5 + 2 * i));
+        return (share == numbers.value(5 + 2 * i)) & (amount == numbers.value(6 + 2 * i));
     }
     false
 }
@@ -127,17 +138,19 @@ fn parts_are(s: Shared, numbers: Numbers) -> bool {
     all
 }
 
-// 2 number place R, share amount for each line | text: the sharing of the text, of fourteen lines at the most.
+// 2 number place R user, share amount for each line | text: the sharing of the text, of thirteen lines at the most.
 fn sharing(numbers: Numbers, text: &[u8]) -> bool {
     let t = lines::read_text(text);
     let count = t.count;
     let s = t.shared();
     let named = if s.number == 0 { count } else { 0 };
-    if 14 < named {
+    if 13 < named {
         return false;
     }
-    let right = told(numbers, s.number, s.place) & (le::bits64(s.gap.0) == numbers.value(3));
-    right & (numbers.count == 4 + 2 * named) & parts_are(s, numbers)
+    let right = told(numbers, s.number, s.place)
+        & (le::bits64(s.gap.0) == numbers.value(3))
+        & (le::bits64(s.user.0) == numbers.value(4));
+    right & (numbers.count == 5 + 2 * named) & parts_are(s, numbers)
 }
 
 // 3 settled | text: whether the answer is known, whatever follows.
