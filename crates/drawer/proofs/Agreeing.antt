@@ -32,8 +32,9 @@ use Rattle.join.specs.Trees.{Plan, books, written, result, Room, OneMonth, Cove
 use Rattle.join.proofs.Trees.{same-month, treeOf, covers-over, month-sounds, heading}
 use Rattle.join.proofs.Orders.{calls, any-order}
 use Rattle.join.proofs.Without.{result-sound}
+use Rattle.drawer.specs.declared.stale.StaleRecord.{StaleRecord}
 use Rattle.drawer.specs.Stale.{isThis, isStale, isStaleAt, staleAt, staleOf, firstStale, nextStale, NothingListed, EachStands, NoneDiffer}
-use Rattle.drawer.proofs.Telling.{none-listed, none-told}
+use Rattle.drawer.proofs.Telling.{told-in, in-told, none-listed, none-told}
 use Rattle.drawer.proofs.Listing.{next-of}
 
 flip : (t : Bool) → not t ≡ false → t ≡ true
@@ -92,6 +93,24 @@ none-stale book joined = (of-none, to-none)
     to-none h =
         none-told (isStaleAt book joined) (staleAt book joined) (countAt book) 0
         (λ k l u. stands-fresh (callsOf joined) (recordAt book k) (h (recordAt book k) (at-calls book (countAt book) 0 k l (omega arith))))
+
+-- A record of a book is told exactly where it is not the one that stands for its key.
+pub told-exactly : (book joined : List ℕ) (k : ℕ) → k < countAt book
+    → ((x : StaleRecord) × In x (staleOf book joined 0) × (x .place ≡ k)) ↔ (recordOf (callKey (recordAt book k)) (callsOf joined) ≡ some (recordAt book k) → ⊥)
+unfolding staleOf isStaleAt staleAt
+told-exactly book joined k l = (from, to)
+  where
+    stale : (isStale (callsOf joined) (recordAt book k) ≡ true) ↔ (recordOf (callKey (recordAt book k)) (callsOf joined) ≡ some (recordAt book k) → ⊥)
+    stale = stale-exactly (callsOf joined) (recordAt book k)
+
+    from : (x : StaleRecord) × In x (staleOf book joined 0) × (x .place ≡ k) → recordOf (callKey (recordAt book k)) (callsOf joined) ≡ some (recordAt book k) → ⊥
+    from e =
+        let t = told-in (isStaleAt book joined) (staleAt book joined) (countAt book) 0 (e .0) (e .1) in
+        let p : t .k ≡ k = sym (ap (λ (x : StaleRecord). x .place) (t .is)) ∙ e .2 in
+        stale .0 (ap (isStaleAt book joined) (sym p) ∙ t .is-listed)
+
+    to : (recordOf (callKey (recordAt book k)) (callsOf joined) ≡ some (recordAt book k) → ⊥) → (x : StaleRecord) × In x (staleOf book joined 0) × (x .place ≡ k)
+    to n = (staleAt book joined k, in-told (isStaleAt book joined) (staleAt book joined) (countAt book) 0 k (omega arith) l (stale .1 n), refl)
 
 -- Sound books of one month and area
 module _ (h : Header) (bs : List (List ℕ)) (month : OneMonth h bs) where

@@ -6,3 +6,4 @@ pub mod Agreeing
 pub mod Reasons
 pub mod Scored
 pub mod Staying
+pub mod Story

@@ -36,7 +36,9 @@ returns c =
     let a = c .before .before .before .before .before .before .before .before .args in
     let t = c .before .before .stale-turn in
     let l = c .before .before .before .before .loop in
-    let hit = told-hit (isStaleAt (a .book .now) (a .joined .now)) (staleAt (a .book .now) (a .joined .now)) _ (l .at) (inside (c .before .before .before)) (sym (t .ensures .0) ∙ c .before .if1 .taken) in
+    let x = a .book .now in
+    let y = a .joined .now in
+    let hit = told-hit (isStaleAt x y) (staleAt x y) _ (l .at) (inside (c .before .before .before)) (sym (t .ensures .0) ∙ c .before .if1 .taken) in
     ap Next (t .ensures .1) ∙ ap firstStale (sym hit ∙ l .inv)
 
 add-at : tie.Need-add-at Inv-loop μ-loop
@@ -50,7 +52,9 @@ unfolding staleOf
 loop-again c =
     let a = c .before .before .before .before .before .before .before .args in
     let l = c .before .before .before .loop in
-    told-miss (isStaleAt (a .book .now) (a .joined .now)) (staleAt (a .book .now) (a .joined .now)) _ (l .at) (inside (c .before .before)) (sym (c .before .stale-turn .ensures .0) ∙ c .if1 .left)
+    let x = a .book .now in
+    let y = a .joined .now in
+    told-miss (isStaleAt x y) (staleAt x y) _ (l .at) (inside (c .before .before)) (sym (c .before .stale-turn .ensures .0) ∙ c .if1 .left)
     ∙ l .inv
 
 returns-2 : tie.Need-returns-2 Inv-loop μ-loop
@@ -58,7 +62,9 @@ unfolding staleOf firstStale
 returns-2 c =
     let a = c .before .before .before .before .before .args in
     let l = c .before .loop in
-    let end = told-end (isStaleAt (a .book .now) (a .joined .now)) (staleAt (a .book .now) (a .joined .now)) (countAt (a .book .now)) (l .at) (omega (arith, c .before .before .count-at .ensures .0)) in
+    let x = a .book .now in
+    let y = a .joined .now in
+    let end = told-end (isStaleAt x y) (staleAt x y) (countAt x) (l .at) (omega (arith, c .before .before .count-at .ensures .0)) in
     ap firstStale (sym end ∙ l .inv)
 
 pub stale-from-spec : {M : Type 1} → statement M
