@@ -31,7 +31,7 @@ use Rattle.join.proofs.Without.{result-sound, keys-of}
 use Rattle.join.proofs.Nothing.{rule-same}
 use Rattle.pair.specs.Screening.{passes, sameMonth, screen}
 use Rattle.pair.proofs.Screening.{screen-passes}
-use Rattle.drawer.specs.Nothing.{standsAgainst, isCovered, addsNothing, isListed, orStays, staying}
+use Rattle.drawer.specs.Nothing.{standsAgainst, isCovered, addsNothing, isSpare, orStays, staying}
 use Rattle.drawer.proofs.Agreeing.{joined-calls, joined-header}
 
 -- Covered is what stands against it
@@ -110,9 +110,9 @@ module _ (h : Header) where
       (rule-least (headerMinutes h) (map callsOf bs) k (month-sounds h bs m)) (rule-least (headerMinutes h) (map callsOf cs) k (month-sounds h cs n))
 
   -- a book that is listed changes nothing of what the others give
-  listed-same : (others : List (List ℕ)) (b : List ℕ) → OneMonth h (b ∷ others) → isListed others b ≡ true
+  listed-same : (others : List (List ℕ)) (b : List ℕ) → OneMonth h (b ∷ others) → isSpare others b ≡ true
       → (k : ℕ) → ruleOver (map callsOf (b ∷ others)) k ≡ ruleOver (map callsOf others) k
-  unfolding isListed
+  unfolding isSpare
   listed-same [] b m t k = absurd (true≢false (sym t))
   listed-same (o ∷ os) b m t k =
       rule-same (headerMinutes h) (callsOf b) (map callsOf (o ∷ os)) (month-sounds h (b ∷ o ∷ os) m) (treeFrom (callsOf o) (map callsOf os))
@@ -132,7 +132,7 @@ module _ (h : Header) where
   pub stays-in : (before bs : List (List ℕ)) (d : List ℕ) → In d (staying before bs) → In d bs
   unfolding staying orStays
   stays-in before [] d i = i
-  stays-in before (b ∷ bs) d i = go (stays-in (before ++ (b ∷ [])) bs d) (isListed (before ++ staying (before ++ (b ∷ [])) bs) b) i
+  stays-in before (b ∷ bs) d i = go (stays-in (before ++ (b ∷ [])) bs d) (isSpare (before ++ staying (before ++ (b ∷ [])) bs) b) i
     where
       go : (In d (staying (before ++ (b ∷ [])) bs) → In d bs) → (t : Bool)
           → In d (cond t (staying (before ++ (b ∷ [])) bs) (b ∷ staying (before ++ (b ∷ [])) bs)) → In d (b ∷ bs)
@@ -146,7 +146,7 @@ module _ (h : Header) where
   stays-rule : (before bs : List (List ℕ)) → OneMonth h (before ++ bs) → (k : ℕ) → ruleOver (map callsOf (before ++ staying before bs)) k ≡ ruleOver (map callsOf (before ++ bs)) k
   unfolding staying orStays
   stays-rule before [] m k = refl
-  stays-rule before (b ∷ bs) m k = go (stays-rule (before ++ (b ∷ [])) bs (subst (OneMonth h) (sym (append-assoc before (b ∷ []) bs)) m) k) (isListed (before ++ rest) b) refl
+  stays-rule before (b ∷ bs) m k = go (stays-rule (before ++ (b ∷ [])) bs (subst (OneMonth h) (sym (append-assoc before (b ∷ []) bs)) m) k) (isSpare (before ++ rest) b) refl
     where
       rest : List (List ℕ)
       rest = staying (before ++ (b ∷ [])) bs
@@ -166,7 +166,7 @@ module _ (h : Header) where
       front-month : OneMonth h (b ∷ before ++ rest)
       front-month = fewer (b ∷ before ++ rest) (before ++ (b ∷ rest)) between-month (in-front before b rest)
 
-      go : given ((before ++ (b ∷ [])) ++ rest) ≡ given ((before ++ (b ∷ [])) ++ bs) → (t : Bool) → isListed (before ++ rest) b ≡ t
+      go : given ((before ++ (b ∷ [])) ++ rest) ≡ given ((before ++ (b ∷ [])) ++ bs) → (t : Bool) → isSpare (before ++ rest) b ≡ t
           → given (before ++ cond t rest (b ∷ rest)) ≡ given (before ++ (b ∷ bs))
       go ih false e = kept ih
       go ih true e =
@@ -194,12 +194,12 @@ module _ (h : Header) (bs : List (List ℕ)) (month : OneMonth h bs) where
 
 -- One book always stays.
 pub one-stays : (b : List ℕ) (bs : List (List ℕ)) → staying [] (b ∷ bs) ≡ [] → ⊥
-unfolding staying orStays isListed
+unfolding staying orStays isSpare
 one-stays b bs = go (staying (b ∷ []) bs)
   where
-    go : (rest : List (List ℕ)) → cond (isListed rest b) rest (b ∷ rest) ≡ [] → ⊥
+    go : (rest : List (List ℕ)) → cond (isSpare rest b) rest (b ∷ rest) ≡ [] → ⊥
     go [] e = let z : _≡_ {A = ℕ} 0 1 = cc in omega arith
-    go (d ∷ ds) e = either (isListed (d ∷ ds) b) e
+    go (d ∷ ds) e = either (isSpare (d ∷ ds) b) e
       where
         either : (t : Bool) → cond t (d ∷ ds) (b ∷ d ∷ ds) ≡ [] → ⊥
         either true e = let z : _≡_ {A = ℕ} 0 1 = cc in omega arith

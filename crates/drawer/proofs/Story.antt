@@ -46,7 +46,7 @@ use Rattle.drawer.specs.declared.refused.RefusedRecord.{RefusedRecord}
 use Rattle.drawer.specs.Told.{toldFrom}
 use Rattle.drawer.specs.Stale.{isThis, isStale, whyNot, whyOf, isStaleAt, staleAt, staleOf}
 use Rattle.drawer.specs.Refused.{againstAt, firstAgainst, isRefusedAt, refusedAt, refusedOf}
-use Rattle.drawer.specs.Nothing.{standsAgainst, isCovered, isListed, orStays, staying}
+use Rattle.drawer.specs.Nothing.{standsAgainst, isCovered, isSpare, orStays, staying}
 use Rattle.drawer.proofs.Agreeing.{joined-calls}
 use Rattle.drawer.proofs.Scored.{first-is-score}
 
@@ -93,21 +93,21 @@ office-told = rw (count-one withdrawal withdrawal-within, at-one withdrawal with
 
 -- Of the three books head office's alone stays: the spare terminal's adds nothing, nor does then the plant's
 
-spare-listed : isListed (plant ∷ head-office ∷ []) spare ≡ true
+spare-listed : isSpare (plant ∷ head-office ∷ []) spare ≡ true
 unfolding
-    isListed all isCovered standsAgainst standing decide given sameCall plant head-office spare entered withdrawal early stop
+    isSpare all isCovered standsAgainst standing decide given sameCall plant head-office spare entered withdrawal early stop
     ruleCalls ruleOver ruleFor ruling recordsOf recordOf recordsAt also those highest withdrawnAt differentKeys putAll put
 spare-listed = rw (one-reads entered entered-within .1, one-reads withdrawal withdrawal-within .1, one-reads early early-within .1) refl
 
-office-unlisted : isListed (plant ∷ []) head-office ≡ false
+office-unlisted : isSpare (plant ∷ []) head-office ≡ false
 unfolding
-    isListed all isCovered standsAgainst standing decide given sameCall plant head-office entered withdrawal stop
+    isSpare all isCovered standsAgainst standing decide given sameCall plant head-office entered withdrawal stop
     ruleCalls ruleOver ruleFor ruling recordsOf recordOf recordsAt also those highest withdrawnAt differentKeys putAll put
 office-unlisted = rw (one-reads entered entered-within .1, one-reads withdrawal withdrawal-within .1) refl
 
-plant-listed : isListed (head-office ∷ []) plant ≡ true
+plant-listed : isSpare (head-office ∷ []) plant ≡ true
 unfolding
-    isListed all isCovered standsAgainst standing decide given sameCall plant head-office entered withdrawal stop
+    isSpare all isCovered standsAgainst standing decide given sameCall plant head-office entered withdrawal stop
     ruleCalls ruleOver ruleFor ruling recordsOf recordOf recordsAt also those highest withdrawnAt differentKeys putAll put
 plant-listed = rw (one-reads entered entered-within .1, one-reads withdrawal withdrawal-within .1) refl
 

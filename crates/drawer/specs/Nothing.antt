@@ -24,14 +24,14 @@ isCovered others c = standsAgainst (recordOf (callKey c) others) c
 unfoldable pub addsNothing : List ℕ → List ℕ → Bool
 addsNothing others book = passes (screen others book) && all (isCovered (callsOf others)) (callsOf book)
 
--- a book that is listed: there are others, and by the rule over them they give what stands against each of its calls
-unfoldable pub isListed : List (List ℕ) → List ℕ → Bool
-isListed [] b = false
-isListed (o ∷ os) b = all (isCovered (ruleCalls (map callsOf (o ∷ os)))) (callsOf b)
+-- a spare book, which is listed: there are others, and by the rule over them they give what stands against each of its calls
+unfoldable pub isSpare : List (List ℕ) → List ℕ → Bool
+isSpare [] b = false
+isSpare (o ∷ os) b = all (isCovered (ruleCalls (map callsOf (o ∷ os)))) (callsOf b)
 
--- a book among those before it and those behind it that stay: it is listed, or stays too
+-- a book among those before it and those behind it that stay: it is listed as spare, or stays too
 unfoldable pub orStays : List (List ℕ) → List ℕ → List (List ℕ) → List (List ℕ)
-orStays before b behind = cond (isListed (before ++ behind) b) behind (b ∷ behind)
+orStays before b behind = cond (isSpare (before ++ behind) b) behind (b ∷ behind)
 
 -- the books that stay, of those behind others: gone through from the last to the first
 unfoldable pub staying : List (List ℕ) → List (List ℕ) → List (List ℕ)
