@@ -6,4 +6,5 @@ pub mod Agreeing
 pub mod Reasons
 pub mod Scored
 pub mod Staying
+pub mod Differing
 pub mod Story
