@@ -1,0 +1,4 @@
+pub mod Field
+pub mod Columns
+pub mod Record
+pub mod Inner
