@@ -1,0 +1,5 @@
+pub mod Parts
+pub mod Dates
+pub mod Lengths
+pub mod ReadBack
+pub mod Examples

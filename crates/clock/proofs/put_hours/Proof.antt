@@ -1,0 +1,26 @@
+use Rattle.clock.specs.Clock.{hoursText}
+use Rattle.render.proofs.Placed.{and-then}
+use borrow.Author.Needs.{needs}
+use Rattle.clock.proofs.put_hours.Statement.{statement}
+use Rattle.clock.proofs.put_hours.Tie as tie
+
+put-decimal-requires : tie.Need-put-decimal-requires
+put-decimal-requires c κs = search needs
+
+slice-aggregate-put-word : tie.Need-slice-aggregate-put-word
+slice-aggregate-put-word c = search needs
+
+put-word-requires : tie.Need-put-word-requires
+put-word-requires c κs = search needs
+
+same-length : tie.Need-same-length
+same-length c = search needs
+
+returns : tie.Need-returns
+unfolding hoursText
+returns c = and-then (c .before .before .before .before .before .before .before .put-decimal .ensures) (c .before .before .put-word .ensures)
+
+pub put-hours-spec : {M : Type 1} → statement M
+put-hours-spec =
+    tie.close
+    (tie.spec put-decimal-requires slice-aggregate-put-word put-word-requires same-length returns)

@@ -1,0 +1,46 @@
+use mathlib.Core.Path.{_≡_, _∙_, ap}
+use mathlib.Core.List.{List}
+use Prim.Native.Nat.{ℕ}
+use native.Mathlib.Omega.{arith}
+use lib.ListN.{length}
+use Rattle.render.proofs.Placed.{looser, same-put}
+use Rattle.names.specs.Names.{wordAt, monthWord}
+use Rattle.names.proofs.Tables.{month-short}
+use borrow.Author.Needs.{needs}
+use Rattle.names.proofs.put_month.Statement.{statement}
+use Rattle.names.proofs.put_month.Tie as tie
+
+months-requires : tie.Need-months-requires
+months-requires c κs = search needs
+
+slice-aggregate-word-at : tie.Need-slice-aggregate-word-at
+slice-aggregate-word-at c = search needs
+
+word-at-requires : tie.Need-word-at-requires
+word-at-requires c κs = search needs
+
+word-is : (c : tie.After-word-at) → c .word-at .result .now ≡ monthWord (c .before .before .before .before .before .args .n)
+unfolding monthWord
+word-is c = c .word-at .ensures ∙ ap (λ (t : List ℕ). wordAt t (c .before .before .before .before .before .args .n)) (c .before .before .before .months .ensures)
+
+put-word-requires : tie.Need-put-word-requires
+put-word-requires c κs = omega (arith, month-short (c .before .before .before .before .before .args .n), ap (λ (t : List ℕ). length t) (word-is c))
+
+same-length : tie.Need-same-length
+same-length c = search needs
+
+returns : tie.Need-returns
+returns c =
+    let w = c .before .before .before in
+    same-put (word-is w) (looser 16 (omega (arith, month-short (c .before .before .before .before .before .before .before .before .args .n), ap (λ (t : List ℕ). length t) (word-is w))) (c .before .before .put-word .ensures))
+
+pub put-month-spec : {M : Type 1} → statement M
+put-month-spec =
+    tie.close
+    (tie.spec
+    months-requires
+    slice-aggregate-word-at
+    word-at-requires
+    put-word-requires
+    same-length
+    returns)
