@@ -1,0 +1,72 @@
+use mathlib.Core.Path.{refl}
+use Rattle.grid.specs.Meaning.{toldLeft}
+use borrow.Author.Needs.{needs}
+use Rattle.grid.proofs.cell.Cell.told.Statement.{statement}
+use Rattle.grid.proofs.cell.Cell.told.Tie as tie
+
+enum-told : tie.Need-enum-told
+enum-told c = search needs
+
+enum-known-cell : tie.Need-enum-known-cell
+enum-known-cell c = search needs
+
+hold-requires : tie.Need-hold-requires
+hold-requires c κs = search needs
+
+enum-told-2 : tie.Need-enum-told-2
+enum-told-2 c = search needs
+
+enum-told-3 : tie.Need-enum-told-3
+enum-told-3 c = search needs
+
+enum-known-cell-2 : tie.Need-enum-known-cell-2
+enum-known-cell-2 c = search needs
+
+hold-requires-2 : tie.Need-hold-requires-2
+hold-requires-2 c κs = search needs
+
+enum-told-4 : tie.Need-enum-told-4
+enum-told-4 c = search needs
+
+returns : tie.Need-returns
+unfolding toldLeft
+returns c = rw (c .enum-told .given .1) refl
+
+returns-2 : tie.Need-returns-2
+unfolding toldLeft
+returns-2 c = rw (c .before .before .cell .given .1) (c .hold .ensures)
+
+returns-3 : tie.Need-returns-3
+unfolding toldLeft
+returns-3 c = rw (c .enum-told2 .given .1) refl
+
+returns-4 : tie.Need-returns-4
+unfolding toldLeft
+returns-4 c = rw (c .enum-told3 .given .1) refl
+
+returns-5 : tie.Need-returns-5
+unfolding toldLeft
+returns-5 c = rw (c .before .before .cell2 .given .1) (c .hold2 .ensures)
+
+returns-6 : tie.Need-returns-6
+unfolding toldLeft
+returns-6 c = rw (c .enum-told4 .given .1) refl
+
+pub told-spec : {M : Type 1} → statement M
+told-spec =
+    tie.close
+    (tie.spec
+    enum-told
+    enum-known-cell
+    hold-requires
+    enum-told-2
+    enum-told-3
+    enum-known-cell-2
+    hold-requires-2
+    enum-told-4
+    returns
+    returns-2
+    returns-3
+    returns-4
+    returns-5
+    returns-6)
