@@ -59,15 +59,16 @@ low-of [] h i = low-none 2680 i
 low-of (p ∷ ps) h zero = leb-true p mostOutput (each (leb p mostOutput) (small ps ∷ []) h .0)
 low-of (p ∷ ps) h (suc i) = low-of ps (each (leb p mostOutput) (small ps ∷ []) h .1 .0) i
 
-module _ (m : Member) (line : memberIsSound m ≡ true) (x : Call) (within : CallWithin (headerMinutes february) x) (outputs : List ℕ) (eight : length outputs ≡ 8) (low : small outputs ≡ true) where
+module _ (x : Call) (within : CallWithin (headerMinutes february) x) where
   is-sound : Sound (bookOf x)
   unfolding bookOf
   is-sound = record { header = february; calls = x ∷ []; heading = heads; few = lit≤ tt; within = (within, tt); rising = (omega arith, tt); bytes = refl }
 
-  reads : (headerAt (bookOf x) ≡ february) × (callsOf (bookOf x) ≡ x ∷ [])
+  pub reads : (headerAt (bookOf x) ≡ february) × (callsOf (bookOf x) ≡ x ∷ [])
   unfolding bookOf
   reads = reads-back february (x ∷ []) heads (lit≤ tt) (within, tt)
 
+module _ (m : Member) (line : memberIsSound m ≡ true) (x : Call) (within : CallWithin (headerMinutes february) x) (outputs : List ℕ) (eight : length outputs ≡ 8) (low : small outputs ≡ true) where
   long : length (seriesOf outputs) ≡ 2688
   unfolding seriesOf
   long = length-append {A = ℕ} outputs (replicate 2680 0) ∙ omega (arith, length-replicate {A = ℕ} 2680 0)
@@ -76,8 +77,8 @@ module _ (m : Member) (line : memberIsSound m ≡ true) (x : Call) (within : Cal
   unfolding february quartersOf daysOf isLeap
   ready =
       record {
-        front = record { line = line-of m line; book = sound-accepted (bookOf x) is-sound };
-        spans = long ∙ sym (ap (λ (h : Header). quartersOf (h .year) (h .month)) (reads .0));
+        front = record { line = line-of m line; book = sound-accepted (bookOf x) (is-sound x within) };
+        spans = long ∙ sym (ap (λ (h : Header). quartersOf (h .year) (h .month)) (reads x within .0));
         within = λ j l. low-of outputs low j;
       }
 
@@ -85,14 +86,14 @@ module _ (m : Member) (line : memberIsSound m ≡ true) (x : Call) (within : Cal
   one-call : scoring m (bookOf x) (seriesOf outputs) ≡ inFen (recordsEarned (monthAt (bookOf x)) m (seriesOf outputs) (λ (i : ℕ). getD (x ∷ []) i x) 1)
   one-call =
       over-calls m (bookOf x) (seriesOf outputs) x ready
-      ∙ ap (λ (xs : List Call). inFen (recordsEarned (monthAt (bookOf x)) m (seriesOf outputs) (λ (i : ℕ). getD xs i x) (length xs))) (reads .1)
+      ∙ ap (λ (xs : List Call). inFen (recordsEarned (monthAt (bookOf x)) m (seriesOf outputs) (λ (i : ℕ). getD xs i x) (length xs))) (reads x within .1)
 
 is-within : (x : Call) → x .number < 4294967296 → x .revision < 4294967296 → callIsSound (headerMinutes february) x ≡ true → CallWithin (headerMinutes february) x
 is-within x = sound-within (headerMinutes february) x
 
 -- Reserve, the output rising: 13,650,000,000 grains
 
-reserve-within : CallWithin (headerMinutes february) (twoHours reserve 290000)
+pub reserve-within : CallWithin (headerMinutes february) (twoHours reserve 290000)
 unfolding twoHours february headerMinutes minutesOf daysOf isLeap callIsSound limitsAllow limitsOf table
 reserve-within = is-within _ (lit< tt) (lit< tt) refl
 

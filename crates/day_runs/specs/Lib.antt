@@ -1,0 +1,2 @@
+pub mod DayRuns
+pub mod Inner
