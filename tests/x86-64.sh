@@ -15,7 +15,8 @@ need() { # program or file, package
 
 cc=${CC:-gcc} prefix= emulate=() link=()
 case $(uname -m) in
-x86_64) [ -n "${CC:-}" ] || need gcc gcc libc6-dev ;;
+x86_64) [ -n "${CC:-}" ] || need gcc gcc libc6-dev
+    need objdump binutils ;;
 aarch64)
     need x86_64-linux-gnu-gcc gcc-x86-64-linux-gnu
     need /usr/x86_64-linux-gnu/lib/libc.a libc6-dev-amd64-cross
