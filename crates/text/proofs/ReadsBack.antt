@@ -1,4 +1,4 @@
--- What is printed reads back: R, and number, share and amount of every line; a refusal's number and place. Assumes nothing.
+-- What is printed reads back: R, number, share and amount of every line, the user's amount; a refusal's number and place. Assumes nothing.
 use mathlib.Core.Path.{_≡_, refl, sym, _∙_, ap}
 use mathlib.Core.List.{List, [], _∷_, _++_, map, append-assoc}
 use mathlib.Core.Logic.{_≢_}
@@ -12,8 +12,8 @@ use Rattle.row.specs.Numbers.{lineFeed, linesOf, partsOf, value, onto}
 use Rattle.share.specs.declared.Line.{Line}
 use Rattle.share.specs.declared.Shared.{Shared}
 use Rattle.render.specs.Decimal.{word, digit, decimalIn, decimal, signedDecimal}
-use Rattle.text.specs.Reading.{blankByte, minus, wordNumber, rowsOf, readRows, readNumbers, lineNumbers}
-use Rattle.text.specs.Texts.{refusalText, refusedText, totalText, lineText, linesText, statementText}
+use Rattle.text.specs.Reading.{blankByte, minus, wordNumber, rowsOf, nothingNamed, named, butLast, lastNamed, Reading, readRows, readNumbers, lineNumbers}
+use Rattle.text.specs.Texts.{refusalText, refusedText, totalText, userText, lineText, linesText, statementText}
 use Rattle.render.proofs.Decimals.{small, none-left, large}
 use Rattle.text.proofs.Statements.{append-none, accepted-text, refusal-text}
 
@@ -117,18 +117,37 @@ three {p} {q} {r} rest a b c =
     ap (λ (t : List ℕ). rowsOf t) line ∙ ap (λ (ls : List (List ℕ)). map (partsOf blankByte) ls) (line-ends rest whole)
     ∙ ap (λ (ps : List (List ℕ)). ps ∷ rowsOf rest) (part-ends (q ++ (blankByte ∷ r)) a ∙ ap (λ (ps : List (List ℕ)). p ∷ ps) (part-ends r b ∙ ap (λ (ps : List (List ℕ)). q ∷ ps) (last-part c)))
 
--- the lines, one behind the other
-lines-rows : (ls : List Line) → rowsOf (linesText ls) ≡ map (λ l. decimal (l .number) ∷ signedDecimal (l .share .0) ∷ signedDecimal (l .amount .0) ∷ []) ls
-unfolding linesText lineText
-lines-rows [] = refl
-lines-rows (l ∷ ls) =
-    three (linesText ls) (solid (l .number)) (solid-signed (l .share .0)) (solid-signed (l .amount .0))
-    ∙ ap (λ (rows : List (List (List ℕ))). (decimal (l .number) ∷ signedDecimal (l .share .0) ∷ signedDecimal (l .amount .0) ∷ []) ∷ rows) (lines-rows ls)
+-- a line's parts
+abbrev lineParts : Line → List (List ℕ)
+lineParts l = decimal (l .number) ∷ signedDecimal (l .share .0) ∷ signedDecimal (l .amount .0) ∷ []
 
-line-numbers : (ls : List Line) → map (map (λ p. wordNumber p)) (map (λ l. decimal (l .number) ∷ signedDecimal (l .share .0) ∷ signedDecimal (l .amount .0) ∷ []) ls) ≡ map (λ l. lineNumbers l) ls
-line-numbers [] = refl
-line-numbers (l ∷ ls) =
-    λ i. (number-decimal (l .number) i ∷ number-signed (l .share .0) i ∷ number-signed (l .amount .0) i ∷ []) ∷ line-numbers ls i
+-- the lines, one behind the other, and what is behind them
+lines-rows : (ls : List Line) (rest : List ℕ) → rowsOf (linesText ls ++ rest) ≡ map (λ l. lineParts l) ls ++ rowsOf rest
+unfolding linesText lineText
+lines-rows [] rest = refl
+lines-rows (l ∷ ls) rest =
+    ap (λ (t : List ℕ). rowsOf t) (append-assoc (lineText l) (linesText ls) rest)
+    ∙ three (linesText ls ++ rest) (solid (l .number)) (solid-signed (l .share .0)) (solid-signed (l .amount .0))
+    ∙ ap (λ (rows : List (List (List ℕ))). lineParts l ∷ rows) (lines-rows ls rest)
+
+-- every row of them is one before the last
+one-before : (r : List (List ℕ)) (rows : List (List (List ℕ))) (s : List (List ℕ)) → butLast (r ∷ (rows ++ (s ∷ []))) ≡ map wordNumber r ∷ butLast (rows ++ (s ∷ []))
+one-before r [] s = refl
+one-before r (t ∷ rows) s = refl
+
+one-after : (r : List (List ℕ)) (rows : List (List (List ℕ))) (s : List (List ℕ)) → lastNamed (r ∷ (rows ++ (s ∷ []))) ≡ lastNamed (rows ++ (s ∷ []))
+one-after r [] s = refl
+one-after r (t ∷ rows) s = refl
+
+line-numbers : (ls : List Line) (s : List (List ℕ)) → butLast (map (λ l. lineParts l) ls ++ (s ∷ [])) ≡ map (λ l. lineNumbers l) ls
+line-numbers [] s = refl
+line-numbers (l ∷ ls) s =
+    one-before (lineParts l) (map (λ l. lineParts l) ls) s
+    ∙ (λ i. (number-decimal (l .number) i ∷ number-signed (l .share .0) i ∷ number-signed (l .amount .0) i ∷ []) ∷ line-numbers ls s i)
+
+last-of : (ls : List Line) (s : List (List ℕ)) → lastNamed (map (λ l. lineParts l) ls ++ (s ∷ [])) ≡ named s
+last-of [] s = refl
+last-of (l ∷ ls) s = one-after (lineParts l) (map (λ l. lineParts l) ls) s ∙ last-of ls s
 
 -- Statements
 
@@ -140,25 +159,59 @@ refused-word =
     more 114 (omega arith) (more 101 (omega arith) (more 102 (omega arith) (more 117 (omega arith) (more 115 (omega arith)
     (more 101 (omega arith) (more 100 (omega arith) none))))))
 
--- The printed statement reads back as R, and number, share and amount of every line.
-pub statement-back : (s : Shared) (count : ℕ) → s .number ≡ 0
-    → readNumbers (statementText s count) ≡ record { word = word "total"; numbers = s .gap .0 ∷ []; lines = map (λ l. lineNumbers l) (take count (s .lines)) }
+user-word : Above 33 (word "user")
+user-word = more 117 (omega arith) (more 115 (omega arith) (more 101 (omega arith) (more 114 (omega arith) none)))
+
+-- what a statement tells: R, number, share and amount of every line, and the user's amount
+abbrev pub statementNumbers : Shared → ℕ → Reading
+statementNumbers s count =
+    record {
+      first = record { word = word "total"; numbers = s .gap .0 ∷ [] };
+      lines = map (λ l. lineNumbers l) (take count (s .lines));
+      last = record { word = word "user"; numbers = s .user .0 ∷ [] };
+    }
+
+-- the line of the user's amount, with nothing behind it
+user-row : (z : ℤ) → rowsOf (userText z) ≡ (word "user" ∷ signedDecimal z ∷ []) ∷ []
+unfolding userText
+user-row z = ap (λ (t : List ℕ). rowsOf t) (sym (append-none (userText z))) ∙ two [] user-word (solid-signed z)
+
+-- The printed statement reads back as what it tells.
+pub statement-back : (s : Shared) (count : ℕ) → s .number ≡ 0 → readNumbers (statementText s count) ≡ statementNumbers s count
 unfolding readNumbers totalText
 statement-back s count e =
     let ls = take count (s .lines) in
-    let lines : map (map (λ p. wordNumber p)) (rowsOf (linesText ls)) ≡ map (λ l. lineNumbers l) ls =
-    ap (λ (rows : List (List (List ℕ))). map (map (λ p. wordNumber p)) rows) (lines-rows ls) ∙ line-numbers ls in
-    ap (λ (t : List ℕ). readNumbers t) (sym (accepted-text s count e)) ∙ ap (λ (rows : List (List (List ℕ))). readRows rows) (two (linesText ls) total-word (solid-signed (s .gap .0)))
-    ∙ (λ i. record { word = word "total"; numbers = number-signed (s .gap .0) i ∷ []; lines = lines i })
+    let user = s .user .0 in
+    let r = word "user" ∷ signedDecimal user ∷ [] in
+    let behind : rowsOf (linesText ls ++ userText user) ≡ map (λ l. lineParts l) ls ++ (r ∷ []) =
+    lines-rows ls (userText user) ∙ ap (λ (rows : List (List (List ℕ))). map (λ l. lineParts l) ls ++ rows) (user-row user) in
+    ap (λ (t : List ℕ). readNumbers t) (sym (accepted-text s count e) ∙ append-assoc (totalText (s .gap .0)) (linesText ls) (userText user))
+    ∙ ap (λ (rows : List (List (List ℕ))). readRows rows) (two (linesText ls ++ userText user) total-word (solid-signed (s .gap .0)))
+    ∙ ap (λ (rows : List (List (List ℕ))). readRows ((word "total" ∷ signedDecimal (s .gap .0) ∷ []) ∷ rows)) behind
+    ∙ (λ i.
+    record {
+      first = record { word = word "total"; numbers = number-signed (s .gap .0) i ∷ [] };
+      lines = line-numbers ls r i;
+      last = last-of ls r i;
+    })
+    ∙ (λ i.
+    record {
+      first = record { word = word "total"; numbers = s .gap .0 ∷ [] };
+      lines = map (λ l. lineNumbers l) ls;
+      last = record { word = word "user"; numbers = number-signed user i ∷ [] };
+    })
 
--- A printed refusal reads back as its number and place.
-pub refused-back : (number place : ℕ) → readNumbers (refusedText number place) ≡ record { word = word "refused"; numbers = pos number ∷ pos place ∷ []; lines = [] }
+-- what a refusal tells: its number and place
+abbrev pub refusalNumbers : ℕ → ℕ → Reading
+refusalNumbers number place = record { first = record { word = word "refused"; numbers = pos number ∷ pos place ∷ [] }; lines = []; last = nothingNamed }
+
+-- A printed refusal reads back as what it tells.
+pub refused-back : (number place : ℕ) → readNumbers (refusedText number place) ≡ refusalNumbers number place
 unfolding readNumbers refusedText refusalText
 refused-back number place =
     ap (λ (t : List ℕ). readNumbers t) (sym (append-none (refusedText number place)))
     ∙ ap (λ (rows : List (List (List ℕ))). readRows rows) (three [] refused-word (solid number) (solid place))
-    ∙ (λ i. record { word = word "refused"; numbers = number-decimal number i ∷ number-decimal place i ∷ []; lines = [] })
+    ∙ (λ i. record { first = record { word = word "refused"; numbers = number-decimal number i ∷ number-decimal place i ∷ [] }; lines = []; last = nothingNamed })
 
-pub refusal-back : (s : Shared) (count : ℕ) → s .number ≢ 0
-    → readNumbers (statementText s count) ≡ record { word = word "refused"; numbers = pos (s .number) ∷ pos (s .place) ∷ []; lines = [] }
+pub refusal-back : (s : Shared) (count : ℕ) → s .number ≢ 0 → readNumbers (statementText s count) ≡ refusalNumbers (s .number) (s .place)
 refusal-back s count e = ap (λ (t : List ℕ). readNumbers t) (sym (refusal-text s count e)) ∙ refused-back (s .number) (s .place)

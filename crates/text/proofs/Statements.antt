@@ -13,7 +13,7 @@ use lib.Seq.{take-suc, take-all}
 use Rattle.share.specs.declared.Line.{Line}
 use Rattle.share.specs.declared.Shared.{Shared}
 use Rattle.render.specs.Inner.{Puts}
-use Rattle.text.specs.Texts.{refusedText, totalText, lineText, linesText, statementText}
+use Rattle.text.specs.Texts.{refusedText, totalText, userText, lineText, linesText, statementText}
 use Rattle.render.proofs.Placed.{and-then, looser, same-put, none-put}
 
 pub append-none : (xs : List ℕ) → xs ++ [] ≡ xs
@@ -47,7 +47,7 @@ seen-lines ls count seen e f = go (decLe count 64)
     go (yes h) = ap (λ (n : ℕ). take n ls) (f ∙ min-eq-left h)
     go (no h) = ap (λ (n : ℕ). take n ls) (f ∙ min-eq-right (omega arith)) ∙ take-all 64 ls (omega arith) ∙ sym (take-all count ls (omega arith))
 
-pub accepted-text : (s : Shared) (count : ℕ) → s .number ≡ 0 → totalText (s .gap .0) ++ linesText (take count (s .lines)) ≡ statementText s count
+pub accepted-text : (s : Shared) (count : ℕ) → s .number ≡ 0 → totalText (s .gap .0) ++ linesText (take count (s .lines)) ++ userText (s .user .0) ≡ statementText s count
 unfolding statementText
 accepted-text s count e = rw (eq-eqb (s .number) 0 e)
 

@@ -22,17 +22,40 @@ wordNumber (b ∷ bs) = cond (eqb b minus) (negℤ (pos (value 0 bs))) (pos (val
 abbrev pub rowsOf : List ℕ → List (List (List ℕ))
 rowsOf text = map (partsOf blankByte) (linesOf text)
 
--- the first word of a text, the numbers behind it, and the numbers of every further line
-pub record Reading : Type 0 where
+-- a word, and the numbers behind it
+pub record Named : Type 0 where
   pub word : List ℕ
   pub numbers : List ℤ
+
+abbrev pub nothingNamed : Named
+nothingNamed = record { word = []; numbers = [] }
+
+-- a row that begins with a word
+abbrev pub named : List (List ℕ) → Named
+named [] = nothingNamed
+named (w ∷ parts) = record { word = w; numbers = map wordNumber parts }
+
+-- the numbers of every row but the last, and what the last names
+abbrev pub butLast : List (List (List ℕ)) → List (List ℤ)
+butLast [] = []
+butLast (r ∷ []) = []
+butLast (r ∷ s ∷ rows) = map wordNumber r ∷ butLast (s ∷ rows)
+
+abbrev pub lastNamed : List (List (List ℕ)) → Named
+lastNamed [] = nothingNamed
+lastNamed (r ∷ []) = named r
+lastNamed (r ∷ s ∷ rows) = lastNamed (s ∷ rows)
+
+-- what the first line of a text names, what the last one behind it names, and the numbers of the lines between
+pub record Reading : Type 0 where
+  pub first : Named
   pub lines : List (List ℤ)
+  pub last : Named
 
 -- the reading of the rows of a text, if there are any
 abbrev pub readRows : List (List (List ℕ)) → Reading
-readRows [] = record { word = []; numbers = []; lines = [] }
-readRows ([] ∷ rows) = record { word = []; numbers = []; lines = map (map wordNumber) rows }
-readRows ((w ∷ parts) ∷ rows) = record { word = w; numbers = map wordNumber parts; lines = map (map wordNumber) rows }
+readRows [] = record { first = nothingNamed; lines = []; last = nothingNamed }
+readRows (r ∷ rows) = record { first = named r; lines = butLast rows; last = lastNamed rows }
 
 unfoldable pub readNumbers : List ℕ → Reading
 readNumbers text = readRows (rowsOf text)

@@ -59,9 +59,13 @@ mostTotal = 6 + mostDecimal + 1
 abbrev pub mostLine : ℕ
 mostLine = 3 * (mostDecimal + 1)
 
--- R, and 64 lines
+-- `user `, a number, a line feed
+abbrev pub mostUser : ℕ
+mostUser = 5 + mostDecimal + 1
+
+-- R, 64 lines, and the user's amount
 abbrev pub mostStatement : ℕ
-mostStatement = mostTotal + 64 * mostLine
+mostStatement = mostTotal + 64 * mostLine + mostUser
 
 -- seven numbers, and the words of a live call with the longest name of a service
 abbrev pub mostCall : ℕ

@@ -26,6 +26,10 @@ refusedText number place = refusalText number place ++ word "\n"
 unfoldable pub totalText : ℤ → List ℕ
 totalText gap = signedField "total " gap ++ word "\n"
 
+-- the user's amount
+unfoldable pub userText : ℤ → List ℕ
+userText user = signedField "user " user ++ word "\n"
+
 -- number, share and amount of a line
 unfoldable pub lineText : Line → List ℕ
 lineText l = decimal (l .number) ++ signedField " " (l .share .0) ++ signedField " " (l .amount .0) ++ word "\n"
@@ -35,10 +39,10 @@ unfoldable pub linesText : List Line → List ℕ
 linesText [] = []
 linesText (l ∷ ls) = lineText l ++ linesText ls
 
--- what sharing says of the first `count` lines: a refusal, or R and the lines
+-- what sharing says of the first `count` lines: a refusal, or R, the lines, and last the user's amount
 unfoldable pub statementText : Shared → ℕ → List ℕ
 statementText s count =
-    cond (eqb (s .number) 0) (totalText (s .gap .0) ++ linesText (take count (s .lines))) (refusedText (s .number) (s .place))
+    cond (eqb (s .number) 0) (totalText (s .gap .0) ++ linesText (take count (s .lines)) ++ userText (s .user .0)) (refusedText (s .number) (s .place))
 
 -- The desk
 

@@ -1,6 +1,7 @@
-// What `statement` prints: R and the lines, or a refusal.
+// What `statement` prints: R, the lines and the user's amount, or a refusal.
 use crate::put::put_refusal;
 use crate::put::put_total;
+use crate::put::put_user;
 use render::put_decimal;
 use render::put_money;
 use render::put_word;
@@ -15,12 +16,12 @@ ghost use Rattle.io.specs.Counts.{Counts};
 ghost use Rattle.render.specs.Inner.{Puts};
 ghost use Rattle.render.specs.Room.{Renders};
 ghost use Rattle.text.specs.Room.{mostRefused, mostLine, mostStatement};
-ghost use Rattle.text.specs.Texts.{refusedText, totalText, lineText, linesText, statementText};
+ghost use Rattle.text.specs.Texts.{refusedText, totalText, userText, lineText, linesText, statementText};
 
-// The most bytes of a refusal, and of a statement: 27 of R, and 63 for each of 64 lines.
+// The most bytes of a refusal, and of a statement: 27 of R, 63 for each of 64 lines, and 26 of the user's amount.
 pub const MOST_REFUSED: usize = 50;
 
-pub const MOST_STATEMENT: usize = 4059;
+pub const MOST_STATEMENT: usize = 4085;
 
 fn put_refused(out: &mut [u8], at: usize, number: u32, place: usize) -> usize
     requires { ⌜ at + mostRefused ≤ length (now out) ⌝ }
@@ -58,13 +59,20 @@ fn put_lines(out: &mut [u8], at: usize, lines: [Line; 64], count: usize) -> usiz
     next
 }
 
-// R, and the first `count` lines.
-fn put_statement(out: &mut [u8], gap: SignedFen, lines: [Line; 64], count: usize) -> usize
+// R, the first `count` lines, and the user's amount.
+fn put_statement(
+    out: &mut [u8],
+    gap: SignedFen,
+    lines: [Line; 64],
+    count: usize,
+    user: SignedFen,
+) -> usize
     requires { ⌜ mostStatement ≤ length (now out) ⌝ }
-    ensures { λ r. ⌜ Puts mostStatement (now (out .entry)) 0 (totalText (gap .0) ++ linesText (take count lines)) (now (out .exit)) r ⌝ }
+    ensures { λ r. ⌜ Puts mostStatement (now (out .entry)) 0 (totalText (gap .0) ++ linesText (take count lines) ++ userText (user .0)) (now (out .exit)) r ⌝ }
 {
-    let next = put_total(out, 0, gap);
-    put_lines(out, next, lines, seen(count))
+    let a = put_total(out, 0, gap);
+    let b = put_lines(out, a, lines, seen(count));
+    put_user(out, b, user)
 }
 
 // What sharing says of the first `count` lines.
@@ -78,7 +86,8 @@ pub fn statement_text(s: Shared, count: usize, out: &mut [u8]) -> usize
     if s.number == 0 {
         let gap = s.gap;
         let lines = s.lines;
-        return put_statement(out, gap, lines, count);
+        let user = s.user;
+        return put_statement(out, gap, lines, count, user);
     }
     put_refused(out, 0, s.number, s.place)
 }

@@ -17,9 +17,9 @@ same-length c = search needs
 
 returns-2 : tie.Need-returns-2
 returns-2 c =
-    let a = c .before .before .before .before .before .before .before .before .before .before .args in
-    let p = same-put (accepted-text (a .s) (a .count) (c .before .before .before .before .before .before .if2 .taken)) (c .before .before .put-statement .ensures) in
-    rendered mostStatement (c .before .before .before .before .before .before .before .before .if1 .left) p
+    let a = c .before .before .before .before .before .before .before .before .before .before .before .args in
+    let p = same-put (accepted-text (a .s) (a .count) (c .before .before .before .before .before .before .before .if2 .taken)) (c .before .before .put-statement .ensures) in
+    rendered mostStatement (c .before .before .before .before .before .before .before .before .before .if1 .left) p
 
 put-refused-requires : tie.Need-put-refused-requires
 put-refused-requires c κs = search needs
