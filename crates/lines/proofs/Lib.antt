@@ -2,6 +2,8 @@ pub mod Texts
 pub mod Lines
 pub mod Sheets
 pub mod Settling
+pub mod Parts
+pub mod Past
 pub mod Stream
 pub mod Promises
 pub mod Examples

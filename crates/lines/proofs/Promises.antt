@@ -1,9 +1,10 @@
--- What reading a text promises: the answer is that of the text's lines, however the bytes come in, and their sharing is the one of every form.
+-- What reading a text promises: the answer is that of the text's part and lines, however the bytes come in, and their sharing is the one of every form.
 use mathlib.Core.Path.{_≡_, refl, ap, sym, _∙_}
 use mathlib.Core.Bool.{Bool, true, false, cond}
 use mathlib.Core.List.{List, [], _∷_, _++_, map}
 use mathlib.Core.Logic.{_≢_}
 use Prim.Native.Nat.{ℕ, suc, _-_, _≤_, _<_}
+use native.Mathlib.Decide.{decLe}
 use native.Mathlib.Omega.{arith}
 use lib.Dec.{ltb}
 use lib.IntN.{pos}
@@ -14,18 +15,20 @@ use Rattle.row.specs.Judging.{filledUp, refusedAt, allTaken, firstUnsound}
 use Rattle.row.proofs.Judging.{lowest-unsound, every-sound, after-most}
 use Rattle.share.specs.declared.Line.{Line}
 use Rattle.share.specs.declared.Shared.{Shared}
-use Rattle.share.specs.Sharing.{lineIsSound, firstBadLine, SharingOutcome, sharingRefused, sharing, mostNumber}
+use Rattle.share.specs.Sharing.{lineIsSound, firstBadLine, SharingOutcome, sharingRefused, sharing, mostNumber, mostPart, partPlace}
 use Rattle.share.specs.Forms.{blankLine, cleared, arrayOf, nothingShared, sharingCounted, sharedArray}
 use Rattle.share.proofs.Bounds.{few-sound}
-use Rattle.share.proofs.Cases.{sharing-10}
+use Rattle.share.proofs.Cases.{sharing-10, sharing-part}
 use Rattle.share.proofs.Counted.{counted-few}
 use Rattle.lines.specs.declared.Reader.{Reader}
+use Rattle.lines.specs.declared.body.Listed.{Listed}
 use Rattle.lines.specs.declared.Taken.{Taken}
-use Rattle.lines.specs.Text.{textLines, sharingLines, readText, takenShared}
+use Rattle.lines.specs.Text.{textPart, textLines, sharingLines, withPart, partRefused, partThen, readText, takenShared}
 use Rattle.lines.specs.Meaning.{meaning}
 use Rattle.lines.specs.Stream.{HasRead, Settled, Tells, GoesOn, Stays}
 use Rattle.lines.proofs.Lines.{lawful}
 use Rattle.lines.proofs.Sheets.{shared-no}
+use Rattle.lines.proofs.Parts.{part-fair, part-past}
 
 -- The whole text
 
@@ -34,27 +37,43 @@ first-unsound : (before : ℕ) (ls : List Line) → firstUnsound sharingLines be
 first-unsound before [] = refl
 first-unsound before (l ∷ ls) = ap (λ (n : ℕ). cond (lineIsSound before l) (suc n) 0) (first-unsound (l .number) ls)
 
--- The lowest line that is not sound is refused, with 10.
-pub lowest-bad : (text : List ℕ) → firstBadLine 0 (textLines text) < length (textLines text) → readText text ≡ refusedAt sharingLines (firstBadLine 0 (textLines text))
+-- A PART ABOVE ITS LIMIT, OR NONE, IS 10 AT 65, whatever the lines are.
+pub bad-part : (text : List ℕ) → mostPart < textPart text → readText text ≡ partRefused
 unfolding readText
-lowest-bad text = rw (← first-unsound 0 (textLines text)) (lowest-unsound sharingLines lawful (textLines text))
+bad-part text h = part-past (textPart text) _ h
 
--- Where every line is sound, all are taken.
-pub all-taken : (text : List ℕ) → length (textLines text) ≤ firstBadLine 0 (textLines text) → readText text ≡ allTaken sharingLines (textLines text)
-unfolding readText
-all-taken text = rw (← first-unsound 0 (textLines text)) (every-sound sharingLines lawful (textLines text))
+module _ (text : List ℕ) (fair : textPart text ≤ mostPart) where
+  abbrev part : ℕ
+  part = textPart text
 
--- Of more than 64 lines the 65th is refused, or an earlier one: after 64 sound lines anything more is 10 at 64.
-pub after-64 : (text : List ℕ) → 64 < length (textLines text)
-    → (readText text ≡ refusedAt sharingLines (firstBadLine 0 (take 64 (textLines text)))) × (firstBadLine 0 (take 64 (textLines text)) ≤ 64)
-unfolding readText
-after-64 text = rw (← first-unsound 0 (take 64 (textLines text))) (after-most sharingLines (textLines text))
+  abbrev ls : List Line
+  ls = textLines text
+
+  -- The lowest line that is not sound is refused, with 10.
+  pub lowest-bad : firstBadLine 0 ls < length ls → readText text ≡ withPart part (refusedAt sharingLines (firstBadLine 0 ls))
+  unfolding readText
+  lowest-bad h =
+      part-fair part _ fair
+      ∙ ap (λ (l : Listed). withPart part l) (lowest-unsound sharingLines lawful ls (rw (first-unsound 0 ls) h) ∙ ap (λ (n : ℕ). refusedAt sharingLines n) (first-unsound 0 ls))
+
+  -- Where every line is sound, all are taken.
+  pub all-taken : length ls ≤ firstBadLine 0 ls → readText text ≡ withPart part (allTaken sharingLines ls)
+  unfolding readText
+  all-taken h = part-fair part _ fair ∙ ap (λ (l : Listed). withPart part l) (every-sound sharingLines lawful ls (rw (first-unsound 0 ls) h))
+
+  -- Of more than 64 lines the 65th is refused, or an earlier one: after 64 sound lines anything more is 10 at 64.
+  pub after-64 : 64 < length ls → (readText text ≡ withPart part (refusedAt sharingLines (firstBadLine 0 (take 64 ls)))) × (firstBadLine 0 (take 64 ls) ≤ 64)
+  unfolding readText
+  after-64 h =
+      let m = after-most sharingLines ls h in
+      let e = first-unsound 0 (take 64 ls) in
+      (part-fair part _ fair ∙ ap (λ (l : Listed). withPart part l) (m .0 ∙ ap (λ (n : ℕ). refusedAt sharingLines n) e), rw e at (m .1))
 
 -- The sharing
 
--- Of a text that was refused it is that refusal: number and place, no gap, and no line of the text.
+-- Of a text that was refused it is that refusal: number and place, no gap, nothing for the user, and no line of the text.
 pub shared-refused : (t : Taken) → t .number ≢ 0
-    → takenShared t ≡ record { number = t .number; place = t .place; gap = record { 0 = pos 0 }; lines = replicate 64 blankLine }
+    → takenShared t ≡ record { number = t .number; place = t .place; gap = record { 0 = pos 0 }; user = record { 0 = pos 0 }; lines = replicate 64 blankLine }
 unfolding nothingShared
 shared-refused t h = sym (shared-no t h)
 
@@ -62,30 +81,45 @@ cleared-none : map (λ l. cleared l) (filledUp sharingLines []) ≡ replicate 64
 unfolding filledUp
 cleared-none = refl
 
-array-first : (ls : List Line) → sharingCounted (filledUp sharingLines ls) (length ls) ≡ sharing ls
+array-first : (part : ℕ) (ls : List Line) → sharingCounted part (filledUp sharingLines ls) (length ls) ≡ sharing part ls
 unfolding filledUp
-array-first ls =
+array-first part ls =
     let xs = replicate (mostNumber - length ls) blankLine in
-    counted-few (ls ++ xs) (length ls) (omega (arith, length-append ls xs)) ∙ ap sharing (take-append-le (length ls) ls xs (omega arith) ∙ take-all (length ls) ls (omega arith))
+    counted-few part (ls ++ xs) (length ls) (omega (arith, length-append ls xs))
+    ∙ ap (λ (us : List Line). sharing part us) (take-append-le (length ls) ls xs (omega arith) ∙ take-all (length ls) ls (omega arith))
 
-shared-ten : (ls : List Line) (k : ℕ) → sharing ls ≡ sharingRefused 10 k → takenShared (refusedAt sharingLines k) ≡ arrayOf (filledUp sharingLines []) (sharing ls)
-shared-ten ls k e =
-    shared-refused (refusedAt sharingLines k) (λ h. omega arith)
-    ∙ (λ i. record { number = 10; place = k; gap = record { 0 = pos 0 }; lines = sym cleared-none i }) ∙ ap (arrayOf (filledUp sharingLines [])) (sym e)
+-- a refusal with 10, of the text and of the sharing
+shared-ten : (t : Taken) (part : ℕ) (ls : List Line) (k : ℕ) → t .number ≡ 10 → t .place ≡ k → t .lines ≡ filledUp sharingLines [] → sharing part ls ≡ sharingRefused 10 k
+    → takenShared t ≡ arrayOf (t .lines) (sharing part ls)
+shared-ten t part ls k n p l e =
+    shared-refused t (λ h. omega (arith, n))
+    ∙ (λ i. record { number = n i; place = p i; gap = record { 0 = pos 0 }; user = record { 0 = pos 0 }; lines = (sym cleared-none ∙ ap (map (λ x. cleared x)) (sym l)) i })
+    ∙ ap (arrayOf (t .lines)) (sym e)
 
-shared-all : (ls : List Line) → takenShared (allTaken sharingLines ls) ≡ arrayOf (filledUp sharingLines ls) (sharing ls)
+shared-all : (part : ℕ) (ls : List Line) → takenShared (withPart part (allTaken sharingLines ls)) ≡ arrayOf (filledUp sharingLines ls) (sharing part ls)
 unfolding takenShared sharedArray
-shared-all ls = ap (arrayOf (filledUp sharingLines ls)) (array-first ls)
+shared-all part ls = ap (arrayOf (filledUp sharingLines ls)) (array-first part ls)
 
--- THE SHARING OF A TEXT is that of its lines: 10 at the lowest bad line, 15, 16, or R and what each line gets.
-pub text-shared : (text : List ℕ) → takenShared (readText text) ≡ arrayOf (readText text .lines) (sharing (textLines text))
-text-shared text = go (ltb (firstBadLine 0 (textLines text)) (length (textLines text))) refl
+-- THE SHARING OF A TEXT is that of its part and lines: 10 at 65 for the part, 10 at the lowest bad line, 15, 16, or R, what each line gets
+-- and the user's amount.
+pub text-shared : (text : List ℕ) → takenShared (readText text) ≡ arrayOf (readText text .lines) (sharing (textPart text) (textLines text))
+unfolding filledUp
+text-shared text = go (decLe (textPart text) mostPart)
   where
-    go : (t : Bool) → ltb (firstBadLine 0 (textLines text)) (length (textLines text)) ≡ t → takenShared (readText text) ≡ arrayOf (readText text .lines) (sharing (textLines text))
-    go true e =
+    lines : textPart text ≤ mostPart → (t : Bool) → ltb (firstBadLine 0 (textLines text)) (length (textLines text)) ≡ t
+        → takenShared (readText text) ≡ arrayOf (readText text .lines) (sharing (textPart text) (textLines text))
+    lines fair true e =
         let bad = ltb-true _ _ e in
-        rw (lowest-bad text bad) (shared-ten (textLines text) (firstBadLine 0 (textLines text)) (sym (sharing-10 (textLines text) bad)))
-    go false e = rw (all-taken text (ltb-false _ _ e)) (shared-all (textLines text))
+        rw (lowest-bad text fair bad)
+        (shared-ten (withPart (textPart text) (refusedAt sharingLines (firstBadLine 0 (textLines text)))) (textPart text) (textLines text) (firstBadLine 0 (textLines text)) refl refl refl
+        (sym (sharing-10 (textPart text) (textLines text) fair bad)))
+    lines fair false e = rw (all-taken text fair (ltb-false _ _ e)) (shared-all (textPart text) (textLines text))
+
+    go : Dec (textPart text ≤ mostPart) → takenShared (readText text) ≡ arrayOf (readText text .lines) (sharing (textPart text) (textLines text))
+    go (yes fair) = lines fair (ltb (firstBadLine 0 (textLines text)) (length (textLines text))) refl
+    go (no past) =
+        let h : mostPart < textPart text = omega arith in
+        rw (bad-part text h) (shared-ten partRefused (textPart text) (textLines text) partPlace refl refl refl (sym (sharing-part (textPart text) (textLines text) h)))
 
 -- The stream: what the contracts of a reader say that has read a text
 

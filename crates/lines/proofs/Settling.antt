@@ -1,4 +1,4 @@
--- If any bytes make an open line sound, the best ones do; so a reader knows when no bytes can change its answer. Assumes nothing.
+-- If any bytes make an open line sound, the best ones do; so it is known when no bytes can change the answer. Assumes nothing.
 use mathlib.Core.Path.{_≡_, refl, ap, sym, subst, _∙_}
 use mathlib.Core.Bool.{Bool, true, false, cond, not, _&&_, _||_, true≢false}
 use mathlib.Core.List.{List, [], _∷_, _++_, map}
@@ -20,11 +20,11 @@ use Rattle.share.specs.declared.Line.{Line}
 use Rattle.share.specs.Sharing.{lineIsSound, mostNumber, mostStatus, mostEnergy, mostCompensation, mostAssessment}
 use Rattle.share.specs.Forms.{blankLine}
 use Rattle.share.proofs.Counted.{blank-bad}
-use Rattle.lines.specs.declared.Reader.{Reader}
-use Rattle.lines.specs.declared.Taken.{Taken}
+use Rattle.lines.specs.declared.body.Body.{Body}
+use Rattle.lines.specs.declared.body.Listed.{Listed}
 use Rattle.lines.specs.Text.{asLine, sharingLines}
-use Rattle.lines.specs.Meaning.{rowLine, linesLeft, meaning, numberBytes, zeros, bestBytes}
-use Rattle.lines.specs.Stream.{Tells, Stays}
+use Rattle.lines.specs.Meaning.{rowLine, linesLeft, bodyMeaning, BodyStays, numberBytes, zeros, bestBytes}
+use Rattle.lines.specs.Stream.{Tells}
 
 -- The bytes that end the open number
 
@@ -255,7 +255,7 @@ module _ (b : ℕ) (row : Row) (long : 4 ≤ length (row .ended)) where
   unfolding rowNumbers
   best-sound rest h = by-parts 32 (λ ps. lineIsSound b (asLine (rowParts 4 row ps)) ≡ true → lineIsSound b (rowLine row (bestBytes row)) ≡ true) best-at rest h
 
--- The reader
+-- The lines read so far
 
 number-digits : (row : Row) → digits (numberBytes row) ≡ true
 unfolding numberBytes
@@ -293,18 +293,18 @@ unfolding alone
 lines-alone row [] h = rw h
 lines-alone row (b ∷ bs) h = refl
 
-pub tells-refused : (s : Reader) → s .sheet .refused ≡ true → Tells (Stays s) true
-unfolding meaning judgedOn
+pub tells-refused : (s : Body) → s .sheet .refused ≡ true → Tells (BodyStays s) true
+unfolding bodyMeaning judgedOn
 tells-refused s h = record { yes = λ _ rest. simp h; no = λ e. absurd (true≢false e) }
 
-ten-or-none : (s : Reader) (bad good : List ℕ) → meaning s bad .number ≡ 10 → meaning s good .number ≡ 0 → Stays s → ⊥
+ten-or-none : (s : Body) (bad good : List ℕ) → bodyMeaning s bad .number ≡ 10 → bodyMeaning s good .number ≡ 0 → BodyStays s → ⊥
 ten-or-none s bad good b g h =
-    let e : _≡_ {A = ℕ} 10 0 = sym b ∙ ap (λ (t : Taken). t .number) (h bad ∙ sym (h good)) ∙ g in
+    let e : _≡_ {A = ℕ} 10 0 = sym b ∙ ap (λ (t : Listed). t .number) (h bad ∙ sym (h good)) ∙ g in
     omega arith
 
-module _ (s : Reader) (on : s .sheet .refused ≡ false) where
-  pub tells-shut : rowIsBegun (s .row) ≡ false → Tells (Stays s) false
-  unfolding meaning judgedOn
+module _ (s : Body) (on : s .sheet .refused ≡ false) where
+  pub tells-shut : rowIsBegun (s .row) ≡ false → Tells (BodyStays s) false
+  unfolding bodyMeaning judgedOn
   tells-shut h =
       let d : s .row .digit ≡ false = no-digit (s .row .bad) (s .row .digit) (ltb 0 (s .row .at)) h in
       let none : isRow 4 (s .row) [] [] ≡ false = simp (d, and-false) in
@@ -332,26 +332,26 @@ module _ (s : Reader) (on : s .sheet .refused ≡ false) where
         go true false e f = rw f (and-false (lineIsSound (s .sheet .before) (rowLine (s .row) rest)))
         go true true e f = absurd (true≢false (sym (all _ (_ ∷ []) (best-sound (s .sheet .before) (s .row) long rest e, (f, tt))) ∙ h))
 
-    refused-all : ((rest : List ℕ) → takes rest ≡ false) → (rest : List ℕ) → meaning s rest ≡ refusedAt sharingLines (s .sheet .count)
-    unfolding meaning takes judgedOn
+    refused-all : ((rest : List ℕ) → takes rest ≡ false) → (rest : List ℕ) → bodyMeaning s rest ≡ refusedAt sharingLines (s .sheet .count)
+    unfolding bodyMeaning takes judgedOn
     refused-all h rest = rw on (go (linesOf rest))
       where
         go : (ls : List (List ℕ)) → judgeFrom sharingLines (s .sheet .before) (s .sheet .lines) (s .sheet .count) (linesLeft (s .row) ls) ≡ refusedAt sharingLines (s .sheet .count)
         go [] = rw (isOpen, h [])
         go (l ∷ ls) = rw (h l)
 
-    taken-one : takes (bestBytes (s .row)) ≡ true → meaning s (bestBytes (s .row)) .number ≡ 0
-    unfolding meaning takes judgedOn
+    taken-one : takes (bestBytes (s .row)) ≡ true → bodyMeaning s (bestBytes (s .row)) .number ≡ 0
+    unfolding bodyMeaning takes judgedOn
     taken-one h = rw (on, one-line (bestBytes (s .row)) (plain (numberBytes (s .row)) (4 - s .row .at) (number-digits (s .row))), lines-alone (s .row) (bestBytes (s .row)) isOpen, h)
 
-    spoilt-one : meaning s (0 ∷ []) .number ≡ 10
-    unfolding meaning judgedOn
+    spoilt-one : bodyMeaning s (0 ∷ []) .number ≡ 10
+    unfolding bodyMeaning judgedOn
     spoilt-one =
         let line : rowLine (s .row) (0 ∷ []) ≡ blankLine = ap asLine (foreign 32 4 (s .row) 0 (λ e. omega arith) refl []) in
         rw (on, line, blank-bad (s .sheet .before))
 
     pub tells-open : (best : Row) (t : Bool) → 4 ≤ length (s .row .ended) → rowLine best [] ≡ rowLine (s .row) (bestBytes (s .row))
-        → t ≡ (lineIsSound (s .sheet .before) (rowLine best []) && ltb (s .sheet .count) mostNumber) → Tells (Stays s) (not t)
+        → t ≡ (lineIsSound (s .sheet .before) (rowLine best []) && ltb (s .sheet .count) mostNumber) → Tells (BodyStays s) (not t)
     unfolding takes
     tells-open best t long e f =
         let is : t ≡ takes (bestBytes (s .row)) = f ∙ ap (λ (l : Line). lineIsSound (s .sheet .before) l && ltb (s .sheet .count) mostNumber) e in

@@ -1,4 +1,4 @@
--- What a line's end and a text's end do to a reader's meaning. Assumes nothing.
+-- What a line's end and a text's end do to the meaning of the lines read. Assumes nothing.
 use mathlib.Core.Path.{_≡_, refl, ap, sym, _∙_}
 use mathlib.Core.Bool.{Bool, true, false, not, _&&_}
 use mathlib.Core.List.{List, [], _∷_, _++_, map}
@@ -20,10 +20,10 @@ use Rattle.share.specs.declared.Line.{Line}
 use Rattle.share.specs.Sharing.{mostNumber}
 use Rattle.share.specs.Forms.{sharedArray, nothingShared}
 use Rattle.lines.specs.declared.sheet.Sheet.{Sheet}
-use Rattle.lines.specs.declared.Reader.{Reader}
+use Rattle.lines.specs.declared.body.Body.{Body}
 use Rattle.lines.specs.declared.Taken.{Taken}
-use Rattle.lines.specs.Text.{space, asLine, lineOf, textLines, readText, takenShared, sharingLines}
-use Rattle.lines.specs.Meaning.{rowLine, lineIn, wholeLine, linesLeft, sheetSoFar, sheetOutcome, meaning, LineFollows}
+use Rattle.lines.specs.Text.{space, asLine, lineOf, takenShared, sharingLines}
+use Rattle.lines.specs.Meaning.{rowLine, lineIn, wholeLine, linesLeft, sheetSoFar, sheetOutcome, bodyOutcome, bodyMeaning, LineFollows}
 use Rattle.lines.proofs.Lines.{lawful, holds}
 
 -- A byte
@@ -32,39 +32,39 @@ fresh-line : (row : Row) → RowFresh row → (l : List ℕ) → rowLine row l �
 fresh-line row f l = ap asLine (f .line space 4 l)
 
 pub step-feed : (row fresh : Row) (s r : Sheet) (b : ℕ) → b ≡ 10 → RowFresh fresh → ((ls : List Line) → sheetOutcome r ls ≡ sheetOutcome s (rowLine row [] ∷ ls))
-    → (rest : List ℕ) → meaning (record { row = fresh; sheet = r }) rest ≡ meaning (record { row = row; sheet = s }) (b ∷ rest)
-unfolding meaning
+    → (rest : List ℕ) → bodyMeaning (record { row = fresh; sheet = r }) rest ≡ bodyMeaning (record { row = row; sheet = s }) (b ∷ rest)
+unfolding bodyMeaning
 step-feed row fresh s r b e f c rest =
     c (linesLeft fresh (linesOf rest))
     ∙ ap (λ (ls : List Line). sheetOutcome s ls) (sym (left-feed wholeLine (rowIsBegun row) (rowIsBegun fresh) (rowLine row) (rowLine fresh) b rest e (f .unread) (fresh-line fresh f)))
 
 pub step-other : (row r : Row) (s : Sheet) (b : ℕ) → (b ≡ 10 → ⊥) → LineFollows row b r
-    → (rest : List ℕ) → meaning (record { row = r; sheet = s }) rest ≡ meaning (record { row = row; sheet = s }) (b ∷ rest)
-unfolding meaning
+    → (rest : List ℕ) → bodyMeaning (record { row = r; sheet = s }) rest ≡ bodyMeaning (record { row = row; sheet = s }) (b ∷ rest)
+unfolding bodyMeaning
 step-other row r s b ne f rest =
     ap (λ (ls : List Line). sheetOutcome s ls) (left-byte wholeLine (rowIsBegun row) (rowIsBegun r) (rowLine row) (rowLine r) b rest ne (f .begun) (f .line))
 
 -- The end of the text
 
-pub end-open : (s : Reader) (r : Sheet) → rowIsBegun (s .row) ≡ true → ((ls : List Line) → sheetOutcome r ls ≡ sheetOutcome (s .sheet) (rowLine (s .row) [] ∷ ls)) → sheetOutcome r [] ≡ meaning s []
-unfolding meaning
+pub end-open : (s : Body) (r : Sheet) → rowIsBegun (s .row) ≡ true → ((ls : List Line) → sheetOutcome r ls ≡ sheetOutcome (s .sheet) (rowLine (s .row) [] ∷ ls)) → sheetOutcome r [] ≡ bodyMeaning s []
+unfolding bodyMeaning
 end-open s r e c = rw e (c [])
 
-pub end-shut : (s : Reader) → rowIsBegun (s .row) ≡ false → sheetOutcome (s .sheet) [] ≡ meaning s []
-unfolding meaning
+pub end-shut : (s : Body) → rowIsBegun (s .row) ≡ false → sheetOutcome (s .sheet) [] ≡ bodyMeaning s []
+unfolding bodyMeaning
 end-shut s e = rw e
 
 -- Many bytes
 
-module _ (b : List ℕ) (i : ℕ) (first : Reader) where
-  pub feed-on : (s r : Reader) → i < length b → ((rest : List ℕ) → meaning r rest ≡ meaning s (getD b i 0 ∷ rest))
-      → ((rest : List ℕ) → meaning s (drop i b ++ rest) ≡ meaning first (b ++ rest)) → (rest : List ℕ) → meaning r (drop (i + 1) b ++ rest) ≡ meaning first (b ++ rest)
+module _ (b : List ℕ) (i : ℕ) (first : Body) where
+  pub feed-on : (s r : Body) → i < length b → ((rest : List ℕ) → bodyMeaning r rest ≡ bodyMeaning s (getD b i 0 ∷ rest))
+      → ((rest : List ℕ) → bodyMeaning s (drop i b ++ rest) ≡ bodyMeaning first (b ++ rest)) → (rest : List ℕ) → bodyMeaning r (drop (i + 1) b ++ rest) ≡ bodyMeaning first (b ++ rest)
   feed-on s r h step inv rest =
-      step (drop (i + 1) b ++ rest) ∙ ap (λ (l : List ℕ). meaning s (l ++ rest)) (sym (next-byte b i h)) ∙ inv rest
+      step (drop (i + 1) b ++ rest) ∙ ap (λ (l : List ℕ). bodyMeaning s (l ++ rest)) (sym (next-byte b i h)) ∙ inv rest
 
-  pub feed-end : (s : Reader) → length b ≤ i → ((rest : List ℕ) → meaning s (drop i b ++ rest) ≡ meaning first (b ++ rest))
-      → (rest : List ℕ) → meaning s rest ≡ meaning first (b ++ rest)
-  feed-end s h inv rest = ap (λ (l : List ℕ). meaning s (l ++ rest)) (sym (drop-of-length-le b h)) ∙ inv rest
+  pub feed-end : (s : Body) → length b ≤ i → ((rest : List ℕ) → bodyMeaning s (drop i b ++ rest) ≡ bodyMeaning first (b ++ rest))
+      → (rest : List ℕ) → bodyMeaning s rest ≡ bodyMeaning first (b ++ rest)
+  feed-end s h inv rest = ap (λ (l : List ℕ). bodyMeaning s (l ++ rest)) (sym (drop-of-length-le b h)) ∙ inv rest
 
 -- The sheet after a line's end, changed where it stands
 
@@ -103,7 +103,7 @@ module _ (row : Row) (s : Sheet) (l : Line) (fair : l ≡ lineIn row) where
 -- a row and a sheet after a byte
 pub record ByteRead (row : Row) (s : Sheet) (b : ℕ) (row' : Row) (s' : Sheet) : Type 0 where
   pub long : length (row' .ended) ≡ length (row .ended)
-  pub says : (rest : List ℕ) → meaning (record { row = row'; sheet = s' }) rest ≡ meaning (record { row = row; sheet = s }) (b ∷ rest)
+  pub says : (rest : List ℕ) → bodyMeaning (record { row = row'; sheet = s' }) rest ≡ bodyMeaning (record { row = row; sheet = s }) (b ∷ rest)
 
 -- the row's numbers after a byte are its line's
 pub line-follows : {row r : Row} {b : ℕ} → RowFollows space 4 row b r → LineFollows row b r
@@ -122,7 +122,7 @@ module _ (row row' : Row) (s s' : Sheet) (b : ℕ) where
   line-arm r e p q c =
       record {
         long = ap (λ (x : Row). length (x .ended)) q;
-        says = λ rest. (λ i. meaning (record { row = q i; sheet = p i }) rest) ∙ step-feed row (startRow (row .ended)) s r b e (start-fresh (row .ended)) c rest;
+        says = λ rest. (λ i. bodyMeaning (record { row = q i; sheet = p i }) rest) ∙ step-feed row (startRow (row .ended)) s r b e (start-fresh (row .ended)) c rest;
       }
 
   -- another byte
@@ -130,7 +130,7 @@ module _ (row row' : Row) (s s' : Sheet) (b : ℕ) where
   other-arm r ne p q long f =
       record {
         long = ap (λ (x : Row). length (x .ended)) q ∙ long;
-        says = λ rest. (λ i. meaning (record { row = q i; sheet = p i }) rest) ∙ step-other row r s b ne (line-follows f) rest;
+        says = λ rest. (λ i. bodyMeaning (record { row = q i; sheet = p i }) rest) ∙ step-other row r s b ne (line-follows f) rest;
       }
 
   -- a digit
@@ -160,16 +160,15 @@ module _ (row row' : Row) (s s' : Sheet) (b : ℕ) where
 
 -- The start of the text
 
-pub starts : (row : Row) (s : Sheet) → RowFresh row → ((ls : List Line) → sheetOutcome s ls ≡ judged sharingLines ls) → (text : List ℕ)
-    → meaning (record { row = row; sheet = s }) text ≡ readText text
-unfolding meaning readText textLines
-starts row s f h text =
-    ap (λ (ls : List Line). sheetOutcome s ls) (left-fresh wholeLine (rowIsBegun row) (rowLine row) (f .unread) (fresh-line row f) (linesOf text))
-    ∙ h (map wholeLine (linesOf text)) ∙ judged-alike sharingLines lawful wholeLine lineOf holds (linesOf text)
+pub starts : (row : Row) (s : Sheet) → RowFresh row → ((ls : List Line) → sheetOutcome s ls ≡ judged sharingLines ls) → (ls : List (List ℕ))
+    → bodyOutcome (record { row = row; sheet = s }) ls ≡ judged sharingLines (map lineOf ls)
+starts row s f h ls =
+    ap (λ (xs : List Line). sheetOutcome s xs) (left-fresh wholeLine (rowIsBegun row) (rowLine row) (f .unread) (fresh-line row f) ls)
+    ∙ h (map wholeLine ls) ∙ judged-alike sharingLines lawful wholeLine lineOf holds ls
 
 -- The sharing
 
-pub shared-yes : (t : Taken) → t .number ≡ 0 → sharedArray (t .lines) (t .count) ≡ takenShared t
+pub shared-yes : (t : Taken) → t .number ≡ 0 → sharedArray (t .part) (t .lines) (t .count) ≡ takenShared t
 unfolding takenShared
 shared-yes t h = rw (eq-eqb (t .number) 0 h)
 

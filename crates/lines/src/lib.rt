@@ -1,41 +1,71 @@
-// Sharing lines read from text, a byte at a time, in fixed memory, whatever the text's length.
+// A sharing text, read a byte at a time, in fixed memory, whatever its length: the generators' part on a line of its own, then the lines.
+mod body;
 mod line;
+mod part;
 mod sheet;
 
-use line::LAST;
-use line::best;
-use line::line_in;
+use body::Body;
+use body::Listed;
+use part::first_line;
+use part::is_past;
+use part::part_in;
 use row::Row;
-use row::grown;
-use row::hold;
-use row::is_digit;
 use share::Line;
 use share::Shared;
+use share::array::blank_lines;
 use share::array::nothing_shared;
 use share::lent::share_front;
-use sheet::Sheet;
+use share::limits::MOST_PART;
+use share::limits::PART_PLACE;
 ghost use mathlib.Core.Path.{_≡_};
 ghost use mathlib.Core.List.{List, [], _∷_, _++_};
 ghost use Prim.Native.Nat.{ℕ};
-ghost use Rattle.lines.specs.Text.{readText, takenShared};
+ghost use Rattle.lines.specs.Text.{partThen, readText, takenShared};
 ghost use Rattle.lines.specs.Meaning.{meaning};
 ghost use Rattle.lines.specs.Stream.{HasRead, Settled, Tells, GoesOn, Stays};
 
-// The most lines that a text may have.
+// The most lines that a text may have, besides that of the part.
 pub const MOST_LINES: usize = 64;
 
-// The answer: 10 and a place, or zeros, how many lines there are, and the lines.
+// The answer: 10 and a place, or zeros, how many lines there are, and the lines; and the part, where it is one.
 pub struct Taken {
     pub number: u32,
     pub place: usize,
     pub count: usize,
     pub lines: [Line; MOST_LINES],
+    pub part: u32,
 }
 
-// All that is kept of the text so far: the line that is being read, and the lines before it.
+// All that is kept of the text so far: the first line while it is `ahead` of the others, then the part; and the lines.
 pub struct Reader {
-    row: Row,
-    sheet: Sheet,
+    first: Row,
+    body: Body,
+    part: u32,
+    ahead: bool,
+}
+
+// What the lines say, with the part; or that the part is none.
+fn part_then(part: u32, listed: Listed) -> Taken
+    ensures { λ r. ⌜ r ≡ partThen part listed ⌝ }
+{
+    if MOST_PART < part {
+        let lines = blank_lines();
+        return Taken {
+            number: 10,
+            place: PART_PLACE,
+            count: 0,
+            lines,
+            part: 0,
+        };
+    }
+    let lines = listed.lines;
+    Taken {
+        number: listed.number,
+        place: listed.place,
+        count: listed.count,
+        lines,
+        part,
+    }
 }
 
 // The first `ensures` of each speaks of the text that was read. The second says of every reader, also of one that has read no text, how it
@@ -45,9 +75,14 @@ impl Reader {
     pub fn start() -> Reader
         ensures { λ r. ⌜ HasRead r [] ⌝ }
     {
-        let row = Row::start();
-        let sheet = Sheet::start();
-        Reader { row, sheet }
+        let first = Row::start();
+        let body = Body::start();
+        Reader {
+            first,
+            body,
+            part: 0,
+            ahead: true,
+        }
     }
 
     // The reader after one byte more.
@@ -59,46 +94,37 @@ impl Reader {
         self.feed(&one)
     }
 
-    // The reader after some bytes more. Row and sheet are changed where they stand: by a call that takes and returns them their arrays would
-    // be copied for each byte, or for each line. Numbers of an earlier line may stay in the row: none is read that has not ended in this one.
+    // The reader after some bytes more.
     pub fn feed(self, bytes: &[u8]) -> Reader
         ensures { λ r. ⌜ ((text : List ℕ) → HasRead self text → HasRead r (text ++ now (bytes .entry))) ⌝ }
         ensures { λ r. ⌜ GoesOn self (now (bytes .entry)) r ⌝ }
     {
-        let mut row = self.row;
-        let mut sheet = self.sheet;
-        let mut i: usize = 0;
-        while i < bytes.len() {
-            let b = bytes[i];
-            if is_digit(b) {
-                row.digit = true;
-                row.value = grown(row.value, b);
-            } else if b == b'\n' {
-                let l = line_in(row);
-                let at = sheet.count;
-                if !sheet.refused & (sheet.before < l.number) & (at < MOST_LINES) {
-                    sheet.before = l.number;
-                    sheet.count = at + 1;
-                    sheet.lines[at] = l;
-                } else {
-                    sheet.refused = true;
-                }
-                row.bad = false;
-                row.digit = false;
-                row.at = 0;
-                row.value = 0;
-            } else if (b == b' ') & row.digit & (row.at < LAST) {
-                let at = row.at;
-                row.ended[at] = hold(row.value);
-                row.at = at + 1;
-                row.value = 0;
-                row.digit = false;
-            } else {
-                row.bad = true;
-            }
-            i += 1;
+        let body = self.body;
+        let first = self.first;
+        if !self.ahead {
+            return Reader {
+                first,
+                body: body.feed(bytes),
+                part: self.part,
+                ahead: false,
+            };
         }
-        Reader { row, sheet }
+        let line = first_line(first, bytes);
+        let row = line.row;
+        if bytes.len() <= line.next {
+            return Reader {
+                first: row,
+                body,
+                part: self.part,
+                ahead: true,
+            };
+        }
+        Reader {
+            first: row,
+            body: body.feed(&bytes[line.next + 1..]),
+            part: part_in(row),
+            ahead: false,
+        }
     }
 
     // Whether the answer is known, whatever follows.
@@ -106,15 +132,14 @@ impl Reader {
         ensures { λ r. ⌜ ((text : List ℕ) → HasRead self text → Tells (Settled text) r) ⌝ }
         ensures { λ r. ⌜ Tells (Stays self) r ⌝ }
     {
-        let row = self.row;
-        let sheet = self.sheet;
-        if sheet.refused {
+        if self.ahead {
+            return is_past(self.first);
+        }
+        if MOST_PART < self.part {
             return true;
         }
-        if !row.is_begun() {
-            return false;
-        }
-        !sheet.takes(best(row))
+        let body = self.body;
+        body.is_settled()
     }
 
     // The answer, if the text ends here.
@@ -122,13 +147,12 @@ impl Reader {
         ensures { λ r. ⌜ ((text : List ℕ) → HasRead self text → r ≡ readText text) ⌝ }
         ensures { λ r. ⌜ r ≡ meaning self [] ⌝ }
     {
-        let row = self.row;
-        let sheet = self.sheet;
-        if row.is_begun() {
-            let closed = sheet.with(row);
-            return closed.answer();
+        let body = self.body;
+        let listed = body.finish();
+        if self.ahead {
+            return part_then(part_in(self.first), listed);
         }
-        sheet.answer()
+        part_then(self.part, listed)
     }
 }
 
@@ -148,7 +172,7 @@ impl Taken {
     {
         let lines = self.lines;
         if self.number == 0 {
-            return share_front(lines, self.count);
+            return share_front(self.part, lines, self.count);
         }
         nothing_shared(self.number, self.place)
     }

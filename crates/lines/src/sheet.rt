@@ -1,6 +1,6 @@
 // The lines taken so far, or that one of them was bad.
 use crate::MOST_LINES;
-use crate::Taken;
+use crate::body::Listed;
 use crate::line::line_in;
 use row::Row;
 use share::Line;
@@ -78,12 +78,12 @@ impl Sheet {
     }
 
     // The answer where no line follows.
-    pub fn answer(self) -> Taken
+    pub fn answer(self) -> Listed
         ensures { λ r. ⌜ r ≡ sheetOutcome self [] ⌝ }
     {
         if self.refused {
             let none = blank_lines();
-            return Taken {
+            return Listed {
                 number: 10,
                 place: self.count,
                 count: 0,
@@ -91,7 +91,7 @@ impl Sheet {
             };
         }
         let lines = self.lines;
-        Taken {
+        Listed {
             number: 0,
             place: 0,
             count: self.count,

@@ -1,35 +1,40 @@
-use mathlib.Core.Path.{sym, _∙_}
-use Rattle.lines.proofs.Sheets.{end-open, end-shut}
+use mathlib.Core.Path.{_∙_}
+use Rattle.lines.proofs.Parts.{ends-ahead, ends-behind}
 use Rattle.lines.proofs.Stream.{read-answer}
 use borrow.Author.Needs.{needs}
 use Rattle.lines.proofs.Reader.finish.Statement.{statement}
 use Rattle.lines.proofs.Reader.finish.Tie as tie
 
-is-begun-requires : tie.Need-is-begun-requires
-is-begun-requires c κs = search needs
+finish-requires : tie.Need-finish-requires
+finish-requires c κs = search needs
 
-with-requires : tie.Need-with-requires
-with-requires c κs = search needs
+part-in-requires : tie.Need-part-in-requires
+part-in-requires c κs = search needs
 
-answer-requires : tie.Need-answer-requires
-answer-requires c κs = search needs
+part-then-requires : tie.Need-part-then-requires
+part-then-requires c κs = search needs
 
 returns : tie.Need-returns
 returns c =
-    let begun = sym (c .before .before .before .is-begun .ensures) ∙ c .before .before .if1 .taken in
-    let s = c .before .before .before .before .before .before .args .self in
-    read-answer s (c .answer .result) (c .answer .ensures ∙ end-open s (c .before .with .result) begun (c .before .with .ensures))
+    let s = c .before .before .before .before .before .args .self in
+    read-answer s (c .part-then .result)
+    (c .part-then .ensures ∙ ends-ahead s (c .before .part-in .result) (c .before .before .before .finish .result) (c .before .before .if1 .taken) (c .before .part-in .ensures) (c .before .before .before .finish .ensures))
 
-answer-requires-2 : tie.Need-answer-requires-2
-answer-requires-2 c κs = search needs
+part-then-requires-2 : tie.Need-part-then-requires-2
+part-then-requires-2 c κs = search needs
 
 returns-2 : tie.Need-returns-2
 returns-2 c =
-    let shut = sym (c .before .before .is-begun .ensures) ∙ c .before .if1 .left in
-    let s = c .before .before .before .before .before .args .self in
-    read-answer s (c .answer2 .result) (c .answer2 .ensures ∙ end-shut s shut)
+    let s = c .before .before .before .before .args .self in
+    read-answer s (c .part-then2 .result) (c .part-then2 .ensures ∙ ends-behind s (c .before .before .finish .result) (c .before .if1 .left) (c .before .before .finish .ensures))
 
 pub finish-spec : {M : Type 1} → statement M
 finish-spec =
     tie.close
-    (tie.spec is-begun-requires with-requires answer-requires returns answer-requires-2 returns-2)
+    (tie.spec
+    finish-requires
+    part-in-requires
+    part-then-requires
+    returns
+    part-then-requires-2
+    returns-2)

@@ -1,41 +1,25 @@
-use mathlib.Core.Path.{_≡_, sym, _∙_}
-use mathlib.Core.Bool.{true, false, not}
-use Prim.Native.Nat.{_-_}
-use native.Mathlib.Omega.{arith}
-use lib.ListN.{length}
-use Rattle.row.specs.Meaning.{mostColumns}
-use borrow.Author.Needs.{needs}
-use borrow.Author.Tests.{not-true, not-false}
-use Rattle.lines.proofs.Settling.{tells-refused, tells-shut, tells-open}
+use mathlib.Core.Bool.{true}
+use Rattle.lines.proofs.Past.{tells-ahead, tells-past, tells-lines}
 use Rattle.lines.proofs.Stream.{read-settled}
+use borrow.Author.Needs.{needs}
 use Rattle.lines.proofs.Reader.is_settled.Statement.{statement}
 use Rattle.lines.proofs.Reader.is_settled.Tie as tie
 
-returns : tie.Need-returns
-returns c = let s = c .before .before .before .args .self in read-settled s true (tells-refused s (c .if1 .taken))
+is-past-requires : tie.Need-is-past-requires
+is-past-requires c κs = search needs
 
-is-begun-requires : tie.Need-is-begun-requires
-is-begun-requires c κs = tt
+returns : tie.Need-returns
+returns c = let s = c .before .before .args .self in read-settled s _ (tells-ahead s (c .before .if1 .taken) _ (c .is-past .ensures))
 
 returns-2 : tie.Need-returns-2
-returns-2 c =
-    let s = c .before .before .before .before .before .args .self in
-    read-settled s false (tells-shut s (c .before .before .if1 .left) (sym (c .before .is-begun .ensures) ∙ not-true _ (c .if2 .taken)))
+returns-2 c = let s = c .before .before .before .args .self in read-settled s true (tells-past s (c .before .before .if1 .left) (c .if2 .taken))
 
-best-requires : tie.Need-best-requires
-best-requires c κs = tt
-
-takes-requires : tie.Need-takes-requires
-takes-requires c κs = tt
+is-settled-requires : tie.Need-is-settled-requires
+is-settled-requires c κs = search needs
 
 returns-3 : tie.Need-returns-3
-returns-3 c =
-    let s = c .before .before .before .before .before .before .before .args .self in
-    let long : length (s .row .ended) ≡ mostColumns - 1 = search needs in
-    let begun = sym (c .before .before .before .is-begun .ensures) ∙ not-false _ (c .before .before .if2 .left) in
-    let t = c .takes .result in
-    read-settled s (not t) (tells-open s (c .before .before .before .before .if1 .left) begun (c .before .best .result) t (omega (arith, long)) (c .before .best .ensures) (c .takes .ensures))
+returns-3 c = let s = c .before .before .before .before .before .args .self in read-settled s _ (tells-lines s (c .before .before .before .before .if1 .left) _ (c .before .before .if2 .left) (c .is-settled .ensures))
 
 pub is-settled-spec : {M : Type 1} → statement M
 is-settled-spec =
-    tie.close (tie.spec returns is-begun-requires returns-2 best-requires takes-requires returns-3)
+    tie.close (tie.spec is-past-requires returns returns-2 is-settled-requires returns-3)
