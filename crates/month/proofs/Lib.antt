@@ -8,3 +8,4 @@ pub mod Exact
 pub mod Withdrawn
 pub mod Drawer
 pub mod DrawerStory
+pub mod Weights
