@@ -86,7 +86,8 @@ pub fn is_none(i: usize) -> bool {
     is_word_at(i, b"-")
 }
 
-fn read_number(i: usize) -> Told {
+// What argument i says as a number.
+pub fn number_at(i: usize) -> Told {
     let mut buf = io::buffer();
     let n = os::arg(i, &mut buf);
     tables::number(&buf[0..n])
@@ -94,7 +95,7 @@ fn read_number(i: usize) -> Told {
 
 // Argument i, a number that a byte holds, or two, or four.
 pub fn byte_at(i: usize) -> Byte {
-    if let Told::Number(n) = read_number(i) {
+    if let Told::Number(n) = number_at(i) {
         if n <= MOST_BYTE {
             return Byte::Number(n as u8);
         }
@@ -104,7 +105,7 @@ pub fn byte_at(i: usize) -> Byte {
 }
 
 pub fn short_at(i: usize) -> Short {
-    if let Told::Number(n) = read_number(i) {
+    if let Told::Number(n) = number_at(i) {
         if n <= MOST_SHORT {
             return Short::Number(n as u16);
         }
@@ -114,7 +115,7 @@ pub fn short_at(i: usize) -> Short {
 }
 
 pub fn long_at(i: usize) -> Long {
-    if let Told::Number(n) = read_number(i) {
+    if let Told::Number(n) = number_at(i) {
         if n <= MOST_LONG {
             return Long::Number(n as u32);
         }

@@ -1,6 +1,7 @@
 // The desk's day, on files: `desk help` says how.
 mod books;
 mod member;
+mod places;
 mod ramping;
 mod series;
 mod settle;
@@ -90,8 +91,8 @@ fn rows(usage: bool, word: &[u8]) -> Command {
     if row(usage, word, b"ramp MEMBER KIND RATED FILE", 6, 6) {
         return Command::Ramp;
     }
-    let month = b"month STATEMENT REGISTER SERIES-FOLDER BOOK..";
-    if row(usage, word, month, 6, MANY) {
+    let month = b"month STATEMENT PART REGISTER SERIES-FOLDER BOOK..";
+    if row(usage, word, month, 7, MANY) {
         return Command::Month;
     }
     let why = b"explain MEMBER REGISTER SERIES-FOLDER BOOK..";

@@ -1,4 +1,5 @@
 // The members' series: a file each, read one behind the other into one array.
+use crate::places::folder_at;
 use clerk::args::Held;
 use clerk::args::first;
 use clerk::args::path;
@@ -19,9 +20,6 @@ pub const SERIES_ROOM: usize = 31 * 24 * 4 + 1;
 
 // As many for each member.
 pub const ALL_ROOM: usize = MOST_ENTRIES * SERIES_ROOM;
-
-// The argument that names the folder of the series.
-const FOLDER: usize = 4;
 
 // The longest name of a file in it, a ramping file's, and the longest name of a folder that leaves room for it.
 const MOST_FILE: usize = 15;
@@ -62,14 +60,15 @@ fn put_name(name: &[u8], buf: &mut [u8], n: usize)
     bytes::copy(name, &mut buf[n..]);
 }
 
-// A file in the folder that argument 4 names.
+// A file in the folder of the series.
 pub fn in_folder(name: &[u8]) -> Name {
+    let folder = folder_at();
     let mut bytes = io::buffer();
-    let Held::Bytes(n) = path(FOLDER, &mut bytes) else {
+    let Held::Bytes(n) = path(folder, &mut bytes) else {
         return Name { bytes, size: 0 };
     };
     if MOST_FOLDER < n {
-        print::bad_argument(FOLDER, b"too long for a folder's name");
+        print::bad_argument(folder, b"too long for a folder's name");
         return Name { bytes, size: 0 };
     }
     if MOST_FILE < name.len() {

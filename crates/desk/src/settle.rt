@@ -1,6 +1,8 @@
-// The month: the register, the books joined, every member's series and ramping file; then the library settles it.
+// The month: the generators' part, the register, the books joined, every member's series and ramping file; then the library settles it.
 use crate::books::join_all;
 use crate::books::show_call;
+use crate::places::books_at;
+use crate::places::register_at;
 use crate::ramping::Ramps;
 use crate::ramping::month_hours;
 use crate::ramping::ramped_at;
@@ -17,6 +19,7 @@ use book::header_of;
 use clerk::args::Held;
 use clerk::args::first;
 use clerk::args::is_none;
+use clerk::args::number_at;
 use clerk::args::path;
 use clerk::print;
 use clerk::shelf::load;
@@ -32,16 +35,16 @@ use report::above_text;
 use report::month_text;
 use report::no_line_text;
 use share::array::seen;
+use share::limits::MOST_PART;
+use share::limits::PART_PLACE;
+use tables::Told;
 use tables::roll::Register;
 use tables::roll::read_register;
 
-// The arguments that name the statement's file and the register.
+// The arguments that name the statement's file, and give the part.
 const STATEMENT: usize = 2;
 
-const REGISTER: usize = 3;
-
-// The first argument that names a book.
-pub const BOOKS: usize = 5;
+const PART: usize = 3;
 
 // The statement as the file that argument 2 names, if it names one.
 fn post(s: Statement) -> bool {
@@ -73,7 +76,7 @@ pub fn tell_member(e: Entry, line: usize, number: u32, place: usize, book: &[u8]
         return;
     }
     if number == 10 {
-        refused_at(number, line, REGISTER);
+        refused_at(number, line, register_at());
         return;
     }
     if 11 < number {
@@ -92,7 +95,7 @@ pub fn tell_ramping(e: Entry, number: u32, place: usize) {
 // That the register has no line for a member.
 pub fn tell_no_line(member: u16) {
     let mut name = io::buffer();
-    let k = os::arg(REGISTER, &mut name);
+    let k = os::arg(register_at(), &mut name);
     let mut out = io::large_buffer();
     let n = no_line_text(&name[..k], member, &mut out);
     say::text(&out[..n]);
@@ -119,7 +122,12 @@ fn tell_sharing(e: Entry, number: u32, place: usize, book: &[u8], series: &[u32]
         let n = above_text(e.member.number, fen, &mut out);
         say::text(&out[..n]);
     }
-    refused_at(number, place, REGISTER);
+    refused_at(number, place, register_at());
+}
+
+// That the part is none.
+fn tell_part() {
+    print::refused(10, PART_PLACE, b"part");
 }
 
 // Why there is no statement.
@@ -134,7 +142,8 @@ fn tell_fault(
     let entries = register.entries;
     match fault {
         Fault::NoFault => {}
-        Fault::InRegister(line) => refused_at(10, line, REGISTER),
+        Fault::InPart => tell_part(),
+        Fault::InRegister(line) => refused_at(10, line, register_at()),
         Fault::InBook(number, place) => print::refused(number, place, b"joined"),
         Fault::Unlisted(call) => tell_unlisted(book, call),
         Fault::OfMember(line, number, place) => {
@@ -154,11 +163,18 @@ fn tell_fault(
     }
 }
 
-fn settle_with(register: Register, book: &[u8], series: &[u32], lengths: Lengths, ramps: Ramps) {
+fn settle_with(
+    part: u32,
+    register: Register,
+    book: &[u8],
+    series: &[u32],
+    lengths: Lengths,
+    ramps: Ramps,
+) {
     let entries = register.entries;
     let each = lengths.each;
     let ramped = ramps.each;
-    let s = month::settle(entries, register.count, book, series, each, ramped);
+    let s = month::settle(part, entries, register.count, book, series, each, ramped);
     let fault = s.fault;
     if let Fault::NoFault = fault {
         tell_statement(s);
@@ -168,7 +184,7 @@ fn settle_with(register: Register, book: &[u8], series: &[u32], lengths: Lengths
 }
 
 // The members' series and ramping files are read, all of them, before anything is judged.
-fn settle_book(register: Register, book: &[u8]) {
+fn settle_book(part: u32, register: Register, book: &[u8]) {
     let entries = register.entries;
     let count = seen(register.count);
     let mut series = room();
@@ -176,15 +192,15 @@ fn settle_book(register: Register, book: &[u8]) {
     if lengths.whole {
         let ramps = read_ramps(entries, count, month_hours(book));
         if ramps.whole {
-            settle_with(register, book, &series, lengths, ramps);
+            settle_with(part, register, book, &series, lengths, ramps);
         }
     }
 }
 
-fn settle(register: Register) {
+fn settle(part: u32, register: Register) {
     let mut all = io::large_buffer();
-    if let Held::Bytes(n) = join_all(BOOKS, &mut all) {
-        settle_book(register, first(&all, n));
+    if let Held::Bytes(n) = join_all(books_at(), &mut all) {
+        settle_book(part, register, first(&all, n));
     }
 }
 
@@ -195,10 +211,10 @@ fn no_register() -> Register {
     none
 }
 
-// The register that argument 3 names. Where its number is not 0, one line has said why.
+// The register. Where its number is not 0, one line has said why.
 pub fn open_register() -> Register {
     let mut name = io::buffer();
-    let Held::Bytes(n) = path(REGISTER, &mut name) else {
+    let Held::Bytes(n) = path(register_at(), &mut name) else {
         return no_register();
     };
     let mut text = io::large_buffer();
@@ -212,9 +228,20 @@ pub fn open_register() -> Register {
     register
 }
 
-pub fn settle_month() {
+fn settle_part(part: u32) {
     let register = open_register();
     if register.number == 0 {
-        settle(register);
+        settle(part, register);
     }
+}
+
+// The part first: where it is none, nothing is read.
+pub fn settle_month() {
+    if let Told::Number(n) = number_at(PART) {
+        if n <= MOST_PART as u64 {
+            settle_part(n as u32);
+            return;
+        }
+    }
+    tell_part();
 }

@@ -1,6 +1,7 @@
 // Why a member got its grains: its calls, what each was paid by, and the sums.
 use crate::books::join_all;
 use crate::books::show_call;
+use crate::places::books_at;
 use crate::ramping::month_hours;
 use crate::ramping::no_hours;
 use crate::ramping::read_ramping;
@@ -10,7 +11,6 @@ use crate::series::Values;
 use crate::series::entry_at;
 use crate::series::part;
 use crate::series::read_member;
-use crate::settle::BOOKS;
 use crate::settle::open_register;
 use crate::settle::tell_member;
 use crate::settle::tell_no_line;
@@ -122,7 +122,7 @@ fn explain_with(e: Entry, line: usize, book: &[u8]) {
 
 fn explain_line(e: Entry, line: usize) {
     let mut all = io::large_buffer();
-    if let Held::Bytes(n) = join_all(BOOKS, &mut all) {
+    if let Held::Bytes(n) = join_all(books_at(), &mut all) {
         explain_with(e, line, first(&all, n));
     }
 }
