@@ -1,4 +1,4 @@
-// Reads sharing lines from standard input and prints the statement: R, then number, share and amount of each line.
+// Reads the generators' part and sharing lines from standard input and prints the statement: R, number, share and amount of each line, the user's amount.
 use libc::STDIN_FILENO;
 use lines::Reader;
 use text::sharing::statement_text;

@@ -54,8 +54,9 @@ returns-3 c =
     let b = a .bytes .now in
     let n = l .result .next + 1 in
     let all : take (length b - n) (drop n b) ≡ drop n b = take-all (length b - n) (drop n b) (omega (arith, length-drop n b)) in
+    let ahead = not-false _ (c .before .before .before .before .before .before .before .before .if1 .left) in
     read-on (a .self) _ b
-    (past-fed (a .self) b (not-false _ (c .before .before .before .before .before .before .before .before .if1 .left)) (l .result) (l .ensures) (c .before .feed2 .result) (c .part-in .result) (omega arith) (c .part-in .ensures)
+    (past-fed (a .self) b ahead (l .result) (l .ensures) (c .before .feed2 .result) (c .part-in .result) (omega arith) (c .part-in .ensures)
     (λ rest. c .before .feed2 .ensures rest ∙ ap (λ (xs : List ℕ). bodyMeaning (a .self .body) (xs ++ rest)) all))
 
 pub feed-spec : {M : Type 1} → statement M

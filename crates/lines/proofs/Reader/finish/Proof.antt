@@ -17,8 +17,9 @@ part-then-requires c κs = search needs
 returns : tie.Need-returns
 returns c =
     let s = c .before .before .before .before .before .args .self in
-    read-answer s (c .part-then .result)
-    (c .part-then .ensures ∙ ends-ahead s (c .before .part-in .result) (c .before .before .before .finish .result) (c .before .before .if1 .taken) (c .before .part-in .ensures) (c .before .before .before .finish .ensures))
+    let l = c .before .before .before .finish in
+    let p = c .before .part-in in
+    read-answer s (c .part-then .result) (c .part-then .ensures ∙ ends-ahead s (p .result) (l .result) (c .before .before .if1 .taken) (p .ensures) (l .ensures))
 
 part-then-requires-2 : tie.Need-part-then-requires-2
 part-then-requires-2 c κs = search needs

@@ -18,7 +18,9 @@ is-settled-requires : tie.Need-is-settled-requires
 is-settled-requires c κs = search needs
 
 returns-3 : tie.Need-returns-3
-returns-3 c = let s = c .before .before .before .before .before .args .self in read-settled s _ (tells-lines s (c .before .before .before .before .if1 .left) _ (c .before .before .if2 .left) (c .is-settled .ensures))
+returns-3 c =
+    let s = c .before .before .before .before .before .args .self in
+    read-settled s _ (tells-lines s (c .before .before .before .before .if1 .left) _ (c .before .before .if2 .left) (c .is-settled .ensures))
 
 pub is-settled-spec : {M : Type 1} → statement M
 is-settled-spec =
