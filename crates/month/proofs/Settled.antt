@@ -132,7 +132,9 @@ module _ (part : ℕ) (book : List ℕ) (lines : List Line) (grains : List Grain
 
     pub shared-is : (header : Header) (calls : ℕ) (negative : Bool) (rows : List Row) → header ≡ headerAt book → calls ≡ countAt book
         → negative ≡ ltZ (s .gap .0) (pos 0) → rows ≡ filledRows (rowsIn negative (take count (s .lines)) (take count grains) ramped)
-        → _≡_ {A = Statement} (record { fault = NoFault; header = header; calls = calls; part = part; gap = s .gap; user = s .user; count = count; rows = rows }) (sharedMonth part book ls (take count grains) ramped (sharing part ls))
+        → _≡_ {A = Statement}
+        (record { fault = NoFault; header = header; calls = calls; part = part; gap = s .gap; user = s .user; count = count; rows = rows })
+        (sharedMonth part book ls (take count grains) ramped (sharing part ls))
     unfolding sharedMonth
     shared-is header calls negative rows eh ec en er =
         let all : rows ≡ filledRows (rowsOf (below ls) ls (take count grains) ramped (sharing part ls .parts)) =

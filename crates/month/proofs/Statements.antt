@@ -69,7 +69,18 @@ module _ (isBelow : Bool) (lines : List Line) (grains : List Grains) (ramped : L
 
 -- a refusal, from its rows
 pub refused-is : (fault : Fault) (rows : List Row) → rows ≡ replicate 64 blankRow
-    → _≡_ {A = Statement} (record { fault = fault; header = record { area = 0; year = 0; month = 0 }; calls = 0; part = 0; gap = record { 0 = pos 0 }; user = record { 0 = pos 0 }; count = 0; rows = rows }) (monthRefused fault)
+    → _≡_ {A = Statement}
+    (record {
+      fault = fault;
+      header = record { area = 0; year = 0; month = 0 };
+      calls = 0;
+      part = 0;
+      gap = record { 0 = pos 0 };
+      user = record { 0 = pos 0 };
+      count = 0;
+      rows = rows;
+    })
+    (monthRefused fault)
 unfolding monthRefused filledRows
 refused-is fault rows e = rw e refl
 

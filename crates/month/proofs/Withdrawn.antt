@@ -284,10 +284,25 @@ module _ (b : List ℕ) (sound : Sound b) (j : ℕ) (l : j < countAt b) (gone : 
       go : g .part ≤ mostPart → Dec (bad < g .count) → Dec (first < countAt b) → settling (withBook g less) ≡ loweredStatement j (settling (withBook g b))
       go p (yes h) t = rw (le-ltb mostPart (g .part) p, lt-ltb bad (g .count) h) (ap monthRefused (line-lowered j bad) ∙ refused-lowered j (InRegister bad))
       go p (no h) (yes t) =
-          rw (le-ltb mostPart (g .part) p, le-ltb bad (g .count) (omega arith), zero-check b sound, zero-check less (without-sound key b sound), test-same (g .entries), lt-ltb first (countAt b) t, first-lowered (g .entries))
+          rw (
+            le-ltb mostPart (g .part) p,
+            le-ltb bad (g .count) (omega arith),
+            zero-check b sound,
+            zero-check less (without-sound key b sound),
+            test-same (g .entries),
+            lt-ltb first (countAt b) t,
+            first-lowered (g .entries),
+          )
           (ap monthRefused (call-lowered j first) ∙ refused-lowered j (Unlisted first))
       go p (no h) (no t) =
-          rw (le-ltb mostPart (g .part) p, le-ltb bad (g .count) (omega arith), zero-check b sound, zero-check less (without-sound key b sound), test-same (g .entries), le-ltb first (countAt b) (omega arith))
+          rw (
+            le-ltb mostPart (g .part) p,
+            le-ltb bad (g .count) (omega arith),
+            zero-check b sound,
+            zero-check less (without-sound key b sound),
+            test-same (g .entries),
+            le-ltb first (countAt b) (omega arith),
+          )
           in-turn
 
       fair : Dec (mostPart < g .part) → settling (withBook g less) ≡ loweredStatement j (settling (withBook g b))

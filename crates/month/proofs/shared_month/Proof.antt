@@ -28,7 +28,8 @@ filled-rows-requires c κs =
     let long : length (a .lines) ≡ 64 = search needs in
     let e = c .before .before .before .before in
     let s = e .before .share-front in
-    shared-within (a .part) (a .book .now) (a .lines) (a .grains) (a .ramped) (a .count) (c .before .before .before .before .before .before .before .pre .1) long (s .result) (s .ensures) (e .if1 .left)
+    shared-within (a .part) (a .book .now) (a .lines) (a .grains) (a .ramped) (a .count) (c .before .before .before .before .before .before .before .pre .1) long
+    (s .result) (s .ensures) (e .if1 .left)
 
 header-at-requires : tie.Need-header-at-requires
 header-at-requires c κs = search needs
