@@ -10,7 +10,8 @@ ghost use Prim.Native.Nat.{_+_, _%_, _≤_};
 ghost use lib.ListN.{length};
 ghost use Rattle.render.specs.Decimal.{digit};
 ghost use Rattle.render.specs.Inner.{Puts};
-ghost use Rattle.clock.specs.Clock.{has, before, behind, numberIn, upTo16Bits, dateOf, startOf, minutesIn, restIn, lengthOf, twoDigits, clockText, dateText, hoursText, minutesText, lengthText, mostDate, mostLength};
+ghost use Rattle.clock.specs.Clock.{has, before, behind, numberIn, upTo16Bits, dateOf, startOf, minutesIn, restIn};
+ghost use Rattle.clock.specs.Clock.{lengthOf, twoDigits, clockText, dateText, hoursText, minutesText, lengthText, mostDate, mostLength};
 
 // What a text says: so many minutes, as many as 16 bits hold; or it says none.
 pub enum Minutes {

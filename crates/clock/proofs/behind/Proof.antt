@@ -31,7 +31,9 @@ part-result-end-2 : tie.Need-part-result-end-2
 part-result-end-2 c = search needs
 
 returns-2 : tie.Need-returns-2
-returns-2 c = let a = c .before .before .before .before .args in cut-behind (a .mark) (a .text .now) _ (c .before .before .mark-at .ensures .0) (c .before .before .mark-at .ensures .1) (c .before .if1 .left)
+returns-2 c =
+    let a = c .before .before .before .before .args in cut-behind (a .mark) (a .text .now) _ (c .before .before .mark-at .ensures .0) (c .before .before .mark-at .ensures .1)
+    (c .before .if1 .left)
 
 pub behind-spec : {M : Type 1} → statement M
 behind-spec =

@@ -43,7 +43,8 @@ up-to-16-bits-requires-2 c κs = search needs
 
 returns-2 : tie.Need-returns-2
 returns-2 c =
-    some-hours _ _ (c .before .before .before .before .before .before .has .ensures) _ _ _ _ _ (not-false _ (c .before .before .before .before .before .if1 .left)) (c .before .before .before .before .before2 .ensures) (c .before .before .behind .ensures) (c .before .before .before .number-in .ensures) (c .before .rest-in .ensures)
+    some-hours _ _ (c .before .before .before .before .before .before .has .ensures) _ _ _ _ _ (not-false _ (c .before .before .before .before .before .if1 .left))
+    (c .before .before .before .before .before2 .ensures) (c .before .before .behind .ensures) (c .before .before .before .number-in .ensures) (c .before .rest-in .ensures)
     (c .up-to-16-bits2 .ensures)
 
 pub length-of-spec : {M : Type 1} → statement M

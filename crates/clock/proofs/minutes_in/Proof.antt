@@ -27,7 +27,8 @@ number-in-requires-2 c κs = search needs
 
 returns-3 : tie.Need-returns-3
 returns-3 c =
-    marked-minutes _ _ (c .before .before .before .before .before .has .ensures) (not-false _ (c .before .before .before .before .if1 .left)) _ _ _ (c .before .before .before .behind .ensures) (c .before .before .if2 .left) (c .before .before2 .ensures) (c .number-in2 .ensures)
+    marked-minutes _ _ (c .before .before .before .before .before .has .ensures) (not-false _ (c .before .before .before .before .if1 .left)) _ _ _
+    (c .before .before .before .behind .ensures) (c .before .before .if2 .left) (c .before .before2 .ensures) (c .number-in2 .ensures)
 
 pub minutes-in-spec : {M : Type 1} → statement M
 minutes-in-spec =

@@ -21,7 +21,9 @@ same-length c = search needs
 
 returns : tie.Need-returns
 unfolding clockText
-returns c = and-then (and-then (c .before .before .before .before .before .before .before .before .before .before .before .put-two .ensures) (c .before .before .before .before .before .before .put-word .ensures)) (c .before .before .put-two2 .ensures)
+returns c =
+    and-then (and-then (c .before .before .before .before .before .before .before .before .before .before .before .put-two .ensures)
+    (c .before .before .before .before .before .before .put-word .ensures)) (c .before .before .put-two2 .ensures)
 
 pub put-clock-spec : {M : Type 1} → statement M
 put-clock-spec =

@@ -27,7 +27,9 @@ same-length c = search needs
 
 returns : tie.Need-returns
 unfolding dateText
-returns c = and-then (and-then (c .before .before .before .before .before .before .before .before .before .before .before .put-decimal .ensures) (c .before .before .before .before .before .before .put-word .ensures)) (c .before .before .put-clock .ensures)
+returns c =
+    and-then (and-then (c .before .before .before .before .before .before .before .before .before .before .before .put-decimal .ensures)
+    (c .before .before .before .before .before .before .put-word .ensures)) (c .before .before .put-clock .ensures)
 
 pub put-date-spec : {M : Type 1} → statement M
 put-date-spec =

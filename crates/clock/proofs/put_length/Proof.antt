@@ -21,7 +21,9 @@ same-length-2 : tie.Need-same-length-2
 same-length-2 c = search needs
 
 returns-2 : tie.Need-returns-2
-returns-2 c = same-put (in-hours _ (c .before .before .before .before .before .if1 .left) (c .before .before .before .before .if2 .taken)) (looser 42 (omega arith) (c .before .before .put-hours .ensures))
+returns-2 c =
+    same-put (in-hours _ (c .before .before .before .before .before .if1 .left) (c .before .before .before .before .if2 .taken))
+    (looser 42 (omega arith) (c .before .before .put-hours .ensures))
 
 put-hours-requires-2 : tie.Need-put-hours-requires-2
 put-hours-requires-2 c κs = search needs
@@ -33,7 +35,9 @@ same-length-3 : tie.Need-same-length-3
 same-length-3 c = search needs
 
 returns-3 : tie.Need-returns-3
-returns-3 c = same-put (in-both _ (c .before .before .before .before .before .before .before .before .before .if1 .left) (c .before .before .before .before .before .before .before .before .if2 .left)) (and-then (c .before .before .before .before .before .before .put-hours2 .ensures) (c .before .before .put-minutes2 .ensures))
+returns-3 c =
+    same-put (in-both _ (c .before .before .before .before .before .before .before .before .before .if1 .left) (c .before .before .before .before .before .before .before .before .if2 .left))
+    (and-then (c .before .before .before .before .before .before .put-hours2 .ensures) (c .before .before .put-minutes2 .ensures))
 
 pub put-length-spec : {M : Type 1} → statement M
 put-length-spec =

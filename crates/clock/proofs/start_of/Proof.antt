@@ -42,7 +42,9 @@ date-of-requires c κs = search needs
 
 returns-2 : tie.Need-returns-2
 returns-2 c =
-    start-date _ _ _ (c .before .before .before .before .before .before .before .before .before .has .ensures) _ _ _ _ _ _ _ _ (not-false _ (c .before .before .before .before .before .before .before .before .if1 .left)) (c .before .before .before .before .before .before .before .behind .ensures) (c .before .before .before .before .before .before .before2 .ensures) (c .before .before .before .before .before3 .ensures) (c .before .before .behind2 .ensures)
+    start-date _ _ _ (c .before .before .before .before .before .before .before .before .before .has .ensures) _ _ _ _ _ _ _ _
+    (not-false _ (c .before .before .before .before .before .before .before .before .if1 .left)) (c .before .before .before .before .before .before .before .behind .ensures)
+    (c .before .before .before .before .before .before .before2 .ensures) (c .before .before .before .before .before3 .ensures) (c .before .before .behind2 .ensures)
     (c .before .before .before .before .before .number-in2 .ensures) (c .before .before .before .number-in3 .ensures) (c .before .number-in4 .ensures) (c .date-of .ensures)
 
 pub start-of-spec : {M : Type 1} → statement M

@@ -42,11 +42,15 @@ service-fits-requires c κs = search needs
 
 returns-3 : tie.Need-returns-3
 unfolding fieldFits badField
-returns-3 c = at-service (fits (c .before .before .before .before .before .before .before)) (some-member (c .before .before .before .before)) (some-state (c .before .before)) (sym (c .before .service-fits .ensures) ∙ not-true _ (c .if3 .taken))
+returns-3 c =
+    at-service (fits (c .before .before .before .before .before .before .before)) (some-member (c .before .before .before .before)) (some-state (c .before .before))
+    (sym (c .before .service-fits .ensures) ∙ not-true _ (c .if3 .taken))
 
 returns-4 : tie.Need-returns-4
 unfolding fieldFits badField
-returns-4 c = at-revision (fits (c .before .before .before .before .before .before .before .before .before)) (some-member (c .before .before .before .before .before .before)) (some-state (c .before .before .before .before)) (some-service (c .before .before)) (lt-leb _ _ (c .if4 .taken))
+returns-4 c =
+    at-revision (fits (c .before .before .before .before .before .before .before .before .before)) (some-member (c .before .before .before .before .before .before))
+    (some-state (c .before .before .before .before)) (some-service (c .before .before)) (lt-leb _ _ (c .if4 .taken))
 
 bad-term-requires : tie.Need-bad-term-requires
 bad-term-requires c κs = search needs
@@ -54,7 +58,9 @@ bad-term-requires c κs = search needs
 returns-5 : tie.Need-returns-5
 unfolding badField
 returns-5 c =
-    c .bad-term .ensures ∙ at-terms (fits (c .before .before .before .before .before .before .before .before .before .before)) (some-member (c .before .before .before .before .before .before .before)) (some-state (c .before .before .before .before .before)) (some-service (c .before .before .before)) (some-revision (c .before))
+    c .bad-term .ensures ∙ at-terms (fits (c .before .before .before .before .before .before .before .before .before .before))
+    (some-member (c .before .before .before .before .before .before .before)) (some-state (c .before .before .before .before .before)) (some-service (c .before .before .before))
+    (some-revision (c .before))
 
 pub bad-field-spec : {M : Type 1} → statement M
 bad-field-spec =

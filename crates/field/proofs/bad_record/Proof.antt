@@ -42,7 +42,8 @@ bad-field-requires c κs = search needs
 returns-3 : tie.Need-returns-3
 returns-3 c =
     let s = c .before .before .before .before .before .before .before .before .before in
-    as-told (s .args .b .now) (s .args .i) _ _ _ _ _ _ (c .before .before .before .before .before .before .before .if1 .left) (search needs) (c .before .before .before .before .header-at .ensures) (c .before .minutes-of .ensures) (c .before .before .before .record-at .ensures)
+    as-told (s .args .b .now) (s .args .i) _ _ _ _ _ _ (c .before .before .before .before .before .before .before .if1 .left) (search needs)
+    (c .before .before .before .before .header-at .ensures) (c .before .minutes-of .ensures) (c .before .before .before .record-at .ensures)
     (c .before .before .before .before .before .before .place-of .ensures) (c .before .before .reserved-at .ensures) (c .bad-field .ensures)
 
 pub bad-record-spec : {M : Type 1} → statement M

@@ -58,24 +58,31 @@ returns-3 c =
 
 returns-4 : tie.Need-returns-4
 returns-4 c =
-    at-b (fits (c .before .before .before .before .before .before .before .before .before .before)) (starts (c .before .before .before .before .before .before .before)) (lasts (c .before .before .before .before .before)) (some-a (c .before .before .before))
+    at-b (fits (c .before .before .before .before .before .before .before .before .before .before)) (starts (c .before .before .before .before .before .before .before))
+    (lasts (c .before .before .before .before .before)) (some-a (c .before .before .before))
     (b-fails _ _ _ _ (c .before .before .before .before .before .before .before .before .before .limits-of .ensures) (c .if4 .taken))
 
 returns-5 : tie.Need-returns-5
 returns-5 c =
-    at-c (fits (c .before .before .before .before .before .before .before .before .before .before .before .before .before)) (starts (c .before .before .before .before .before .before .before .before .before .before)) (lasts (c .before .before .before .before .before .before .before .before)) (some-a (c .before .before .before .before .before .before)) (some-b (c .before .before .before))
+    at-c (fits (c .before .before .before .before .before .before .before .before .before .before .before .before .before))
+    (starts (c .before .before .before .before .before .before .before .before .before .before)) (lasts (c .before .before .before .before .before .before .before .before))
+    (some-a (c .before .before .before .before .before .before)) (some-b (c .before .before .before))
     (c-fails _ _ _ _ (c .before .before .before .before .before .before .before .before .before .before .before .before .limits-of .ensures) (c .if5 .taken))
 
 returns-6 : tie.Need-returns-6
 unfolding fieldFits
 returns-6 c =
-    at-reserved (fits (c .before .before .before .before .before .before .before .before .before .before .before .before .before .before)) (starts (c .before .before .before .before .before .before .before .before .before .before .before)) (lasts (c .before .before .before .before .before .before .before .before .before)) (some-a (c .before .before .before .before .before .before .before)) (some-b (c .before .before .before .before)) (some-c (c .before))
+    at-reserved (fits (c .before .before .before .before .before .before .before .before .before .before .before .before .before .before))
+    (starts (c .before .before .before .before .before .before .before .before .before .before .before)) (lasts (c .before .before .before .before .before .before .before .before .before))
+    (some-a (c .before .before .before .before .before .before .before)) (some-b (c .before .before .before .before)) (some-c (c .before))
     (ne-eqb _ _ (c .if6 .taken))
 
 returns-7 : tie.Need-returns-7
 unfolding fieldFits
 returns-7 c =
-    at-none (fits (c .before .before .before .before .before .before .before .before .before .before .before .before .before .before)) (starts (c .before .before .before .before .before .before .before .before .before .before .before)) (lasts (c .before .before .before .before .before .before .before .before .before)) (some-a (c .before .before .before .before .before .before .before)) (some-b (c .before .before .before .before)) (some-c (c .before))
+    at-none (fits (c .before .before .before .before .before .before .before .before .before .before .before .before .before .before))
+    (starts (c .before .before .before .before .before .before .before .before .before .before .before)) (lasts (c .before .before .before .before .before .before .before .before .before))
+    (some-a (c .before .before .before .before .before .before .before)) (some-b (c .before .before .before .before)) (some-c (c .before))
     (eq-eqb _ _ (c .if6 .left))
 
 pub bad-term-spec : {M : Type 1} → statement M

@@ -32,7 +32,8 @@ same-length c = search needs
 returns : tie.Need-returns
 returns c =
     let w = c .before .before .before in
-    same-put (word-is w) (looser 16 (omega (arith, month-short (c .before .before .before .before .before .before .before .before .args .n), ap (λ (t : List ℕ). length t) (word-is w))) (c .before .before .put-word .ensures))
+    same-put (word-is w) (looser 16 (omega (arith, month-short (c .before .before .before .before .before .before .before .before .args .n), ap (λ (t : List ℕ). length t) (word-is w)))
+    (c .before .before .put-word .ensures))
 
 pub put-month-spec : {M : Type 1} → statement M
 put-month-spec =

@@ -34,7 +34,9 @@ returns-2 c =
     let twice = c .before .before .before .plus .ensures in
     let more = c .plus2 .ensures in
     record {
-      same = half-odd (g .left) (g .left / 2) (whole all (g .step)) (whole all (c .before .before .before .plus .result)) (whole all (g .done)) (whole all (c .plus2 .result)) (omega (arith, c .before .if1 .left)) (twice .sum) (more .sum);
+      same =
+          half-odd (g .left) (g .left / 2) (whole all (g .step)) (whole all (c .before .before .before .plus .result)) (whole all (g .done)) (whole all (c .plus2 .result))
+          (omega (arith, c .before .if1 .left)) (twice .sum) (more .sum);
       half = refl;
       done-small = more .small;
       step-small = twice .small;

@@ -49,7 +49,13 @@ returns-5 c =
     let d = c .before .before .before in
     let s = d .before .before .before .before .before .before .before .before .before .before .before .before .before .before .before .before .before .before in
     let e = sym (level s) ∙ not-false (read (s .args .x .a) (s .args .y .a)) (d .if4 .left) in
-    rw (eq-eqb _ _ (d .before .before .before .before .before .before .before .if1 .left), eq-eqb _ _ (d .before .before .before .before .if2 .left), eq-eqb _ _ (d .before .if3 .left), e, ne-eqb _ _ (c .if5 .taken)) refl
+    rw (
+      eq-eqb _ _ (d .before .before .before .before .before .before .before .if1 .left),
+      eq-eqb _ _ (d .before .before .before .before .if2 .left),
+      eq-eqb _ _ (d .before .if3 .left),
+      e,
+      ne-eqb _ _ (c .if5 .taken),
+    ) refl
 
 returns-6 : tie.Need-returns-6
 unfolding apartIn
