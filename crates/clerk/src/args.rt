@@ -1,5 +1,12 @@
-// The program's arguments: words, files, numbers.
+// The program's arguments: words, files, numbers, dates.
 use crate::print;
+use clock::Minutes;
+use clock::length_of;
+use clock::start_of;
+use names::Named;
+use names::is_same;
+use names::kind_of;
+use names::service_of;
 pub use node::first;
 use tables::Told;
 use tables::ToldInteger;
@@ -37,6 +44,9 @@ const MOST_SHORT: u64 = 0xffff;
 
 const MOST_LONG: u64 = 0xffff_ffff;
 
+// No month has more days.
+pub const MOST_DAYS: u32 = 31;
+
 // Argument i, in the buffer's first bytes. One that is missing or too long is no argument, and nothing is said.
 pub fn argument(i: usize, buf: &mut [u8]) -> Held {
     let n = os::arg(i, buf);
@@ -61,17 +71,7 @@ pub fn path(i: usize, buf: &mut [u8]) -> Held {
 
 // Whether two texts are the same.
 pub fn is_word(word: &[u8], name: &[u8]) -> bool {
-    if word.len() != name.len() {
-        return false;
-    }
-    let mut i: usize = 0;
-    while i < word.len() {
-        if word[i] != name[i] {
-            return false;
-        }
-        i += 1;
-    }
-    true
+    is_same(word, name)
 }
 
 // Whether argument i is a word.
@@ -91,6 +91,81 @@ pub fn number_at(i: usize) -> Told {
     let mut buf = io::buffer();
     let n = os::arg(i, &mut buf);
     tables::number(&buf[0..n])
+}
+
+// Argument i, a service by its word or by a number; a kind by its word or by a number.
+pub fn service_at(i: usize) -> Byte {
+    let mut buf = io::buffer();
+    let n = os::arg(i, &mut buf);
+    if let Named::Number(service) = service_of(&buf[0..n]) {
+        return Byte::Number(service);
+    }
+    byte_or(
+        i,
+        b"no service: a number, or a word as reserve (desk help has them)",
+    )
+}
+
+pub fn kind_at(i: usize) -> Byte {
+    let mut buf = io::buffer();
+    let n = os::arg(i, &mut buf);
+    if let Named::Number(kind) = kind_of(&buf[0..n]) {
+        return Byte::Number(kind);
+    }
+    byte_or(
+        i,
+        b"no kind: a number, or a word as hydro (desk help has them)",
+    )
+}
+
+// Whether argument i is a start in a month of so many days.
+pub fn is_start(i: usize, days: u32) -> bool {
+    let mut buf = io::buffer();
+    let n = os::arg(i, &mut buf);
+    let start = start_of(days, &buf[0..n]);
+    match start {
+        Minutes::Number(_) => true,
+        Minutes::Nothing => false,
+    }
+}
+
+// Argument i, a start, in a month as long as any.
+pub fn start_at(i: usize) -> Short {
+    let mut buf = io::buffer();
+    let n = os::arg(i, &mut buf);
+    if let Minutes::Number(start) = start_of(MOST_DAYS, &buf[0..n]) {
+        return Short::Number(start);
+    }
+    print::bad_argument(
+        i,
+        b"no start: minutes up to 65535, or day/hour:minute as 16/00:00",
+    );
+    Short::Nothing
+}
+
+// Argument i, a length.
+pub fn length_at(i: usize) -> Short {
+    let mut buf = io::buffer();
+    let n = os::arg(i, &mut buf);
+    if let Minutes::Number(minutes) = length_of(&buf[0..n]) {
+        return Short::Number(minutes);
+    }
+    print::bad_argument(
+        i,
+        b"no length: minutes up to 65535, or hours and minutes as 45h, 90m, 1h30m",
+    );
+    Short::Nothing
+}
+
+// Argument i, a number that a byte holds; what is expected is told where it is none.
+fn byte_or(i: usize, why: &[u8]) -> Byte {
+    if let Told::Number(n) = read_number(i) {
+        if n <= MOST_BYTE {
+            return Byte::Number(n as u8);
+        }
+    }
+    print::bad_argument(i, why);
+    Byte::Nothing
 }
 
 // Argument i, a number that a byte holds, or two, or four.

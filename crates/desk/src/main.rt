@@ -153,8 +153,22 @@ fn run(word: &[u8]) {
     }
 }
 
+// What an argument may be besides a number.
+fn tell_words() {
+    say::text(
+        b"SERVICE: 1 deep-peak, 2 reserve, 3 start-stop, 4 standby, 5 black-start, 6 agc-availability, 7 agc-contribution, 8 frequency-event, 9 avc, 10 stability-trip\n",
+    );
+    say::text(
+        b"KIND: 1 coal, 2 gas, 3 hydro, 4 wind, 5 photovoltaic, 6 solar-thermal, 7 pumped-storage, 8 new-storage\n",
+    );
+    say::text(
+        b"START: minutes, or day/hour:minute as 16/00:00. LENGTH: minutes, or 45h, 90m, 1h30m\n",
+    );
+}
+
 fn help() {
     rows(true, b"");
+    tell_words();
     print::done();
 }
 

@@ -8,8 +8,8 @@ use clerk::args::Byte;
 use clerk::args::Held;
 use clerk::args::Long;
 use clerk::args::Short;
-use clerk::args::byte_at;
 use clerk::args::first;
+use clerk::args::kind_at;
 use clerk::args::long_at;
 use clerk::args::path;
 use clerk::args::short_at;
@@ -78,7 +78,7 @@ pub fn member_given() -> Given {
     let Short::Number(number) = short_at(2) else {
         return Given::Nothing;
     };
-    let Byte::Number(kind) = byte_at(3) else {
+    let Byte::Number(kind) = kind_at(3) else {
         return Given::Nothing;
     };
     let Long::Number(rated) = long_at(4) else {

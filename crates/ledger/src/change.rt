@@ -19,8 +19,12 @@ use clerk::args::Short;
 use clerk::args::byte_at;
 use clerk::args::first;
 use clerk::args::integer_at;
+use clerk::args::is_start;
+use clerk::args::length_at;
 use clerk::args::long_at;
+use clerk::args::service_at;
 use clerk::args::short_at;
+use clerk::args::start_at;
 use clerk::print;
 use clerk::shelf::hold_at;
 use clerk::shelf::is_held;
@@ -29,6 +33,7 @@ use clerk::shelf::load_at;
 use clerk::shelf::opened_at;
 use clerk::shelf::put;
 use clerk::shelf::tell_failed;
+use units::calendar::days_of;
 use wish::Old;
 use wish::Verdict;
 use wish::Wish;
@@ -46,6 +51,11 @@ const OUT: usize = 2;
 
 const BOOK: usize = 3;
 
+// The argument that says when a call starts, where it is entered and where it is revised.
+const ENTERED: usize = 7;
+
+const REVISED: usize = 8;
+
 // A call enters at revision 1, and has at most this one.
 const FIRST_REVISION: u32 = 1;
 
@@ -55,13 +65,13 @@ const HIGHEST: u32 = 0xffff_ffff;
 fn content(i: usize) -> Asked
     requires { ⌜ i < 10 ⌝ }
 {
-    let Byte::Number(service) = byte_at(i) else {
+    let Byte::Number(service) = service_at(i) else {
         return Asked::Nothing;
     };
-    let Short::Number(start) = short_at(i + 1) else {
+    let Short::Number(start) = start_at(i + 1) else {
         return Asked::Nothing;
     };
-    let Short::Number(minutes) = short_at(i + 2) else {
+    let Short::Number(minutes) = length_at(i + 2) else {
         return Asked::Nothing;
     };
     amounts(i + 3, service, start, minutes)
@@ -191,6 +201,30 @@ fn join_asked(wish: Wish, x: Call, given: bool, header: Header, book: &mut [u8],
     join_one(wish, y, header, book, n)
 }
 
+// What a month of so many days has not.
+fn tell_no_day(i: usize, days: u32) {
+    match days {
+        28 => print::bad_argument(i, b"no such day: the month has 28"),
+        29 => print::bad_argument(i, b"no such day: the month has 29"),
+        _ => print::bad_argument(i, b"no such day: the month has 30"),
+    }
+}
+
+// Whether the day of the start that a wish has is one of the book's month; where it is not, one line has said so.
+fn is_in_month(wish: Wish, header: Header) -> bool {
+    let days = days_of(header.year, header.month);
+    let i = match wish {
+        Wish::Enter => ENTERED,
+        Wish::Revise => REVISED,
+        Wish::Withdraw => return true,
+    };
+    if is_start(i, days) {
+        return true;
+    }
+    tell_no_day(i, days);
+    false
+}
+
 // The book that argument 3 names, with the call joined in.
 fn changed(wish: Wish, x: Call, given: bool, book: &mut [u8]) -> Held {
     let Held::Bytes(n) = load_at(BOOK, book) else {
@@ -198,6 +232,9 @@ fn changed(wish: Wish, x: Call, given: bool, book: &mut [u8]) -> Held {
     };
     let o = opened_at(BOOK, first(book, n));
     if o.number != 0 {
+        return Held::Nothing;
+    }
+    if !is_in_month(wish, o.header) {
         return Held::Nothing;
     }
     join_asked(wish, x, given, o.header, book, n)

@@ -2,7 +2,7 @@
 use mathlib.Core.Path.{_≡_, refl, sym, _∙_, ap}
 use mathlib.Core.List.{List, [], _∷_, _++_, map, append-assoc}
 use mathlib.Core.Logic.{_≢_}
-use Prim.Native.Nat.{ℕ, zero, suc, _+_, _*_, _-_, _/_, _%_, _≤_, _<_}
+use Prim.Native.Nat.{ℕ, zero, suc, _+_, _-_, _/_, _%_, _≤_, _<_}
 use native.Mathlib.Decide.{decLt}
 use native.Mathlib.Omega.{arith}
 use borrow.Author.Tests.{ne-eqb}
@@ -15,31 +15,10 @@ use Rattle.render.specs.Decimal.{word, digit, decimalIn, decimal, signedDecimal
 use Rattle.text.specs.Reading.{blankByte, minus, wordNumber, rowsOf, nothingNamed, named, butLast, lastNamed, Reading, readRows, readNumbers, lineNumbers}
 use Rattle.text.specs.Texts.{refusalText, refusedText, totalText, userText, lineText, linesText, statementText}
 use Rattle.render.proofs.Decimals.{small, none-left, large}
+use Rattle.clock.proofs.ReadBack.{value-decimal}
 use Rattle.text.proofs.Statements.{append-none, accepted-text, refusal-text}
 
 -- Numbers
-
-value-append : (v : ℕ) (xs ys : List ℕ) → value v (xs ++ ys) ≡ value (value v xs) ys
-value-append v [] ys = refl
-value-append v (x ∷ xs) ys = value-append (v * 10 + (x - 48)) xs ys
-
-one-digit : (v d : ℕ) → value v (digit d ∷ []) ≡ v * 10 + d
-one-digit v d = omega arith
-
-value-in : (steps n : ℕ) → n ≤ steps → value 0 (decimalIn steps n) ≡ n
-value-in zero n h = ap (value 0) (small zero n (omega arith)) ∙ one-digit 0 n ∙ omega arith
-value-in (suc s) n h = go (decLt n 10) (λ f. value-in s (n / 10) (omega arith))
-  where
-    go : Dec (n < 10) → (10 ≤ n → value 0 (decimalIn s (n / 10)) ≡ n / 10) → value 0 (decimalIn (suc s) n) ≡ n
-    go (yes f) front = ap (value 0) (small (suc s) n f) ∙ one-digit 0 n ∙ omega arith
-    go (no f) front =
-        ap (value 0) (large s n (omega arith)) ∙ value-append 0 (decimalIn s (n / 10)) (digit (n % 10) ∷ [])
-        ∙ ap (λ (v : ℕ). value v (digit (n % 10) ∷ [])) (front (omega arith)) ∙ one-digit (n / 10) (n % 10) ∙ omega arith
-
--- the digits of a number are worth the number
-pub value-decimal : (n : ℕ) → value 0 (decimal n) ≡ n
-unfolding decimal
-value-decimal n = value-in n n (omega arith)
 
 -- every byte is k or above
 data Above (k : ℕ) : List ℕ → Type 0 where

@@ -3,33 +3,17 @@ use mathlib.Core.Bool.{Bool, true, false}
 use mathlib.Core.Path.{_≡_, refl, sym, ap}
 use mathlib.Core.List.{List, [], _∷_, _++_}
 use mathlib.Core.Logic.{_≢_}
-use Prim.Native.Nat.{ℕ, zero, suc}
+use Prim.Native.Nat.{ℕ}
 use native.Mathlib.Omega.{arith}
 use borrow.Author.Tests.{eq-eqb, ne-eqb}
 use lib.ListN.{length}
 use Rattle.call.specs.declared.Call.{Call}
 use Rattle.render.specs.Decimal.{word}
-use Rattle.text.specs.Texts.{whatText, whichText, stateText, serviceText, timeText, termsText, detailsText}
+use Rattle.text.specs.Texts.{whatText, whichText, stateText, timeText, termsText, detailsText}
 
 pub withdrawn-text : (s : ℕ) → s ≢ 0 → s ≢ 1 → word " withdrawn" ≡ stateText s
 unfolding stateText
 withdrawn-text s h l = rw (ne-eqb s 0 h, ne-eqb s 1 l)
-
--- no service of the paper
-pub no-service : (s : ℕ) → s ≢ 1 → s ≢ 2 → s ≢ 3 → s ≢ 4 → s ≢ 5 → s ≢ 6 → s ≢ 7 → s ≢ 8 → s ≢ 9 → s ≢ 10 → word " none" ≡ serviceText s
-unfolding serviceText
-no-service zero a b c d e f g h i j = refl
-no-service (suc zero) a b c d e f g h i j = absurd (a refl)
-no-service (suc (suc zero)) a b c d e f g h i j = absurd (b refl)
-no-service (suc (suc (suc zero))) a b c d e f g h i j = absurd (c refl)
-no-service (suc (suc (suc (suc zero)))) a b c d e f g h i j = absurd (d refl)
-no-service (suc (suc (suc (suc (suc zero))))) a b c d e f g h i j = absurd (e refl)
-no-service (suc (suc (suc (suc (suc (suc zero)))))) a b c d e f g h i j = absurd (f refl)
-no-service (suc (suc (suc (suc (suc (suc (suc zero))))))) a b c d e f g h i j = absurd (g refl)
-no-service (suc (suc (suc (suc (suc (suc (suc (suc zero)))))))) a b c d e f g h i j = absurd (h refl)
-no-service (suc (suc (suc (suc (suc (suc (suc (suc (suc zero))))))))) a b c d e f g h i j = absurd (i refl)
-no-service (suc (suc (suc (suc (suc (suc (suc (suc (suc (suc zero)))))))))) a b c d e f g h i j = absurd (j refl)
-no-service (suc (suc (suc (suc (suc (suc (suc (suc (suc (suc (suc s))))))))))) a b c d e f g h i j = refl
 
 pub no-details : (x : Call) → x .state ≢ 0 → [] ≡ detailsText x
 unfolding detailsText

@@ -3,6 +3,7 @@ use mathlib.Core.List.{List}
 use Prim.Native.Nat.{ℕ, _+_, _*_}
 use lib.ListN.{length}
 use Rattle.render.specs.Room.{mostDecimal}
+use Rattle.clock.specs.Clock.{mostDate, mostLength}
 
 -- `refused `, a number, a blank, a number
 abbrev pub mostRefusal : ℕ
@@ -67,9 +68,9 @@ mostUser = 5 + mostDecimal + 1
 abbrev pub mostStatement : ℕ
 mostStatement = mostTotal + 64 * mostLine + mostUser
 
--- seven numbers, and the words of a live call with the longest name of a service
+-- seven numbers, a date and a length in brackets, and the words of a live call with the longest name of a service
 abbrev pub mostCall : ℕ
-mostCall = 95 + 7 * mostDecimal
+mostCall = 95 + 7 * mostDecimal + 3 + mostDate + 3 + mostLength
 
 -- `second ` and a call
 abbrev pub mostFound : ℕ

@@ -4,13 +4,15 @@ use mathlib.Core.List.{List, [], _∷_, _++_, map}
 use Prim.Native.Nat.{ℕ}
 use lib.Dec.{eqb, ltb}
 use lib.IntN.{ℤ}
-use lib.ListN.{take, getD}
+use lib.ListN.{take}
 use Rattle.book.specs.declared.Header.{Header}
 use Rattle.call.specs.declared.Call.{Call}
 use Rattle.call.specs.Revising.{live, contested}
 use Rattle.share.specs.declared.Line.{Line}
 use Rattle.share.specs.declared.Shared.{Shared}
 use Rattle.render.specs.Decimal.{word, decimal, field, signedField}
+use Rattle.clock.specs.Clock.{dateText, lengthText}
+use Rattle.names.specs.Names.{serviceWord}
 
 -- Sharing
 
@@ -103,31 +105,25 @@ notHigherText stands least = field "unchanged revision " stands ++ field " stand
 unfoldable pub stateText : ℕ → List ℕ
 stateText state = cond (eqb state live) (word " live") (cond (eqb state contested) (word " contested") (word " withdrawn"))
 
--- the services, by their numbers in the paper
+-- the service by its word
 unfoldable pub serviceText : ℕ → List ℕ
-serviceText service =
-    getD (
-    word " none"
-    ∷ word " deep-peak"
-    ∷ word " reserve"
-    ∷ word " start-stop"
-    ∷ word " standby"
-    ∷ word " black-start"
-    ∷ word " agc-availability"
-    ∷ word " agc-contribution"
-    ∷ word " frequency-event"
-    ∷ word " avc"
-    ∷ word " stability-trip"
-    ∷ []
-    ) service (word " none")
+serviceText service = word " " ++ serviceWord service
 
 -- whose call it is, which revision, and its state
 unfoldable pub keyText : Call → List ℕ
 keyText c = field "member " (c .participant) ++ field " call " (c .number) ++ field " revision " (c .revision) ++ stateText (c .state)
 
--- when it is
+-- when it starts: minutes, and the date
+unfoldable pub startText : ℕ → List ℕ
+startText start = field " start " start ++ word " (" ++ dateText start ++ word ")"
+
+-- how long it is: minutes, and hours and minutes
+unfoldable pub longText : ℕ → List ℕ
+longText minutes = field " length " minutes ++ word " (" ++ lengthText minutes ++ word ")"
+
+-- what it is, and when
 unfoldable pub timeText : Call → List ℕ
-timeText c = serviceText (c .service) ++ field " start " (c .start) ++ field " length " (c .length)
+timeText c = serviceText (c .service) ++ startText (c .start) ++ longText (c .length)
 
 -- its terms
 unfoldable pub termsText : Call → List ℕ
@@ -150,12 +146,12 @@ unfoldable pub foundText : Bool → Call → List ℕ
 foundText second c = whichText second ++ callText c
 
 -- whose month a book is of
-unfoldable pub dateText : Header → List ℕ
-dateText h = field "area " (h .area) ++ field " year " (h .year) ++ field " month " (h .month)
+unfoldable pub whoseText : Header → List ℕ
+whoseText h = field "area " (h .area) ++ field " year " (h .year) ++ field " month " (h .month)
 
 -- the same, and how many calls the book has
 unfoldable pub headerText : Header → ℕ → List ℕ
-headerText h calls = dateText h ++ field " calls " calls ++ word "\n"
+headerText h calls = whoseText h ++ field " calls " calls ++ word "\n"
 
 -- a member's score
 unfoldable pub scoreText : ℕ → ℕ → List ℕ

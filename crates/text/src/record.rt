@@ -3,6 +3,8 @@ use book::Header;
 use call::CONTESTED;
 use call::Call;
 use call::LIVE;
+use clock::put_date;
+use clock::put_length;
 use render::put_field;
 use render::put_signed_field32;
 use render::put_word;
@@ -14,12 +16,12 @@ ghost use Rattle.io.specs.Counts.{Counts};
 ghost use Rattle.render.specs.Inner.{Puts};
 ghost use Rattle.render.specs.Room.{Renders};
 ghost use Rattle.text.specs.Room.{mostCall, mostFound, mostHeader, mostScore};
-ghost use Rattle.text.specs.Texts.{stateText, serviceText, keyText, timeText, termsText, detailsText, callText, whichText, foundText, dateText, headerText, scoreText};
+ghost use Rattle.text.specs.Texts.{stateText, serviceText, keyText, startText, longText, timeText, termsText, detailsText, callText, whichText, foundText, whoseText, headerText, scoreText};
 
 // The most bytes of each.
-pub const MOST_CALL: usize = 235;
+pub const MOST_CALL: usize = 309;
 
-pub const MOST_FOUND: usize = 242;
+pub const MOST_FOUND: usize = 316;
 
 pub const MOST_HEADER: usize = 106;
 
@@ -40,19 +42,8 @@ fn put_service(out: &mut [u8], at: usize, service: u8) -> usize
     requires { ⌜ at + 17 ≤ length (now out) ⌝ }
     ensures { λ r. ⌜ Puts 17 (now (out .entry)) at (serviceText service) (now (out .exit)) r ⌝ }
 {
-    match service {
-        1 => put_word(out, at, b" deep-peak"),
-        2 => put_word(out, at, b" reserve"),
-        3 => put_word(out, at, b" start-stop"),
-        4 => put_word(out, at, b" standby"),
-        5 => put_word(out, at, b" black-start"),
-        6 => put_word(out, at, b" agc-availability"),
-        7 => put_word(out, at, b" agc-contribution"),
-        8 => put_word(out, at, b" frequency-event"),
-        9 => put_word(out, at, b" avc"),
-        10 => put_word(out, at, b" stability-trip"),
-        _ => put_word(out, at, b" none"),
-    }
+    let next = put_word(out, at, b" ");
+    names::put_service(out, next, service)
 }
 
 fn put_key(out: &mut [u8], at: usize, x: Call) -> usize
@@ -65,13 +56,33 @@ fn put_key(out: &mut [u8], at: usize, x: Call) -> usize
     put_state(out, c, x.state)
 }
 
+fn put_start(out: &mut [u8], at: usize, start: u16) -> usize
+    requires { ⌜ at + 56 ≤ length (now out) ⌝ }
+    ensures { λ r. ⌜ Puts 56 (now (out .entry)) at (startText start) (now (out .exit)) r ⌝ }
+{
+    let a = put_field(out, at, b" start ", start as u64);
+    let b = put_word(out, a, b" (");
+    let c = put_date(out, b, start);
+    put_word(out, c, b")")
+}
+
+fn put_long(out: &mut [u8], at: usize, minutes: u16) -> usize
+    requires { ⌜ at + 73 ≤ length (now out) ⌝ }
+    ensures { λ r. ⌜ Puts 73 (now (out .entry)) at (longText minutes) (now (out .exit)) r ⌝ }
+{
+    let a = put_field(out, at, b" length ", minutes as u64);
+    let b = put_word(out, a, b" (");
+    let c = put_length(out, b, minutes);
+    put_word(out, c, b")")
+}
+
 fn put_time(out: &mut [u8], at: usize, x: Call) -> usize
-    requires { ⌜ at + 72 ≤ length (now out) ⌝ }
-    ensures { λ r. ⌜ Puts 72 (now (out .entry)) at (timeText x) (now (out .exit)) r ⌝ }
+    requires { ⌜ at + 146 ≤ length (now out) ⌝ }
+    ensures { λ r. ⌜ Puts 146 (now (out .entry)) at (timeText x) (now (out .exit)) r ⌝ }
 {
     let a = put_service(out, at, x.service);
-    let b = put_field(out, a, b" start ", x.start as u64);
-    put_field(out, b, b" length ", x.length as u64)
+    let b = put_start(out, a, x.start);
+    put_long(out, b, x.length)
 }
 
 fn put_terms(out: &mut [u8], at: usize, x: Call) -> usize
@@ -84,8 +95,8 @@ fn put_terms(out: &mut [u8], at: usize, x: Call) -> usize
 }
 
 fn put_details(out: &mut [u8], at: usize, x: Call) -> usize
-    requires { ⌜ at + 141 ≤ length (now out) ⌝ }
-    ensures { λ r. ⌜ Puts 141 (now (out .entry)) at (detailsText x) (now (out .exit)) r ⌝ }
+    requires { ⌜ at + 215 ≤ length (now out) ⌝ }
+    ensures { λ r. ⌜ Puts 215 (now (out .entry)) at (detailsText x) (now (out .exit)) r ⌝ }
 {
     if x.state != LIVE {
         return at;
@@ -122,9 +133,9 @@ fn put_found(out: &mut [u8], second: bool, x: Call) -> usize
     put_call(out, next, x)
 }
 
-fn put_date(out: &mut [u8], at: usize, h: Header) -> usize
+fn put_whose(out: &mut [u8], at: usize, h: Header) -> usize
     requires { ⌜ at + 78 ≤ length (now out) ⌝ }
-    ensures { λ r. ⌜ Puts 78 (now (out .entry)) at (dateText h) (now (out .exit)) r ⌝ }
+    ensures { λ r. ⌜ Puts 78 (now (out .entry)) at (whoseText h) (now (out .exit)) r ⌝ }
 {
     let a = put_field(out, at, b"area ", h.area as u64);
     let b = put_field(out, a, b" year ", h.year as u64);
@@ -135,7 +146,7 @@ fn put_header(out: &mut [u8], at: usize, h: Header, calls: usize) -> usize
     requires { ⌜ at + mostHeader ≤ length (now out) ⌝ }
     ensures { λ r. ⌜ Puts mostHeader (now (out .entry)) at (headerText h calls) (now (out .exit)) r ⌝ }
 {
-    let a = put_date(out, at, h);
+    let a = put_whose(out, at, h);
     let b = put_field(out, a, b" calls ", calls as u64);
     put_word(out, b, b"\n")
 }

@@ -8,7 +8,7 @@ use Rattle.text.proofs.record.put_details.Tie as tie
 returns : tie.Need-returns
 returns c =
     let a = c .before .before .before .args in
-    same-put (no-details (a .x) (c .if1 .taken)) (looser 141 (omega arith) (none-put (a .out .now) (a .at)))
+    same-put (no-details (a .x) (c .if1 .taken)) (looser 215 (omega arith) (none-put (a .out .now) (a .at)))
 
 put-time-requires : tie.Need-put-time-requires
 put-time-requires c κs = search needs

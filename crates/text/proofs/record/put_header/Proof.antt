@@ -4,8 +4,8 @@ use borrow.Author.Needs.{needs}
 use Rattle.text.proofs.record.put_header.Statement.{statement}
 use Rattle.text.proofs.record.put_header.Tie as tie
 
-put-date-requires : tie.Need-put-date-requires
-put-date-requires c κs = search needs
+put-whose-requires : tie.Need-put-whose-requires
+put-whose-requires c κs = search needs
 
 slice-aggregate-put-field : tie.Need-slice-aggregate-put-field
 slice-aggregate-put-field c = search needs
@@ -25,7 +25,7 @@ same-length c = search needs
 returns : tie.Need-returns
 unfolding headerText
 returns c =
-    let p = c .before .before .before .before .before .before .before .before .before .before .before .before .put-date .ensures in
+    let p = c .before .before .before .before .before .before .before .before .before .before .before .before .put-whose .ensures in
     let q = c .before .before .before .before .before .before .before .put-field .ensures in
     let r = c .before .before .put-word .ensures in
     and-then (and-then p q) r
@@ -34,7 +34,7 @@ pub put-header-spec : {M : Type 1} → statement M
 put-header-spec =
     tie.close
     (tie.spec
-    put-date-requires
+    put-whose-requires
     slice-aggregate-put-field
     put-field-requires
     slice-aggregate-put-word

@@ -1,8 +1,5 @@
-use mathlib.Core.Path.{sym, ap}
-use native.Mathlib.Omega.{arith}
 use Rattle.text.specs.Texts.{serviceText}
-use Rattle.render.proofs.Placed.{looser, same-put}
-use Rattle.text.proofs.Records.{no-service}
+use Rattle.render.proofs.Placed.{and-then}
 use borrow.Author.Needs.{needs}
 use Rattle.text.proofs.record.put_service.Statement.{statement}
 use Rattle.text.proofs.record.put_service.Tie as tie
@@ -13,191 +10,17 @@ slice-aggregate-put-word c = search needs
 put-word-requires : tie.Need-put-word-requires
 put-word-requires c κs = search needs
 
-slice-aggregate-put-word-2 : tie.Need-slice-aggregate-put-word-2
-slice-aggregate-put-word-2 c = search needs
-
-put-word-requires-2 : tie.Need-put-word-requires-2
-put-word-requires-2 c κs = search needs
-
-slice-aggregate-put-word-3 : tie.Need-slice-aggregate-put-word-3
-slice-aggregate-put-word-3 c = search needs
-
-put-word-requires-3 : tie.Need-put-word-requires-3
-put-word-requires-3 c κs = search needs
-
-slice-aggregate-put-word-4 : tie.Need-slice-aggregate-put-word-4
-slice-aggregate-put-word-4 c = search needs
-
-put-word-requires-4 : tie.Need-put-word-requires-4
-put-word-requires-4 c κs = search needs
-
-slice-aggregate-put-word-5 : tie.Need-slice-aggregate-put-word-5
-slice-aggregate-put-word-5 c = search needs
-
-put-word-requires-5 : tie.Need-put-word-requires-5
-put-word-requires-5 c κs = search needs
-
-slice-aggregate-put-word-6 : tie.Need-slice-aggregate-put-word-6
-slice-aggregate-put-word-6 c = search needs
-
-put-word-requires-6 : tie.Need-put-word-requires-6
-put-word-requires-6 c κs = search needs
-
-slice-aggregate-put-word-7 : tie.Need-slice-aggregate-put-word-7
-slice-aggregate-put-word-7 c = search needs
-
-put-word-requires-7 : tie.Need-put-word-requires-7
-put-word-requires-7 c κs = search needs
-
-slice-aggregate-put-word-8 : tie.Need-slice-aggregate-put-word-8
-slice-aggregate-put-word-8 c = search needs
-
-put-word-requires-8 : tie.Need-put-word-requires-8
-put-word-requires-8 c κs = search needs
-
-slice-aggregate-put-word-9 : tie.Need-slice-aggregate-put-word-9
-slice-aggregate-put-word-9 c = search needs
-
-put-word-requires-9 : tie.Need-put-word-requires-9
-put-word-requires-9 c κs = search needs
-
-slice-aggregate-put-word-10 : tie.Need-slice-aggregate-put-word-10
-slice-aggregate-put-word-10 c = search needs
-
-put-word-requires-10 : tie.Need-put-word-requires-10
-put-word-requires-10 c κs = search needs
-
-slice-aggregate-put-word-11 : tie.Need-slice-aggregate-put-word-11
-slice-aggregate-put-word-11 c = search needs
-
-put-word-requires-11 : tie.Need-put-word-requires-11
-put-word-requires-11 c κs = search needs
+put-service-requires : tie.Need-put-service-requires
+put-service-requires c κs = search needs
 
 same-length : tie.Need-same-length
 same-length c = search needs
 
 returns : tie.Need-returns
 unfolding serviceText
-returns c = same-put (ap serviceText (sym (c .before .before .before .before .before .match .keys1))) (looser 17 (omega arith) (c .before .before .put-word .ensures))
-
-same-length-2 : tie.Need-same-length-2
-same-length-2 c = search needs
-
-returns-2 : tie.Need-returns-2
-unfolding serviceText
-returns-2 c = same-put (ap serviceText (sym (c .before .before .before .before .before .match .keys2))) (looser 17 (omega arith) (c .before .before .put-word2 .ensures))
-
-same-length-3 : tie.Need-same-length-3
-same-length-3 c = search needs
-
-returns-3 : tie.Need-returns-3
-unfolding serviceText
-returns-3 c = same-put (ap serviceText (sym (c .before .before .before .before .before .match .keys3))) (looser 17 (omega arith) (c .before .before .put-word3 .ensures))
-
-same-length-4 : tie.Need-same-length-4
-same-length-4 c = search needs
-
-returns-4 : tie.Need-returns-4
-unfolding serviceText
-returns-4 c = same-put (ap serviceText (sym (c .before .before .before .before .before .match .keys4))) (looser 17 (omega arith) (c .before .before .put-word4 .ensures))
-
-same-length-5 : tie.Need-same-length-5
-same-length-5 c = search needs
-
-returns-5 : tie.Need-returns-5
-unfolding serviceText
-returns-5 c = same-put (ap serviceText (sym (c .before .before .before .before .before .match .keys5))) (looser 17 (omega arith) (c .before .before .put-word5 .ensures))
-
-same-length-6 : tie.Need-same-length-6
-same-length-6 c = search needs
-
-returns-6 : tie.Need-returns-6
-unfolding serviceText
-returns-6 c = same-put (ap serviceText (sym (c .before .before .before .before .before .match .keys6))) (looser 17 (omega arith) (c .before .before .put-word6 .ensures))
-
-same-length-7 : tie.Need-same-length-7
-same-length-7 c = search needs
-
-returns-7 : tie.Need-returns-7
-unfolding serviceText
-returns-7 c = same-put (ap serviceText (sym (c .before .before .before .before .before .match .keys7))) (looser 17 (omega arith) (c .before .before .put-word7 .ensures))
-
-same-length-8 : tie.Need-same-length-8
-same-length-8 c = search needs
-
-returns-8 : tie.Need-returns-8
-unfolding serviceText
-returns-8 c = same-put (ap serviceText (sym (c .before .before .before .before .before .match .keys8))) (looser 17 (omega arith) (c .before .before .put-word8 .ensures))
-
-same-length-9 : tie.Need-same-length-9
-same-length-9 c = search needs
-
-returns-9 : tie.Need-returns-9
-unfolding serviceText
-returns-9 c = same-put (ap serviceText (sym (c .before .before .before .before .before .match .keys9))) (looser 17 (omega arith) (c .before .before .put-word9 .ensures))
-
-same-length-10 : tie.Need-same-length-10
-same-length-10 c = search needs
-
-returns-10 : tie.Need-returns-10
-unfolding serviceText
-returns-10 c = same-put (ap serviceText (sym (c .before .before .before .before .before .match .keys10))) (looser 17 (omega arith) (c .before .before .put-word10 .ensures))
-
-same-length-11 : tie.Need-same-length-11
-same-length-11 c = search needs
-
-returns-11 : tie.Need-returns-11
-returns-11 c =
-    let not = c .before .before .before .before .before .match .rest in
-    let up = not .0 .0 .0 .0 .0 in
-    same-put (no-service _ (up .0 .0 .0 .0 .1) (up .0 .0 .0 .1) (up .0 .0 .1) (up .0 .1) (up .1) (not .0 .0 .0 .0 .1) (not .0 .0 .0 .1) (not .0 .0 .1) (not .0 .1) (not .1))
-    (looser 17 (omega arith) (c .before .before .put-word11 .ensures))
+returns c = and-then (c .before .before .before .before .before .before .put-word .ensures) (c .before .before .put-service .ensures)
 
 pub put-service-spec : {M : Type 1} → statement M
 put-service-spec =
     tie.close
-    (tie.spec
-    slice-aggregate-put-word
-    put-word-requires
-    slice-aggregate-put-word-2
-    put-word-requires-2
-    slice-aggregate-put-word-3
-    put-word-requires-3
-    slice-aggregate-put-word-4
-    put-word-requires-4
-    slice-aggregate-put-word-5
-    put-word-requires-5
-    slice-aggregate-put-word-6
-    put-word-requires-6
-    slice-aggregate-put-word-7
-    put-word-requires-7
-    slice-aggregate-put-word-8
-    put-word-requires-8
-    slice-aggregate-put-word-9
-    put-word-requires-9
-    slice-aggregate-put-word-10
-    put-word-requires-10
-    slice-aggregate-put-word-11
-    put-word-requires-11
-    same-length
-    returns
-    same-length-2
-    returns-2
-    same-length-3
-    returns-3
-    same-length-4
-    returns-4
-    same-length-5
-    returns-5
-    same-length-6
-    returns-6
-    same-length-7
-    returns-7
-    same-length-8
-    returns-8
-    same-length-9
-    returns-9
-    same-length-10
-    returns-10
-    same-length-11
-    returns-11)
+    (tie.spec slice-aggregate-put-word put-word-requires put-service-requires same-length returns)

@@ -7,23 +7,11 @@ use Rattle.text.proofs.record.put_time.Tie as tie
 put-service-requires : tie.Need-put-service-requires
 put-service-requires c κs = search needs
 
-slice-aggregate-put-field : tie.Need-slice-aggregate-put-field
-slice-aggregate-put-field c = search needs
+put-start-requires : tie.Need-put-start-requires
+put-start-requires c κs = search needs
 
-cast-put-field : tie.Need-cast-put-field
-cast-put-field c = search needs
-
-put-field-requires : tie.Need-put-field-requires
-put-field-requires c κs = search needs
-
-slice-aggregate-put-field-2 : tie.Need-slice-aggregate-put-field-2
-slice-aggregate-put-field-2 c = search needs
-
-cast-put-field-2 : tie.Need-cast-put-field-2
-cast-put-field-2 c = search needs
-
-put-field-requires-2 : tie.Need-put-field-requires-2
-put-field-requires-2 c κs = search needs
+put-long-requires : tie.Need-put-long-requires
+put-long-requires c κs = search needs
 
 same-length : tie.Need-same-length
 same-length c = search needs
@@ -31,21 +19,12 @@ same-length c = search needs
 returns : tie.Need-returns
 unfolding timeText
 returns c =
-    let p = c .before .before .before .before .before .before .before .before .before .before .before .before .before .before .put-service .ensures in
-    let q = c .before .before .before .before .before .before .before .before .put-field .ensures in
-    let r = c .before .before .put-field2 .ensures in
+    let p = c .before .before .before .before .before .before .before .before .before .before .put-service .ensures in
+    let q = c .before .before .before .before .before .before .put-start .ensures in
+    let r = c .before .before .put-long .ensures in
     and-then (and-then p q) r
 
 pub put-time-spec : {M : Type 1} → statement M
 put-time-spec =
     tie.close
-    (tie.spec
-    put-service-requires
-    slice-aggregate-put-field
-    cast-put-field
-    put-field-requires
-    slice-aggregate-put-field-2
-    cast-put-field-2
-    put-field-requires-2
-    same-length
-    returns)
+    (tie.spec put-service-requires put-start-requires put-long-requires same-length returns)

@@ -1,8 +1,8 @@
-use Rattle.text.specs.Texts.{dateText}
+use Rattle.text.specs.Texts.{whoseText}
 use Rattle.render.proofs.Placed.{and-then}
 use borrow.Author.Needs.{needs}
-use Rattle.text.proofs.record.put_date.Statement.{statement}
-use Rattle.text.proofs.record.put_date.Tie as tie
+use Rattle.text.proofs.record.put_whose.Statement.{statement}
+use Rattle.text.proofs.record.put_whose.Tie as tie
 
 slice-aggregate-put-field : tie.Need-slice-aggregate-put-field
 slice-aggregate-put-field c = search needs
@@ -35,15 +35,15 @@ same-length : tie.Need-same-length
 same-length c = search needs
 
 returns : tie.Need-returns
-unfolding dateText
+unfolding whoseText
 returns c =
     let p = c .before .before .before .before .before .before .before .before .before .before .before .before .before .before .put-field .ensures in
     let q = c .before .before .before .before .before .before .before .before .put-field2 .ensures in
     let r = c .before .before .put-field3 .ensures in
     and-then (and-then p q) r
 
-pub put-date-spec : {M : Type 1} → statement M
-put-date-spec =
+pub put-whose-spec : {M : Type 1} → statement M
+put-whose-spec =
     tie.close
     (tie.spec
     slice-aggregate-put-field
