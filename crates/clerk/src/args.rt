@@ -159,7 +159,7 @@ pub fn length_at(i: usize) -> Short {
 
 // Argument i, a number that a byte holds; what is expected is told where it is none.
 fn byte_or(i: usize, why: &[u8]) -> Byte {
-    if let Told::Number(n) = read_number(i) {
+    if let Told::Number(n) = number_at(i) {
         if n <= MOST_BYTE {
             return Byte::Number(n as u8);
         }
