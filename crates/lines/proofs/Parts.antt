@@ -18,10 +18,11 @@ use Rattle.share.specs.Sharing.{mostPart}
 use Rattle.lines.specs.declared.body.Body.{Body}
 use Rattle.lines.specs.declared.body.Listed.{Listed}
 use Rattle.lines.specs.declared.part.FirstLine.{FirstLine}
+use Rattle.lines.specs.declared.Head.{Head}
 use Rattle.lines.specs.declared.Reader.{Reader}
 use Rattle.lines.specs.declared.Taken.{Taken}
 use Rattle.lines.specs.Text.{space, partIn, textPart, textLines, withPart, partRefused, partThen, readText}
-use Rattle.lines.specs.Meaning.{bodyOutcome, bodyMeaning, BodyFresh, BodyStays, partWhen, fairPart, firstSays, FirstLineIs, partIsPast, meaning}
+use Rattle.lines.specs.Meaning.{bodyOutcome, bodyMeaning, BodyFresh, BodyStays, partWhen, fairPart, firstSays, FirstLineIs, HeadIs, meaning}
 use Rattle.lines.specs.Stream.{Tells, Stays}
 
 -- A part and what is behind it
@@ -102,29 +103,46 @@ module _ (row : Row) (bytes : List ℕ) where
 
 module _ (s : Reader) (bytes : List ℕ) where
   -- behind the part
-  pub behind-fed : (b : Body) → s .ahead ≡ false → ((rest : List ℕ) → bodyMeaning b rest ≡ bodyMeaning (s .body) (bytes ++ rest))
-      → (rest : List ℕ) → meaning (record { first = s .first; body = b; part = s .part; ahead = false }) rest ≡ meaning s (bytes ++ rest)
+  pub head-behind : s .ahead ≡ false → HeadIs s bytes (record { first = s .first; next = 0; part = s .part; ahead = false })
   unfolding meaning
-  behind-fed b e h rest = rw e (ap (λ (l : Listed). partThen (s .part) l) (h rest))
+  head-behind e = record { within = omega arith; still = λ f. absurd (true≢false (sym f)); behind = λ f rest. rw e }
 
   module _ (ahead : s .ahead ≡ true) (l : FirstLine) (f : FirstLineIs (s .first) bytes l) where
     -- within its line
-    pub ahead-fed : length bytes ≤ l .next → (rest : List ℕ) → meaning (record { first = l .row; body = s .body; part = s .part; ahead = true }) rest ≡ meaning s (bytes ++ rest)
+    pub head-still : length bytes ≤ l .next → HeadIs s bytes (record { first = l .row; next = 0; part = s .part; ahead = true })
     unfolding meaning
-    ahead-fed over rest =
-        rw ahead (ap (λ (xs : List ℕ). firstSays (l .row) (s .body) (xs ++ rest)) (sym (drop-of-length-le bytes {i = l .next} over)) ∙ f .says (s .body) rest)
+    head-still over =
+        record {
+          within = omega arith;
+          still = λ e rest.
+              rw ahead (ap (λ (xs : List ℕ). firstSays (l .row) (s .body) (xs ++ rest)) (sym (drop-of-length-le bytes {i = l .next} over)) ∙ f .says (s .body) rest);
+          behind = λ e. absurd (true≢false e);
+        }
 
     -- across its end
-    pub past-fed : (b : Body) (part : ℕ) → l .next < length bytes → part ≡ fairPart (partWhen (l .row) [])
-        → ((rest : List ℕ) → bodyMeaning b rest ≡ bodyMeaning (s .body) (drop (l .next + 1) bytes ++ rest))
-        → (rest : List ℕ) → meaning (record { first = l .row; body = b; part = part; ahead = false }) rest ≡ meaning s (bytes ++ rest)
+    pub head-past : (part : ℕ) → l .next < length bytes → part ≡ fairPart (partWhen (l .row) []) → HeadIs s bytes (record { first = l .row; next = l .next + 1; part = part; ahead = false })
     unfolding meaning
-    past-fed b part less e h rest =
-        let x = drop (l .next + 1) bytes ++ rest in
-        rw ahead
-        (part-told part (partWhen (l .row) []) (bodyMeaning b rest) e ∙ ap (λ (y : Listed). partThen (partWhen (l .row) []) y) (h rest)
-        ∙ sym (first-ends (l .row) (s .body) (getD bytes (l .next) 0) x (f .ends less))
-        ∙ ap (λ (xs : List ℕ). firstSays (l .row) (s .body) (xs ++ rest)) (sym (next-byte bytes (l .next) less)) ∙ f .says (s .body) rest)
+    head-past part less e =
+        record {
+          within = omega arith;
+          still = λ k. absurd (true≢false (sym k));
+          behind = λ k rest.
+              let x = drop (l .next + 1) bytes ++ rest in
+              rw ahead
+              (part-told part (partWhen (l .row) []) (bodyMeaning (s .body) x) e
+              ∙ sym (first-ends (l .row) (s .body) (getD bytes (l .next) 0) x (f .ends less))
+              ∙ ap (λ (xs : List ℕ). firstSays (l .row) (s .body) (xs ++ rest)) (sym (next-byte bytes (l .next) less)) ∙ f .says (s .body) rest);
+        }
+
+  module _ (h : Head) (k : HeadIs s bytes h) where
+    pub fed-still : h .ahead ≡ true → (rest : List ℕ) → meaning (record { first = h .first; body = s .body; part = h .part; ahead = true }) rest ≡ meaning s (bytes ++ rest)
+    unfolding meaning
+    fed-still e rest = k .still e rest
+
+    pub fed-behind : (b : Body) → h .ahead ≡ false → ((rest : List ℕ) → bodyMeaning b rest ≡ bodyMeaning (s .body) (drop (h .next) bytes ++ rest))
+        → (rest : List ℕ) → meaning (record { first = h .first; body = b; part = h .part; ahead = false }) rest ≡ meaning s (bytes ++ rest)
+    unfolding meaning
+    fed-behind b e f rest = ap (λ (y : Listed). partThen (h .part) y) (f rest) ∙ k .behind e rest
 
 -- the start
 pub starts-reader : (first : Row) (body : Body) (part : ℕ) → RowFresh first → BodyFresh body

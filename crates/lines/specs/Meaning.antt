@@ -1,7 +1,7 @@
 -- What a reader's state says: the answer of a text of which it has read all but the rest. It serves the contracts of the reader's parts
 -- alone; what a text says is in Text. Assumes nothing.
 use mathlib.Core.Path.{_≡_}
-use mathlib.Core.Bool.{Bool, true, cond, _||_}
+use mathlib.Core.Bool.{Bool, true, false, cond, _||_}
 use mathlib.Core.List.{List, [], _∷_, _++_, map}
 use Prim.Native.Nat.{ℕ, zero, suc, min, _-_, _/_, _≤_, _<_}
 use lib.Dec.{ltb, eqb}
@@ -17,6 +17,7 @@ use Rattle.lines.specs.declared.sheet.Sheet.{Sheet}
 use Rattle.lines.specs.declared.body.Listed.{Listed}
 use Rattle.lines.specs.declared.body.Body.{Body}
 use Rattle.lines.specs.declared.part.FirstLine.{FirstLine}
+use Rattle.lines.specs.declared.Head.{Head}
 use Rattle.lines.specs.declared.Reader.{Reader}
 use Rattle.lines.specs.declared.Taken.{Taken}
 use Rattle.lines.specs.Text.{space, lineColumns, asLine, lineOf, sharingLines, partThen}
@@ -126,3 +127,9 @@ partIsPast row = row .bad || ltb 0 (row .at) || ltb (cond (row .digit) mostPart 
 -- the answer of a text of which the reader has read all but the rest
 unfoldable pub meaning : Reader → List ℕ → Taken
 meaning reader rest = cond (reader .ahead) (firstSays (reader .first) (reader .body) rest) (partThen (reader .part) (bodyMeaning (reader .body) rest))
+
+-- what some bytes have of the first line: it stays ahead, or the lines behind it begin at a place of theirs
+pub record HeadIs (s : Reader) (bytes : List ℕ) (h : Head) : Type 0 where
+  pub within : h .next ≤ length bytes
+  pub still : h .ahead ≡ true → (rest : List ℕ) → firstSays (h .first) (s .body) rest ≡ meaning s (bytes ++ rest)
+  pub behind : h .ahead ≡ false → (rest : List ℕ) → partThen (h .part) (bodyMeaning (s .body) (drop (h .next) bytes ++ rest)) ≡ meaning s (bytes ++ rest)

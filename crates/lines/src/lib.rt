@@ -21,7 +21,7 @@ ghost use mathlib.Core.Path.{_≡_};
 ghost use mathlib.Core.List.{List, [], _∷_, _++_};
 ghost use Prim.Native.Nat.{ℕ};
 ghost use Rattle.lines.specs.Text.{partThen, readText, takenShared};
-ghost use Rattle.lines.specs.Meaning.{meaning};
+ghost use Rattle.lines.specs.Meaning.{HeadIs, meaning};
 ghost use Rattle.lines.specs.Stream.{HasRead, Settled, Tells, GoesOn, Stays};
 
 // The most lines that a text may have, besides that of the part.
@@ -42,6 +42,14 @@ pub struct Reader {
     body: Body,
     part: u32,
     ahead: bool,
+}
+
+// What some bytes have of the first line: it as far as it is read, whether it is still ahead, otherwise the part and where the lines begin.
+pub struct Head {
+    pub first: Row,
+    pub next: usize,
+    pub part: u32,
+    pub ahead: bool,
 }
 
 // What the lines say, with the part; or that the part is none.
@@ -94,17 +102,15 @@ impl Reader {
         self.feed(&one)
     }
 
-    // The reader after some bytes more.
-    pub fn feed(self, bytes: &[u8]) -> Reader
-        ensures { λ r. ⌜ ((text : List ℕ) → HasRead self text → HasRead r (text ++ now (bytes .entry))) ⌝ }
-        ensures { λ r. ⌜ GoesOn self (now (bytes .entry)) r ⌝ }
+    // What the bytes have of the first line, if it is ahead.
+    fn head(self, bytes: &[u8]) -> Head
+        ensures { λ r. ⌜ HeadIs self (now (bytes .entry)) r ⌝ }
     {
-        let body = self.body;
         let first = self.first;
         if !self.ahead {
-            return Reader {
+            return Head {
                 first,
-                body: body.feed(bytes),
+                next: 0,
                 part: self.part,
                 ahead: false,
             };
@@ -112,17 +118,42 @@ impl Reader {
         let line = first_line(first, bytes);
         let row = line.row;
         if bytes.len() <= line.next {
-            return Reader {
+            return Head {
                 first: row,
-                body,
+                next: 0,
                 part: self.part,
                 ahead: true,
             };
         }
-        Reader {
+        Head {
             first: row,
-            body: body.feed(&bytes[line.next + 1..]),
+            next: line.next + 1,
             part: part_in(row),
+            ahead: false,
+        }
+    }
+
+    // The reader after some bytes more. The lines are fed in one place: from two the loop over their bytes takes two instructions a byte more.
+    pub fn feed(self, bytes: &[u8]) -> Reader
+        ensures { λ r. ⌜ ((text : List ℕ) → HasRead self text → HasRead r (text ++ now (bytes .entry))) ⌝ }
+        ensures { λ r. ⌜ GoesOn self (now (bytes .entry)) r ⌝ }
+    {
+        let head = self.head(bytes);
+        let first = head.first;
+        let next = head.next;
+        let body = self.body;
+        if head.ahead {
+            return Reader {
+                first,
+                body,
+                part: head.part,
+                ahead: true,
+            };
+        }
+        Reader {
+            first,
+            body: body.feed(&bytes[next..]),
+            part: head.part,
             ahead: false,
         }
     }
