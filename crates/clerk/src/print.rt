@@ -1,5 +1,6 @@
-// What the program prints, each line whole. Its last line is `ok`, `unchanged WHY`, `refused N P FILE` or `failed ..`. What a line says is text's; a name of a
-// file is at most 4,096 bytes, so that every line has room here, and is printed without control characters.
+// What the program prints, each line whole: at once, or, where lines stand before `ok`, collected on a page, which is written when it is full and at the end. Its last
+// line is `ok`, `unchanged WHY`, `refused N P FILE` or `failed ..`. What a line says is text's; a name of a file is at most 4,096 bytes, so that every line has room
+// here, and is printed without control characters.
 use book::Header;
 use call::Call;
 use text::record::call_text;
@@ -20,6 +21,12 @@ use units::Grains;
 
 pub fn done() {
     say::text(b"ok\n");
+}
+
+// The same behind what stands on a page, which is written with it.
+pub fn finish(page: &mut [u8], at: usize) {
+    let n = say::add(page, at, b"ok\n");
+    say::write_page(page, n);
 }
 
 // That nothing was changed, and why.
@@ -91,6 +98,13 @@ pub fn call(x: Call) {
     say::text(&line[..n]);
 }
 
+// The same on a page.
+pub fn put_call(page: &mut [u8], at: usize, x: Call) -> usize {
+    let mut line = io::buffer();
+    let n = call_text(x, &mut line);
+    say::add(page, at, &line[..n])
+}
+
 // The call that stands, and whether the second of two books has it or the first.
 pub fn found(second: bool, x: Call) {
     let mut line = io::buffer();
@@ -103,16 +117,16 @@ pub fn none() {
     say::text(b"none\n");
 }
 
-// Whose month it is, and how many calls its book has.
-pub fn header(h: Header, calls: usize) {
+// Whose month it is, and how many calls its book has, on a page.
+pub fn put_header(page: &mut [u8], at: usize, h: Header, calls: usize) -> usize {
     let mut line = io::buffer();
     let n = header_text(h, calls, &mut line);
-    say::text(&line[..n]);
+    say::add(page, at, &line[..n])
 }
 
-// A member's score.
-pub fn score(grains: Grains, fen: Fen) {
+// A member's score, on a page.
+pub fn put_score(page: &mut [u8], at: usize, grains: Grains, fen: Fen) -> usize {
     let mut lines = io::buffer();
     let n = score_text(grains, fen, &mut lines);
-    say::text(&lines[..n]);
+    say::add(page, at, &lines[..n])
 }

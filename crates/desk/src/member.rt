@@ -28,8 +28,9 @@ fn refuse_member() {
 // The score, or its refusal in one line. Of a call that is refused by 12, 13 or 14 a line before it says which it is.
 fn tell(r: Score, book: &[u8], series: &[u8]) {
     if r.number == 0 {
-        print::score(r.grains, r.fen);
-        print::done();
+        let mut page = io::buffer();
+        let at = print::put_score(&mut page, 0, r.grains, r.fen);
+        print::finish(&mut page, at);
         return;
     }
     if r.number == 10 {

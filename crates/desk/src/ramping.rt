@@ -70,8 +70,8 @@ pub fn month_hours(book: &[u8]) -> u16 {
     hours_of(h.year, h.month)
 }
 
-// One hour, where it has an action.
-fn tell_hour(hours: Hours, i: usize) {
+// One hour, where it has an action, on a page.
+fn put_hour(page: &mut [u8], at: usize, hours: Hours, i: usize) -> usize {
     if i < MOST_HOURS {
         let actions = hours.actions;
         let grains = hours.grains;
@@ -79,18 +79,21 @@ fn tell_hour(hours: Hours, i: usize) {
         if n != 0 {
             let mut line = io::buffer();
             let size = hour_text(i as u16, n as u16, grains[i], &mut line);
-            say::text(&line[..size]);
+            return say::add(page, at, &line[..size]);
         }
     }
+    at
 }
 
-// A line for each hour that has an action.
-pub fn tell_each(hours: Hours) {
+// A line for each hour that has an action, on a page behind its first `from` bytes.
+pub fn put_each(page: &mut [u8], from: usize, hours: Hours) -> usize {
+    let mut at = from;
     let mut i: usize = 0;
     while i < MOST_HOURS {
-        tell_hour(hours, i);
+        at = put_hour(page, at, hours, i);
         i += 1;
     }
+    at
 }
 
 // The hours and their sum; or the file's lowest bad line.
@@ -100,11 +103,12 @@ fn tell_hours(hours: Hours, path: &[u8]) {
         print::refused(r.number, r.place, path);
         return;
     }
-    tell_each(hours);
+    let mut page = io::large_buffer();
+    let at = put_each(&mut page, 0, hours);
     let mut line = io::buffer();
     let n = hours_text(r.hours, r.grains, &mut line);
-    say::text(&line[..n]);
-    print::done();
+    let end = say::add(&mut page, at, &line[..n]);
+    print::finish(&mut page, end);
 }
 
 // The register line first, then the file.

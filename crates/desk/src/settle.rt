@@ -60,11 +60,12 @@ fn tell_statement(s: Statement) {
     if !post(s) {
         return;
     }
-    print::header(s.header, s.calls);
+    let mut page = io::large_buffer();
+    let at = print::put_header(&mut page, 0, s.header, s.calls);
     let mut out = io::large_buffer();
     let n = month_text(s, &mut out);
-    say::text(&out[..n]);
-    print::done();
+    let end = say::add(&mut page, at, &out[..n]);
+    print::finish(&mut page, end);
 }
 
 // The member's refusal: of its series, of a call, which is shown before, or of its line.

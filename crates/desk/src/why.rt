@@ -1,11 +1,12 @@
 // Why a member got its grains: its calls, what each was paid by, and the sums.
 use crate::books::join_all;
-use crate::books::show_call;
+use crate::books::put_call;
+use crate::books::put_header;
 use crate::places::books_at;
 use crate::ramping::month_hours;
 use crate::ramping::no_hours;
+use crate::ramping::put_each;
 use crate::ramping::read_ramping;
-use crate::ramping::tell_each;
 use crate::series::SERIES_ROOM;
 use crate::series::Values;
 use crate::series::entry_at;
@@ -16,7 +17,6 @@ use crate::settle::tell_member;
 use crate::settle::tell_no_line;
 use crate::settle::tell_ramping;
 use book::MOST_RECORDS;
-use book::header_of;
 use clerk::args::Held;
 use clerk::args::Short;
 use clerk::args::first;
@@ -46,44 +46,59 @@ fn line_of(entries: [Entry; MOST_ENTRIES], count: usize, number: u16) -> usize {
     count
 }
 
-// A call and what it was paid by.
-fn tell_part(p: CallPart, book: &[u8]) {
-    show_call(book, p.place);
+// A call and what it was paid by, on a page.
+fn put_part(page: &mut [u8], at: usize, p: CallPart, book: &[u8]) -> usize {
+    let next = put_call(page, at, book, p.place);
     let mut out = io::buffer();
     let n = part_text(p.quarters, p.rate, p.wh, p.grains, &mut out);
-    say::text(&out[..n]);
+    say::add(page, next, &out[..n])
 }
 
-fn tell_at(parts: [CallPart; MOST_RECORDS], i: usize, book: &[u8]) {
+fn put_at(
+    page: &mut [u8],
+    at: usize,
+    parts: [CallPart; MOST_RECORDS],
+    i: usize,
+    book: &[u8],
+) -> usize {
     if i < MOST_RECORDS {
-        tell_part(parts[i], book);
+        return put_part(page, at, parts[i], book);
     }
+    at
 }
 
-fn tell_parts(parts: [CallPart; MOST_RECORDS], count: usize, book: &[u8]) {
+// The member's calls, on a page behind its first `from` bytes.
+fn put_parts(
+    page: &mut [u8],
+    from: usize,
+    parts: [CallPart; MOST_RECORDS],
+    count: usize,
+    book: &[u8],
+) -> usize {
+    let mut at = from;
     let mut i: usize = 0;
     while i < count {
-        tell_at(parts, i, book);
+        at = put_at(page, at, parts, i, book);
         i += 1;
     }
+    at
 }
 
-// Whose month it is.
-fn tell_month(book: &[u8]) {
-    let o = header_of(book);
-    let header = o.header;
-    print::header(header, o.calls);
+// The sums, and what stands before them on the page.
+fn tell_sums(page: &mut [u8], at: usize, x: Explained, many: u16) {
+    let mut out = io::buffer();
+    let n = explained_text(x.wh, x.energy, many, x.added, x.grains, &mut out);
+    let end = say::add(page, at, &out[..n]);
+    print::finish(page, end);
 }
 
 fn tell_explained(x: Explained, hours: Hours, many: u16, book: &[u8]) {
-    tell_month(book);
+    let mut page = io::large_buffer();
+    let head = put_header(&mut page, 0, book);
     let parts = x.parts;
-    tell_parts(parts, x.count, book);
-    tell_each(hours);
-    let mut out = io::buffer();
-    let n = explained_text(x.wh, x.energy, many, x.added, x.grains, &mut out);
-    say::text(&out[..n]);
-    print::done();
+    let calls = put_parts(&mut page, head, parts, x.count, book);
+    let end = put_each(&mut page, calls, hours);
+    tell_sums(&mut page, end, x, many);
 }
 
 // The explanation over the joined book, the member's series and its hours; or the score's refusal, then the ramping file's.

@@ -53,15 +53,18 @@ pub fn check_book() {
     }
 }
 
-fn show_calls(book: &[u8], count: usize)
+// The calls of a sound book, on a page behind its first `from` bytes.
+fn show_calls(book: &[u8], count: usize, page: &mut [u8], from: usize) -> usize
     requires { ⌜ check (now book) ≡ accepted ⌝ }
     requires { ⌜ count ≤ countAt (now book) ⌝ }
 {
+    let mut at = from;
     let mut i: usize = 0;
     while i < count {
-        print::call(call_of(book, i));
+        at = print::put_call(page, at, call_of(book, i));
         i += 1;
     }
+    at
 }
 
 fn show(book: &[u8]) {
@@ -69,9 +72,10 @@ fn show(book: &[u8]) {
     if o.number != 0 {
         return;
     }
-    print::header(o.header, o.calls);
-    show_calls(book, o.calls);
-    print::done();
+    let mut page = io::large_buffer();
+    let at = print::put_header(&mut page, 0, o.header, o.calls);
+    let end = show_calls(book, o.calls, &mut page, at);
+    print::finish(&mut page, end);
 }
 
 pub fn show_book() {
@@ -137,12 +141,25 @@ pub fn show_call(book: &[u8], i: usize) {
     }
 }
 
-// Whose month a sound book is of, and how many calls it has.
-pub fn tell_header(book: &[u8]) {
+// The same on a page.
+pub fn put_call(page: &mut [u8], at: usize, book: &[u8], i: usize) -> usize {
     let o = header_of(book);
-    if o.number == 0 {
-        print::header(o.header, o.calls);
+    if o.number != 0 {
+        return at;
     }
+    if i < o.calls {
+        return print::put_call(page, at, call_of(book, i));
+    }
+    at
+}
+
+// Whose month a sound book is of, and how many calls it has, on a page.
+pub fn put_header(page: &mut [u8], at: usize, book: &[u8]) -> usize {
+    let o = header_of(book);
+    if o.number != 0 {
+        return at;
+    }
+    print::put_header(page, at, o.header, o.calls)
 }
 
 // Whether one of the arguments from `from` on names the file that is held.
@@ -170,8 +187,9 @@ fn join_held(hold: Hold, out: usize)
         return;
     };
     if put(hold, out, first(&all, n)) {
-        tell_header(first(&all, n));
-        print::done();
+        let mut page = io::buffer();
+        let at = put_header(&mut page, 0, first(&all, n));
+        print::finish(&mut page, at);
     }
 }
 

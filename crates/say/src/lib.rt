@@ -1,9 +1,11 @@
-// What programs print: words, numbers, and money with its sign.
+// What programs print: words, numbers, and money with its sign; at once, or collected on a page.
 use libc::STDERR_FILENO;
 use libc::STDOUT_FILENO;
+use render::put_word;
 use units::SignedFen;
 ghost use mathlib.Core.Path.{_≡_};
 ghost use lib.IntN.{natAbs};
+ghost use Rattle.io.specs.Counts.{Counts};
 
 // Words in one write. Where they do not get out, or not all of them, that is told on standard error: who reads the rest must not take it for
 // the whole.
@@ -14,6 +16,31 @@ pub fn text(words: &[u8]) {
             b"not all could be written to standard output\n",
         );
     }
+}
+
+// The first n bytes of a page, in one write: all of it where it has no more.
+pub fn write_page(page: &[u8], n: usize) {
+    if page.len() < n {
+        text(page);
+        return;
+    }
+    text(&page[..n]);
+}
+
+// Words behind the first n bytes of a page, which are written before it has no room for more. Gives how many stand there then.
+pub fn add(page: &mut [u8], n: usize, words: &[u8]) -> usize
+    ensures { λ r. ⌜ Counts r (now (page .exit)) ⌝ }
+{
+    if page.len() < words.len() {
+        write_page(page, n);
+        text(words);
+        return 0;
+    }
+    if page.len() - words.len() < n {
+        write_page(page, n);
+        return put_word(page, 0, words);
+    }
+    put_word(page, n, words)
 }
 
 pub fn number(n: u64) {

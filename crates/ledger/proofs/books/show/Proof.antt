@@ -15,14 +15,28 @@ opened-at-requires c κs = search needs
 returns : tie.Need-returns
 returns c = search needs
 
-header-requires : tie.Need-header-requires
-header-requires c κs = search needs
+large-buffer-requires : tie.Need-large-buffer-requires
+large-buffer-requires c κs = search needs
+
+slice-aggregate-put-header : tie.Need-slice-aggregate-put-header
+slice-aggregate-put-header c = search needs
+
+put-header-requires : tie.Need-put-header-requires
+put-header-requires c κs = search needs
+
+slice-aggregate-show-calls : tie.Need-slice-aggregate-show-calls
+slice-aggregate-show-calls c = search needs
 
 show-calls-requires : tie.Need-show-calls-requires
-show-calls-requires c κs = let s = c .before in (sound s, omega (arith, s .before .before .opened-at .ensures .1 .1))
+show-calls-requires c κs =
+    let s = c .before .before .before .before .before in
+    (sound s, omega (arith, s .before .before .opened-at .ensures .1 .1))
 
-done-requires : tie.Need-done-requires
-done-requires c κs = search needs
+slice-aggregate-finish : tie.Need-slice-aggregate-finish
+slice-aggregate-finish c = search needs
+
+finish-requires : tie.Need-finish-requires
+finish-requires c κs = search needs
 
 returns-2 : tie.Need-returns-2
 returns-2 c = search needs
@@ -33,7 +47,11 @@ show-spec =
     (tie.spec
     opened-at-requires
     returns
-    header-requires
+    large-buffer-requires
+    slice-aggregate-put-header
+    put-header-requires
+    slice-aggregate-show-calls
     show-calls-requires
-    done-requires
+    slice-aggregate-finish
+    finish-requires
     returns-2)

@@ -1,13 +1,15 @@
+use mathlib.Core.Path.{_≡_}
 use Prim.Native.Nat.{_≤_, _-_}
+use lib.ListN.{length}
 use borrow.Author.Needs.{needs}
 use Rattle.ledger.proofs.books.show_calls.Statement.{statement}
 use Rattle.ledger.proofs.books.show_calls.Tie as tie
 
 abbrev Inv-loop : tie.InvT-loop
-Inv-loop book count i₀ i = i ≤ count
+Inv-loop book count page₀ from at₀ i₀ page at i = (i ≤ count) × (length page ≡ length page₀)
 
 abbrev μ-loop : tie.MeasureT-loop
-μ-loop book count i₀ i = count - i
+μ-loop book count page₀ from at₀ i₀ page at i = count - i
 
 loop-holds : tie.Need-loop-holds Inv-loop μ-loop
 loop-holds c = search needs
@@ -15,8 +17,8 @@ loop-holds c = search needs
 call-of-requires : tie.Need-call-of-requires Inv-loop μ-loop
 call-of-requires c κs = search needs
 
-call-requires : tie.Need-call-requires Inv-loop μ-loop
-call-requires c κs = search needs
+put-call-requires : tie.Need-put-call-requires Inv-loop μ-loop
+put-call-requires c κs = search needs
 
 add-i : tie.Need-add-i Inv-loop μ-loop
 add-i c = search needs
@@ -26,6 +28,9 @@ loop-less c = search needs
 
 loop-again : tie.Need-loop-again Inv-loop μ-loop
 loop-again c = search needs
+
+same-length : tie.Need-same-length Inv-loop μ-loop
+same-length c = search needs
 
 returns : tie.Need-returns Inv-loop μ-loop
 returns c = search needs
@@ -38,8 +43,9 @@ show-calls-spec =
     μ-loop
     loop-holds
     call-of-requires
-    call-requires
+    put-call-requires
     add-i
     loop-less
     loop-again
+    same-length
     returns)
