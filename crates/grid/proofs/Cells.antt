@@ -16,7 +16,8 @@ use Rattle.row.proofs.Texts.{digit-is-not, and-false}
 use Rattle.grid.specs.declared.cell.Cell.{Cell}
 use Rattle.grid.specs.declared.cell.Cell.the-variants.{Fresh, Bare, Opened, Quoted, Closed, Bad}
 use Rattle.grid.specs.Grid.{quote, closing, unquoted}
-use Rattle.grid.specs.Meaning.{noNumber, told, toldBehind, toldLeft, cellSoFar, cellDigits, cellQuote, allTold, rowBy}
+use Rattle.grid.specs.Told.{noNumber, told}
+use Rattle.grid.specs.Meaning.{toldBehind, toldLeft, cellSoFar, cellDigits, cellQuote, allTold, rowBy}
 
 -- A byte of the cell
 

@@ -4,5 +4,6 @@ pub mod Texts
 pub mod Rows
 pub mod Steps
 pub mod Runs
+pub mod Ends
 pub mod Promises
 pub mod Examples

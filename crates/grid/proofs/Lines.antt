@@ -16,14 +16,15 @@ use Rattle.grid.specs.declared.cell.Cell.{Cell}
 use Rattle.grid.specs.declared.cell.Cell.the-variants.{Fresh, Bad}
 use Rattle.grid.specs.declared.Grid.{Grid}
 use Rattle.grid.specs.Grid.{comma, carriageReturn, plain, isBlank, quote, unquoted}
-use Rattle.grid.specs.Meaning.{told, toldLeft, cellSoFar, cellQuote, rowBy, cellsLeft, plainLeft, headLeft, blankLeft, rowLeft, gridOpened, gridSpoilt, gridDigits}
+use Rattle.grid.specs.Told.{told}
+use Rattle.grid.specs.Meaning.{toldLeft, cellSoFar, cellQuote, rowBy, cellsLeft, plainLeft, headLeft, blankLeft, rowLeft, gridOpened, gridSpoilt, gridDigits}
 use Rattle.grid.proofs.Cells.{foreign, by-quote, by-digit}
 
 -- the line by one byte more
 pub record LineFollows (g : Grid) (ended : List ℕ) (c : ℕ) (r : Grid) (after : List ℕ) : Type 0 where
   pub heads : (l : List ℕ) → headLeft r l ≡ headLeft g (c ∷ l)
   pub blanks : (l : List ℕ) → blankLeft r l ≡ blankLeft g (c ∷ l)
-  pub numbers : (columns : ℕ) (l : List ℕ) → rowLeft columns r after l ≡ rowLeft columns g ended (c ∷ l)
+  pub numbers : (say : List ℕ → List ℕ) (l : List ℕ) → rowLeft say r after l ≡ rowLeft say g ended (c ∷ l)
 
 plain-on : (c : ℕ) (l : List ℕ) → (c ≡ carriageReturn → ⊥) → plain (c ∷ l) ≡ c ∷ plain l
 plain-on c l ne = rw (ne-eqb c carriageReturn ne)
@@ -41,10 +42,10 @@ cells-onto at ended cell next c h l =
 module _ (g r : Grid) (ended : List ℕ) (c : ℕ) (clear : g .shut ≡ false) where
   -- a byte of the open cell
   row-onto : r .shut ≡ false → r .at ≡ g .at → (c ≡ carriageReturn → ⊥) → (c ≡ comma → ⊥) → ((p : List ℕ) → toldLeft (r .cell) p ≡ toldLeft (g .cell) (c ∷ p))
-      → (columns : ℕ) (l : List ℕ) → rowLeft columns r ended l ≡ rowLeft columns g ended (c ∷ l)
+      → (say : List ℕ → List ℕ) (l : List ℕ) → rowLeft say r ended l ≡ rowLeft say g ended (c ∷ l)
   unfolding rowLeft
-  row-onto e a nr nc h columns l =
-      rw (e, clear, a, plain-on c l nr, parts-on c (plain l) nc) (ap (rowBy columns) (cells-onto (g .at) ended (g .cell) (r .cell) c h (plain l)))
+  row-onto e a nr nc h say l =
+      rw (e, clear, a, plain-on c l nr, parts-on c (plain l) nc) (ap (say) (cells-onto (g .at) ended (g .cell) (r .cell) c h (plain l)))
 
   -- a line with a byte that is no separator is not blank
   blank-onto : r .filled ≡ true → (c ≡ carriageReturn → ⊥) → (c ≡ comma → ⊥) → (l : List ℕ) → blankLeft r l ≡ blankLeft g (c ∷ l)
@@ -93,8 +94,8 @@ module _ (g : Grid) (ended : List ℕ) (clear : g .shut ≡ false) where
       blanks : (l : List ℕ) → (not (g .filled) && isBlank (plainLeft true l)) ≡ blankLeft g (13 ∷ l)
       blanks l = ap (λ (x : List ℕ). not (g .filled) && isBlank x) (plains l)
 
-      numbers : (columns : ℕ) (l : List ℕ) → rowBy columns (cellsLeft (g .at) ended (g .cell) (partsOf comma (plainLeft true l))) ≡ rowLeft columns g ended (13 ∷ l)
-      numbers columns l = ap (λ (x : List ℕ). rowBy columns (cellsLeft (g .at) ended (g .cell) (partsOf comma x))) (plains l)
+      numbers : (say : List ℕ → List ℕ) (l : List ℕ) → say (cellsLeft (g .at) ended (g .cell) (partsOf comma (plainLeft true l))) ≡ rowLeft say g ended (13 ∷ l)
+      numbers say l = ap (λ (x : List ℕ). say (cellsLeft (g .at) ended (g .cell) (partsOf comma x))) (plains l)
 
   -- a digit
   pub by-one-digit : (d v : ℕ) → isDigit d ≡ true → ((p : List ℕ) → hold (value v p) ≡ hold (value (cellSoFar (g .cell)) (d ∷ p))) → LineFollows g ended d (gridDigits g v) ended
@@ -140,7 +141,7 @@ module _ (g : Grid) (ended : List ℕ) (clear : g .shut ≡ false) where
       record {
         heads = λ l. refl;
         blanks = λ l. rw clear;
-        numbers = λ columns l. rw clear (ap (rowBy columns) (h (plain l)));
+        numbers = λ say l. rw clear (ap (say) (h (plain l)));
       }
 
   pub by-parting : g .at < length ended → (n : ℕ) → n ≡ toldLeft (g .cell) [] → LineFollows g ended comma (partedAt g (g .at + 1)) (set ended (g .at) n)
@@ -154,7 +155,7 @@ module _ (g : Grid) (ended : List ℕ) (clear : g .shut ≡ false) where
 pub record LineAlike (g r : Grid) : Type 0 where
   pub heads : (c : ℕ) (l : List ℕ) → headLeft r (c ∷ l) ≡ headLeft g (c ∷ l)
   pub blanks : (c : ℕ) (l : List ℕ) → blankLeft r (c ∷ l) ≡ blankLeft g (c ∷ l)
-  pub numbers : (columns : ℕ) (ended : List ℕ) (c : ℕ) (l : List ℕ) → rowLeft columns r ended (c ∷ l) ≡ rowLeft columns g ended (c ∷ l)
+  pub numbers : (say : List ℕ → List ℕ) (ended : List ℕ) (c : ℕ) (l : List ℕ) → rowLeft say r ended (c ∷ l) ≡ rowLeft say g ended (c ∷ l)
 
 pub by-opening : (g : Grid) → LineAlike g (gridOpened g)
 unfolding headLeft blankLeft rowLeft toldLeft
@@ -162,10 +163,10 @@ by-opening g = go (g .shut) refl
   where
     go : (t : Bool) → g .shut ≡ t
         → LineAlike g (cond t (record { stage = g .stage; separator = g .separator; filled = true; shut = false; cell = Bad; at = g .at }) g)
-    go false e = record { heads = λ c l. refl; blanks = λ c l. refl; numbers = λ columns ended c l. refl }
+    go false e = record { heads = λ c l. refl; blanks = λ c l. refl; numbers = λ say ended c l. refl }
     go true e =
         record {
           heads = λ c l. refl;
           blanks = λ c l. rw e (sym (and-false (not (g .filled))));
-          numbers = λ columns ended c l. rw e (ap (rowBy columns) (cells-onto (g .at) ended (g .cell) Bad 13 (foreign (g .cell) 13 refl (λ e. omega arith)) (plain (c ∷ l))));
+          numbers = λ say ended c l. rw e (ap (say) (cells-onto (g .at) ended (g .cell) Bad 13 (foreign (g .cell) 13 refl (λ e. omega arith)) (plain (c ∷ l))));
         }

@@ -13,9 +13,10 @@ use Rattle.row.specs.Meaning.{mostColumns}
 use Rattle.row.proofs.Texts.{by-parts}
 use Rattle.grid.specs.declared.cell.Cell.the-variants.{Fresh}
 use Rattle.grid.specs.declared.Grid.{Grid}
-use Rattle.grid.specs.Grid.{mark, beginsWith, comma, commas, hasDigit, headless, plain, isBlank, unlessBlank, trimmed, unquoted, rowOf, rowsOf}
-use Rattle.grid.specs.Meaning.{told, toldLeft, rowBy, cellsLeft, headLeft, blankLeft, rowLeft, blanksThen, lineThen, rowsIn, linesLeft, linesBy, rowsBehind, gridFirst, marksOn}
-use Rattle.grid.specs.Meaning.{rowsLeft, rowsAfter, Starts, Next}
+use Rattle.grid.specs.Grid.{mark, beginsWith, comma, commas, hasDigit, headless, plain, isBlank, unlessBlank, trimmed, unquoted, cellsOf, rowOf, bodyOf, rowsOf}
+use Rattle.grid.specs.Told.{told, rowIn, rowsBy}
+use Rattle.grid.specs.Meaning.{toldLeft, rowBy, cellsLeft, headLeft, blankLeft, rowLeft, blanksThen, lineThen, rowsIn, linesLeft, linesBy}
+use Rattle.grid.specs.Meaning.{rowsBehind, gridFirst, marksOn, rowsLeft, rowsAfter, Starts, Next}
 use Rattle.grid.proofs.Cells.{row-told}
 use Rattle.grid.proofs.Texts.{lines-feed, mark-ends, mark-stops, mark-low}
 
@@ -37,19 +38,26 @@ blanks-none [] = refl
 blanks-none (row ∷ rows) = refl
 
 -- a whole line and those behind it
-line-law : (columns k : ℕ) (l : List ℕ) (ls : List (List ℕ)) → lineThen k false (isBlank l) (rowOf columns l) (map (rowOf columns) ls) ≡ blanksThen k (map (rowOf columns) (unlessBlank l ls))
-unfolding lineThen blanksThen
-line-law columns k l [] = go (isBlank l)
+line-law : (say : List ℕ → List ℕ) (k : ℕ) (l : List ℕ) (ls : List (List ℕ))
+    → lineThen k false (isBlank l) (say (take mostColumns (map told (cellsOf l)))) (map (rowIn say) ls) ≡ blanksThen k (map (rowIn say) (unlessBlank l ls))
+unfolding lineThen blanksThen rowIn
+line-law say k l [] = go (isBlank l) refl
   where
-    go : (t : Bool) → cond t [] (replicate k [] ++ rowOf columns l ∷ []) ≡ blanksThen k (map (rowOf columns) (cond t [] (l ∷ [])))
-    go true = refl
-    go false = refl
-line-law columns k l (m ∷ ls) = go (isBlank l) refl
+    row : List ℕ
+    row = say (take mostColumns (map told (cellsOf l)))
+
+    go : (t : Bool) → isBlank l ≡ t → cond t [] (replicate k [] ++ row ∷ []) ≡ blanksThen k (map (rowIn say) (cond t [] (l ∷ [])))
+    go true e = refl
+    go false e = sym (rw e)
+line-law say k l (m ∷ ls) = go (isBlank l) refl
   where
+    row : List ℕ
+    row = say (take mostColumns (map told (cellsOf l)))
+
     go : (t : Bool) → isBlank l ≡ t
-        → cond t (replicate (suc k) [] ++ rowOf columns m ∷ map (rowOf columns) ls) (replicate k [] ++ rowOf columns l ∷ rowOf columns m ∷ map (rowOf columns) ls)
-        ≡ replicate k [] ++ rowOf columns l ∷ rowOf columns m ∷ map (rowOf columns) ls
-    go true e = sym (ap (λ (x : List ℕ). replicate k [] ++ x ∷ rowOf columns m ∷ map (rowOf columns) ls) (blank-row columns l e) ∙ blanks-more k (rowOf columns m ∷ map (rowOf columns) ls))
+        → cond t (replicate (suc k) [] ++ rowIn say m ∷ map (rowIn say) ls) (replicate k [] ++ row ∷ rowIn say m ∷ map (rowIn say) ls)
+        ≡ replicate k [] ++ cond t [] row ∷ rowIn say m ∷ map (rowIn say) ls
+    go true e = sym (blanks-more k (rowIn say m ∷ map (rowIn say) ls))
     go false e = refl
 
 -- Whole lines
@@ -58,59 +66,71 @@ line-law columns k l (m ∷ ls) = go (isBlank l) refl
 abbrev pub freshAt : ℕ → ℕ → Grid
 freshAt stage separator = record { stage = stage; separator = separator; filled = false; shut = false; cell = Fresh; at = 0 }
 
-module _ (columns : ℕ) (few : columns < mostColumns) (k separator : ℕ) (ended : List ℕ) where
-  fresh-row : (stage : ℕ) (l : List ℕ) → rowLeft columns (freshAt stage separator) ended l ≡ rowOf columns (plain l)
-  unfolding rowLeft rowOf toldLeft
-  fresh-row stage l =
-      by-parts comma (λ ps. rowBy columns (cellsLeft 0 ended Fresh ps) ≡ rowBy columns (cellsLeft 0 [] Fresh ps)) (λ p ps. refl) (plain l)
-      ∙ by-parts comma (λ ps. rowBy columns (cellsLeft 0 [] Fresh ps) ≡ rowBy columns (take mostColumns (map told (map unquoted ps)))) (λ p ps. refl) (plain l)
-      ∙ row-told columns (map unquoted (partsOf comma (plain l))) few
+module _ (say : List ℕ → List ℕ) (k separator : ℕ) (ended : List ℕ) where
+  fresh-row : (stage : ℕ) (l : List ℕ) → rowLeft say (freshAt stage separator) ended l ≡ say (take mostColumns (map told (cellsOf (plain l))))
+  unfolding rowLeft toldLeft
+  fresh-row stage l = by-parts comma (λ ps. say (cellsLeft 0 ended Fresh ps) ≡ say (take mostColumns (map told (map unquoted ps)))) (λ p ps. refl) (plain l)
 
   -- behind a line feed
-  body-rows : (ls : List (List ℕ)) → linesLeft columns k (freshAt 4 separator) ended ls ≡ blanksThen k (rowsIn columns ls)
+  body-rows : (ls : List (List ℕ)) → linesLeft say k (freshAt 4 separator) ended ls ≡ blanksThen k (rowsIn say ls)
   unfolding headLeft blankLeft lineThen blanksThen
   body-rows [] = refl
   body-rows (l ∷ ls) =
-      ap (λ (row : List ℕ). lineThen k false (isBlank (plain l)) row (rowsIn columns ls)) (fresh-row 4 l) ∙ line-law columns k (plain l) (trimmed (map plain ls))
+      ap (λ (row : List ℕ). lineThen k false (isBlank (plain l)) row (rowsIn say ls)) (fresh-row 4 l) ∙ line-law say k (plain l) (trimmed (map plain ls))
 
   -- in the first line
-  first-rows : (stage : ℕ) → stage < 4 → (ls : List (List ℕ)) → linesLeft columns k (freshAt stage separator) ended ls ≡ blanksThen k (rowsIn columns (headless ls))
+  first-rows : (stage : ℕ) → stage < 4 → (ls : List (List ℕ)) → linesLeft say k (freshAt stage separator) ended ls ≡ blanksThen k (rowsIn say (headless ls))
   unfolding headLeft blankLeft lineThen blanksThen
   first-rows stage h [] = rw (lt-ltb stage 4 h)
   first-rows stage h (l ∷ ls) = rw (lt-ltb stage 4 h) (go (hasDigit l))
     where
-      go : (t : Bool) → lineThen k (not t) (isBlank (plain l)) (rowLeft columns (freshAt stage separator) ended l) (rowsIn columns ls) ≡ blanksThen k (rowsIn columns (cond t (l ∷ ls) ls))
-      go true = ap (λ (row : List ℕ). lineThen k false (isBlank (plain l)) row (rowsIn columns ls)) (fresh-row stage l) ∙ line-law columns k (plain l) (trimmed (map plain ls))
+      go : (t : Bool) → lineThen k (not t) (isBlank (plain l)) (rowLeft say (freshAt stage separator) ended l) (rowsIn say ls) ≡ blanksThen k (rowsIn say (cond t (l ∷ ls) ls))
+      go true = ap (λ (row : List ℕ). lineThen k false (isBlank (plain l)) row (rowsIn say ls)) (fresh-row stage l) ∙ line-law say k (plain l) (trimmed (map plain ls))
       go false = refl
 
 -- The start
 
 pub starts : Starts (freshAt 0 0)
-unfolding rowsLeft rowsBehind linesBy marksOn rowsOf
-starts = record { rows = λ columns ended rest few. go columns ended rest few (beginsWith mark rest) }
+unfolding rowsLeft rowsBehind linesBy marksOn rowsBy
+starts = record { rows = λ say ended rest. go say ended rest (beginsWith mark rest) }
   where
-    go : (columns : ℕ) (ended rest : List ℕ) → columns < mostColumns → (t : Bool)
-        → cond t (linesLeft columns 0 gridFirst ended (linesOf (commas (drop 3 rest)))) (linesLeft columns 0 (freshAt 0 0) ended (linesOf (commas rest)))
-        ≡ rowsIn columns (headless (linesOf (commas (cond t (drop 3 rest) rest))))
-    go columns ended rest few true =
-        first-rows columns few 0 0 ended 3 (omega arith) (linesOf (commas (drop 3 rest))) ∙ blanks-none (rowsIn columns (headless (linesOf (commas (drop 3 rest)))))
-    go columns ended rest few false =
-        first-rows columns few 0 0 ended 0 (omega arith) (linesOf (commas rest)) ∙ blanks-none (rowsIn columns (headless (linesOf (commas rest))))
+    go : (say : List ℕ → List ℕ) (ended rest : List ℕ) (t : Bool)
+        → cond t (linesLeft say 0 gridFirst ended (linesOf (commas (drop 3 rest)))) (linesLeft say 0 (freshAt 0 0) ended (linesOf (commas rest)))
+        ≡ rowsIn say (headless (linesOf (commas (cond t (drop 3 rest) rest))))
+    go say ended rest true =
+        first-rows say 0 0 ended 3 (omega arith) (linesOf (commas (drop 3 rest))) ∙ blanks-none (rowsIn say (headless (linesOf (commas (drop 3 rest)))))
+    go say ended rest false = first-rows say 0 0 ended 0 (omega arith) (linesOf (commas rest)) ∙ blanks-none (rowsIn say (headless (linesOf (commas rest))))
+
+-- the rows by their numbers
+numbers-row : (columns : ℕ) (l : List ℕ) → columns < mostColumns → rowBy columns (take mostColumns (map told (cellsOf l))) ≡ rowOf columns l
+unfolding rowOf
+numbers-row columns l few = row-told columns (cellsOf l) few
+
+pub numbers-rows : (columns : ℕ) (text : List ℕ) → columns < mostColumns → rowsBy (rowBy columns) text ≡ rowsOf columns text
+unfolding rowsBy rowsOf rowIn
+numbers-rows columns text few = all (bodyOf text)
+  where
+    one : (l : List ℕ) (t : Bool) → isBlank l ≡ t → cond t [] (rowBy columns (take mostColumns (map told (cellsOf l)))) ≡ rowOf columns l
+    one l true e = sym (blank-row columns l e)
+    one l false e = numbers-row columns l few
+
+    all : (ls : List (List ℕ)) → map (rowIn (rowBy columns)) ls ≡ map (rowOf columns) ls
+    all [] = refl
+    all (l ∷ ls) = λ i. one l (isBlank l) refl i ∷ all ls i
 
 -- A line feed
 
 pub nexts : (g : Grid) → Next g (freshAt 4 (g .separator))
 unfolding rowsLeft rowsAfter marksOn
-nexts g = record { rows = λ columns k ended rest few. body-rows columns few k (g .separator) ended (linesBy (g .separator) rest) }
+nexts g = record { rows = λ say k ended rest. body-rows say k (g .separator) ended (linesBy (g .separator) rest) }
 
 -- THE LINE ENDS: what it is, and the rows behind it
-pub feed : (columns k : ℕ) (g : Grid) (ended rest : List ℕ)
-    → rowsLeft columns k g ended (10 ∷ rest) ≡ lineThen k (headLeft g []) (blankLeft g []) (rowLeft columns g ended []) (rowsAfter columns g rest)
+pub feed : (say : List ℕ → List ℕ) (k : ℕ) (g : Grid) (ended rest : List ℕ)
+    → rowsLeft say k g ended (10 ∷ rest) ≡ lineThen k (headLeft g []) (blankLeft g []) (rowLeft say g ended []) (rowsAfter say g rest)
 unfolding rowsLeft rowsAfter
-feed columns k g ended rest =
-    rw (mark-stops (g .stage) 10 rest (mark-low (g .stage) 10 (omega arith))) (ap (linesLeft columns k g ended) (lines-feed (g .separator) rest))
+feed say k g ended rest = rw (mark-stops (g .stage) 10 rest (mark-low (g .stage) 10 (omega arith))) (ap (linesLeft say k g ended) (lines-feed (g .separator) rest))
 
 -- the text ends
-pub ends : (columns k : ℕ) (g : Grid) (ended : List ℕ) → rowsLeft columns k g ended [] ≡ lineThen k (headLeft g []) (blankLeft g []) (rowLeft columns g ended []) []
+pub ends : (say : List ℕ → List ℕ) (k : ℕ) (g : Grid) (ended : List ℕ) → rowsLeft say k g ended [] ≡ lineThen k (headLeft g []) (blankLeft g []) (rowLeft say g ended []) []
 unfolding rowsLeft linesBy
-ends columns k g ended = rw (mark-ends (g .stage))
+ends say k g ended = rw (mark-ends (g .stage))

@@ -17,7 +17,7 @@ use Rattle.grid.specs.declared.cell.Run.{Run}
 use Rattle.grid.specs.declared.Grid.{Grid}
 use Rattle.grid.specs.Grid.{mark, comma, isSeparator, asComma, carriageReturn, quote}
 use Rattle.grid.specs.Meaning.{cellSoFar, cellDigits, cellQuote, headLeft, blankLeft, rowLeft, linesLeft, separatorLeft, linesBy, rowsBehind, gridFirst, marksOn, rowsLeft, gridBegun}
-use Rattle.grid.specs.Meaning.{gridOpened, markGoesOn, gridKnown, gridSpoilt, gridDigits, InLine, Follows, RunFrom, StepFrom}
+use Rattle.grid.specs.Meaning.{gridOpened, markGoesOn, gridKnown, gridSpoilt, gridDigits, InLine, Follows, RunFrom, noFeed, StepFrom}
 use Rattle.grid.proofs.Lines.{LineFollows, by-foreign, by-quoting, by-return, by-one-digit}
 use Rattle.grid.proofs.Texts.{lines-by, stage-case, late, mark-late, mark-last, mark-more, lines-byte, by-line, by-byte, mark-low, begun-in-line, after-begun, after-opening}
 use Rattle.grid.proofs.Texts.{opened-alike, opened-clear}
@@ -53,7 +53,7 @@ module _ (g : Grid) (b : ℕ) (clear : g .shut ≡ false) (h : markGoesOn (g .st
   unfolding rowsLeft rowsBehind marksOn linesBy
   by-mark-last two ended =
       record {
-        rows = λ columns k rest.
+        rows = λ say k rest.
             let stage : g .stage ≡ 2 = omega (arith, ltb-true (g .stage) 3 (each (ltb (g .stage) 3) (eqb b (getD mark (g .stage) 0) ∷ []) h .0)) in
             rw (mark-at2 stage rest, stage);
       }
@@ -66,13 +66,13 @@ module _ (g : Grid) (b : ℕ) (clear : g .shut ≡ false) (h : markGoesOn (g .st
   unfolding rowsLeft
   by-mark-more low ended =
       record {
-        rows = λ columns k rest.
+        rows = λ say k rest.
             let m = mark-more (g .stage) b rest low h in
             let big = mark-high (g .stage) b h in
             let r = markedAt g (g .stage + 1) in
-            let same = lines-by columns k g r ended ended b (mark-line ended low) (linesBy (g .separator) rest)
-            ∙ ap (linesLeft columns k g ended) (sym (lines-byte (g .separator) b rest (high b big .1) (λ e. omega arith))) in
-            (λ i. cond (m .0 i) (rowsBehind columns k ended (m .1 i)) (same i));
+            let same = lines-by say k g r ended ended b (mark-line ended low) (linesBy (g .separator) rest)
+            ∙ ap (linesLeft say k g ended) (sym (lines-byte (g .separator) b rest (high b big .1) (λ e. omega arith))) in
+            (λ i. cond (m .0 i) (rowsBehind say k ended (m .1 i)) (same i));
       }
 
 -- Separators
@@ -88,20 +88,20 @@ known-is g b is = go (isSeparator (g .separator)) refl
     go true e = e
     go false e = is
 
-lines-known : (columns k : ℕ) (g : Grid) (b : ℕ) (ended : List ℕ) (ls : List (List ℕ)) → linesLeft columns k (gridKnown g b) ended ls ≡ linesLeft columns k g ended ls
+lines-known : (say : List ℕ → List ℕ) (k : ℕ) (g : Grid) (b : ℕ) (ended : List ℕ) (ls : List (List ℕ)) → linesLeft say k (gridKnown g b) ended ls ≡ linesLeft say k g ended ls
 unfolding headLeft blankLeft rowLeft
-lines-known columns k g b ended [] = refl
-lines-known columns k g b ended (l ∷ ls) = refl
+lines-known say k g b ended [] = refl
+lines-known say k g b ended (l ∷ ls) = refl
 
 -- what follows a state that knows it follows the one before
 pub after-known : (g r : Grid) (ended after : List ℕ) (b : ℕ) → InLine g → isSeparator b ≡ true → Follows (gridKnown g b) ended b r after → Follows g ended b r after
 unfolding rowsLeft linesBy
 after-known g r ended after b line is f =
     record {
-      rows = λ columns k rest. f .rows columns k rest
+      rows = λ say k rest. f .rows say k rest
           ∙ rw (mark-late (g .stage) (b ∷ rest) (line .stage))
-          (ap (λ (s : ℕ). linesLeft columns k (gridKnown g b) ended (linesOf (map (asComma s) (b ∷ rest)))) (rw (known-is g b is) (sym (known-left g b rest is)))
-          ∙ lines-known columns k g b ended (linesOf (map (asComma (separatorLeft (g .separator) (b ∷ rest))) (b ∷ rest))));
+          (ap (λ (s : ℕ). linesLeft say k (gridKnown g b) ended (linesOf (map (asComma s) (b ∷ rest)))) (rw (known-is g b is) (sym (known-left g b rest is)))
+          ∙ lines-known say k g b ended (linesOf (map (asComma (separatorLeft (g .separator) (b ∷ rest))) (b ∷ rest))));
     }
 
 -- a separator that is no comma is a semicolon or a tab
@@ -180,7 +180,7 @@ value-append : (v : ℕ) (ds p : List ℕ) → value (value v ds) p ≡ value v 
 value-append v [] p = refl
 value-append v (d ∷ ds) p = value-append (v * 10 + (d - 48)) ds p
 
-module _ (separator at : ℕ) (ended : List ℕ) (columns k : ℕ) (rest : List ℕ) where
+module _ (separator at : ℕ) (ended : List ℕ) (say : List ℕ → List ℕ) (k : ℕ) (rest : List ℕ) where
   abbrev with-cell : ℕ → Bool → Cell → Grid
   with-cell stage filled cell = record { stage = stage; separator = separator; filled = filled; shut = false; cell = cell; at = at }
 
@@ -188,16 +188,16 @@ module _ (separator at : ℕ) (ended : List ℕ) (columns k : ℕ) (rest : List 
   Worth cell v ds = (p : List ℕ) → hold (value v p) ≡ hold (value (cellSoFar cell) (ds ++ p))
 
   abbrev left : Grid → List ℕ → List (List ℕ)
-  left g bs = rowsLeft columns k g ended (bs ++ rest)
+  left g bs = rowsLeft say k g ended (bs ++ rest)
 
   one : (stage : ℕ) (filled : Bool) (cell : Cell) (d : ℕ) (ds : List ℕ) → isDigit d ≡ true
       → left (with-cell 4 true (cellDigits cell (cellSoFar cell * 10 + (d - 48)))) ds ≡ left (with-cell stage filled cell) (d ∷ ds)
-  one stage filled cell d ds is = by-digit-byte (with-cell stage filled cell) ended d (cellSoFar cell * 10 + (d - 48)) refl is (λ p. refl) .rows columns k (ds ++ rest)
+  one stage filled cell d ds is = by-digit-byte (with-cell stage filled cell) ended d (cellSoFar cell * 10 + (d - 48)) refl is (λ p. refl) .rows say k (ds ++ rest)
 
   -- A RUN OF DIGITS
   pub run : (stage : ℕ) (filled : Bool) (cell : Cell) (d : ℕ) (ds : List ℕ) (v : ℕ) → digits (d ∷ ds) ≡ true → Worth cell v (d ∷ ds)
       → left (with-cell 4 true (cellDigits cell v)) [] ≡ left (with-cell stage filled cell) (d ∷ ds)
-  run stage filled cell d [] v h w = by-digit-byte (with-cell stage filled cell) ended d v refl (each (isDigit d) (true ∷ []) h .0) w .rows columns k rest
+  run stage filled cell d [] v h w = by-digit-byte (with-cell stage filled cell) ended d v refl (each (isDigit d) (true ∷ []) h .0) w .rows say k rest
   run stage filled Fresh d (e ∷ ds) v h w =
       let t = each (isDigit d) (digits (e ∷ ds) ∷ []) h in
       run 4 true (Bare (0 * 10 + (d - 48))) e ds v (t .1 .0) w ∙ one stage filled Fresh d (e ∷ ds) (t .0)
@@ -244,6 +244,13 @@ module _ (g o : Grid) (b : ℕ) (ne : b ≡ 10 → ⊥) (e : o ≡ gridOpened g)
   pub begins : (n r : Grid) (ended after : List ℕ) → n ≡ gridBegun o → markGoesOn (o .stage) b ≡ false → Follows n ended b r after → Follows g ended b r after
   begins n r ended after same stops f = opens r ended after (after-begun o r ended after b stops (subst (λ (x : Grid). Follows x ended b r after) same f))
 
+digits-line : (ds : List ℕ) → digits ds ≡ true → noFeed ds ≡ true
+digits-line [] h = refl
+digits-line (d ∷ ds) h =
+    let e = each (isDigit d) (digits ds ∷ []) h in
+    let low = digit-low d (e .0) in
+    rw (ne-eqb d 10 (λ x. omega arith), digits-line ds (e .1 .0))
+
 -- the digits from byte i of a text on
 module _ (g o : Grid) (text : List ℕ) (i v : ℕ) (more : i < length text) (is : isDigit (getD text i 0) ≡ true) (e : o ≡ gridOpened g) (so-far : v ≡ cellSoFar (o .cell)) where
   pub runs : (r : Run) (n : Grid) → RunFrom text i v r → n ≡ gridDigits o (r .value) → (ended : List ℕ) → StepFrom text i g ended (record { grid = n; end = r .end }) ended
@@ -254,32 +261,35 @@ module _ (g o : Grid) (text : List ℕ) (i v : ℕ) (more : i < length text) (is
           let here : r .end ≡ i = f .long ∙ ap (λ (x : List ℕ). i + length x) none ∙ omega arith in
           absurd (holds-or-fails is (ap (λ (x : ℕ). isDigit (getD text x 0)) (sym here) ∙ f .whole (omega arith)))
       go (d ∷ ds) some =
-          let stands : drop i text ≡ d ∷ (ds ++ drop (r .end) text) = f .stands ∙ ap (λ (x : List ℕ). x ++ drop (r .end) text) some in
           let all : digits (d ∷ ds) ≡ true = ap digits (sym some) ∙ f .all in
           let low = digit-low d (each (isDigit d) (digits ds ∷ []) all .0) in
           let long : r .end ≡ i + suc (length ds) = f .long ∙ ap (λ (x : List ℕ). i + length x) some in
           record {
             on = omega arith;
             within = f .within;
-            rows = λ columns k.
-                ap (λ (x : Grid). rowsLeft columns k x ended (drop (r .end) text)) same
-                ∙ subst (λ (t : Bool). rowsLeft columns k
-                (record { stage = 4; separator = o .separator; filled = true; shut = t; cell = cellDigits (o .cell) (r .value); at = o .at }) ended (drop (r .end) text)
-                ≡ rowsLeft columns k (record { stage = o .stage; separator = o .separator; filled = o .filled; shut = t; cell = o .cell; at = o .at }) ended (d ∷ (ds ++ drop (r .end) text)))
+            read = d ∷ ds;
+            stands = f .stands ∙ ap (λ (x : List ℕ). x ++ drop (r .end) text) some;
+            line = digits-line (d ∷ ds) all;
+            rows = λ say k rest.
+                ap (λ (x : Grid). rowsLeft say k x ended rest) same
+                ∙ subst (λ (t : Bool). rowsLeft say k (record { stage = 4; separator = o .separator; filled = true; shut = t; cell = cellDigits (o .cell) (r .value); at = o .at }) ended rest
+                ≡ rowsLeft say k (record { stage = o .stage; separator = o .separator; filled = o .filled; shut = t; cell = o .cell; at = o .at }) ended (d ∷ (ds ++ rest)))
                 (sym (ap (λ (x : Grid). x .shut) e ∙ opened-clear g))
-                (run (o .separator) (o .at) ended columns k (drop (r .end) text) (o .stage) (o .filled) (o .cell) d ds (r .value) all
+                (run (o .separator) (o .at) ended say k rest (o .stage) (o .filled) (o .cell) d ds (r .value) all
                 (λ p. f .worth p ∙ (λ j. hold (value (so-far j) (some j ++ p)))))
-                ∙ ap (λ (x : Grid). rowsLeft columns k x ended (d ∷ (ds ++ drop (r .end) text))) e
-                ∙ opened-alike g d (λ x. omega arith) columns k ended (ds ++ drop (r .end) text)
-                ∙ ap (rowsLeft columns k g ended) (sym stands);
+                ∙ ap (λ (x : Grid). rowsLeft say k x ended (d ∷ (ds ++ rest))) e
+                ∙ opened-alike g d (λ x. omega arith) say k ended (ds ++ rest);
           }
 
 -- a step by one byte
-pub follows-on : (text : List ℕ) (i : ℕ) (g : Grid) (ended : List ℕ) (r : Grid) (after : List ℕ) → i < length text → Follows g ended (getD text i 0) r after
-    → StepFrom text i g ended (record { grid = r; end = i + 1 }) after
-follows-on text i g ended r after h f =
+pub follows-on : (text : List ℕ) (i : ℕ) (g : Grid) (ended : List ℕ) (r : Grid) (after : List ℕ) → i < length text → (getD text i 0 ≡ 10 → ⊥)
+    → Follows g ended (getD text i 0) r after → StepFrom text i g ended (record { grid = r; end = i + 1 }) after
+follows-on text i g ended r after h ne f =
     record {
       on = omega arith;
       within = omega arith;
-      rows = λ columns k. f .rows columns k (drop (i + 1) text) ∙ ap (rowsLeft columns k g ended) (sym (next-byte text i h));
+      read = getD text i 0 ∷ [];
+      stands = next-byte text i h;
+      line = rw (ne-eqb (getD text i 0) 10 ne);
+      rows = f .rows;
     }

@@ -103,10 +103,10 @@ mark-more (suc (suc n)) b rest h e = absurd (omega arith)
 
 -- Lines
 
-pub lines-by : (columns k : ℕ) (g r : Grid) (ended after : List ℕ) (c : ℕ) → LineFollows g ended c r after → (ls : List (List ℕ))
-    → linesLeft columns k r after ls ≡ linesLeft columns k g ended (onto c ls)
-lines-by columns k g r ended after c f [] = rw (f .heads [], f .blanks [], f .numbers columns [])
-lines-by columns k g r ended after c f (l ∷ ls) = rw (f .heads l, f .blanks l, f .numbers columns l)
+pub lines-by : (say : List ℕ → List ℕ) (k : ℕ) (g r : Grid) (ended after : List ℕ) (c : ℕ) → LineFollows g ended c r after → (ls : List (List ℕ))
+    → linesLeft say k r after ls ≡ linesLeft say k g ended (onto c ls)
+lines-by say k g r ended after c f [] = rw (f .heads [], f .blanks [], f .numbers say [])
+lines-by say k g r ended after c f (l ∷ ls) = rw (f .heads l, f .blanks l, f .numbers say l)
 
 -- A BYTE OF A LINE: behind the mark the rows that are left follow the line
 pub by-line : (g r : Grid) (ended after : List ℕ) (b c : ℕ) → 3 ≤ g .stage → 3 ≤ r .stage → (c ≡ 10 → ⊥)
@@ -116,10 +116,10 @@ pub by-line : (g r : Grid) (ended after : List ℕ) (b c : ℕ) → 3 ≤ g .sta
 unfolding rowsLeft linesBy
 by-line g r ended after b c lg lr ne reads same f =
     record {
-      rows = λ columns k rest.
-          let lines = ap (linesLeft columns k g ended) (sym (lines-on (g .separator) b c rest ne (reads rest))) in
+      rows = λ say k rest.
+          let lines = ap (linesLeft say k g ended) (sym (lines-on (g .separator) b c rest ne (reads rest))) in
           rw (mark-late (r .stage) rest lr, mark-late (g .stage) (b ∷ rest) lg, same rest)
-          (lines-by columns k g r ended after c f (linesOf (map (asComma (separatorLeft (g .separator) (b ∷ rest))) rest)) ∙ lines);
+          (lines-by say k g r ended after c f (linesOf (map (asComma (separatorLeft (g .separator) (b ∷ rest))) rest)) ∙ lines);
     }
 
 -- the same for a byte that is no separator
@@ -132,9 +132,9 @@ by-byte g r ended after b lg lr ne n e =
 
 -- A carriage return with a byte behind it, and a mark that does not go on
 
-lines-alike : (columns k : ℕ) (g r : Grid) (ended : List ℕ) (c : ℕ) → LineAlike g r → (ls : List (List ℕ)) → linesLeft columns k r ended (onto c ls) ≡ linesLeft columns k g ended (onto c ls)
-lines-alike columns k g r ended c f [] = rw (f .heads c [], f .blanks c [], f .numbers columns ended c [])
-lines-alike columns k g r ended c f (l ∷ ls) = rw (f .heads c l, f .blanks c l, f .numbers columns ended c l)
+lines-alike : (say : List ℕ → List ℕ) (k : ℕ) (g r : Grid) (ended : List ℕ) (c : ℕ) → LineAlike g r → (ls : List (List ℕ)) → linesLeft say k r ended (onto c ls) ≡ linesLeft say k g ended (onto c ls)
+lines-alike say k g r ended c f [] = rw (f .heads c [], f .blanks c [], f .numbers say ended c [])
+lines-alike say k g r ended c f (l ∷ ls) = rw (f .heads c l, f .blanks c l, f .numbers say ended c l)
 
 module _ (g r : Grid) (b : ℕ) (ne : b ≡ 10 → ⊥) (sep : r .separator ≡ g .separator) (f : LineAlike g r) where
   comma-feed : (s : ℕ) (rest : List ℕ) → asComma (separatorLeft s (b ∷ rest)) b ≡ 10 → ⊥
@@ -146,14 +146,14 @@ module _ (g r : Grid) (b : ℕ) (ne : b ≡ 10 → ⊥) (sep : r .separator ≡ 
       go false false e = ne e
 
   -- states whose lines are alike, and of which the mark goes on with no byte
-  pub by-alike : (ended : List ℕ) (columns k : ℕ) (rest : List ℕ)
-      → linesLeft columns k r ended (linesBy (r .separator) (b ∷ rest)) ≡ linesLeft columns k g ended (linesBy (g .separator) (b ∷ rest))
-  by-alike ended columns k rest =
+  pub by-alike : (ended : List ℕ) (say : List ℕ → List ℕ) (k : ℕ) (rest : List ℕ)
+      → linesLeft say k r ended (linesBy (r .separator) (b ∷ rest)) ≡ linesLeft say k g ended (linesBy (g .separator) (b ∷ rest))
+  by-alike ended say k rest =
       let s = g .separator in
       let lines = lines-on s b (asComma (separatorLeft s (b ∷ rest)) b) rest (comma-feed s rest) refl in
-      ap (λ (x : ℕ). linesLeft columns k r ended (linesBy x (b ∷ rest))) sep ∙ ap (linesLeft columns k r ended) lines
-      ∙ lines-alike columns k g r ended (asComma (separatorLeft s (b ∷ rest)) b) f (linesOf (map (asComma (separatorLeft s (b ∷ rest))) rest))
-      ∙ ap (linesLeft columns k g ended) (sym lines)
+      ap (λ (x : ℕ). linesLeft say k r ended (linesBy x (b ∷ rest))) sep ∙ ap (linesLeft say k r ended) lines
+      ∙ lines-alike say k g r ended (asComma (separatorLeft s (b ∷ rest)) b) f (linesOf (map (asComma (separatorLeft s (b ∷ rest))) rest))
+      ∙ ap (linesLeft say k g ended) (sym lines)
 
 pub opened-stage : (g : Grid) → gridOpened g .stage ≡ g .stage
 opened-stage g = go (g .shut)
@@ -177,15 +177,15 @@ opened-clear g = go (g .shut) refl
     go false e = e
 
 -- an opened state says of a rest that begins with a byte what the one before does
-pub opened-alike : (g : Grid) (b : ℕ) → (b ≡ 10 → ⊥) → (columns k : ℕ) (ended rest : List ℕ) → rowsLeft columns k (gridOpened g) ended (b ∷ rest) ≡ rowsLeft columns k g ended (b ∷ rest)
+pub opened-alike : (g : Grid) (b : ℕ) → (b ≡ 10 → ⊥) → (say : List ℕ → List ℕ) (k : ℕ) (ended rest : List ℕ) → rowsLeft say k (gridOpened g) ended (b ∷ rest) ≡ rowsLeft say k g ended (b ∷ rest)
 unfolding rowsLeft
-opened-alike g b ne columns k ended rest =
+opened-alike g b ne say k ended rest =
     let stage = opened-stage g in
-    let alike = by-alike g (gridOpened g) b ne (opened-separator g) (by-opening g) ended columns k rest in
-    λ i. cond (marksOn (stage i) (b ∷ rest)) (rowsBehind columns k ended (drop (3 - stage i) (b ∷ rest))) (alike i)
+    let alike = by-alike g (gridOpened g) b ne (opened-separator g) (by-opening g) ended say k rest in
+    λ i. cond (marksOn (stage i) (b ∷ rest)) (rowsBehind say k ended (drop (3 - stage i) (b ∷ rest))) (alike i)
 
 pub after-opening : (g r : Grid) (ended after : List ℕ) (b : ℕ) → (b ≡ 10 → ⊥) → Follows (gridOpened g) ended b r after → Follows g ended b r after
-after-opening g r ended after b ne f = record { rows = λ columns k rest. f .rows columns k rest ∙ opened-alike g b ne columns k ended rest }
+after-opening g r ended after b ne f = record { rows = λ say k rest. f .rows say k rest ∙ opened-alike g b ne say k ended rest }
 
 -- a mark that does not go on leaves its bytes in the first line
 head-begun : (g : Grid) (l : List ℕ) → headLeft (gridBegun g) l ≡ headLeft g l
@@ -198,15 +198,15 @@ begun-late g = stage-case (λ n. 3 ≤ cond (ltb n 3) 3 n) (omega arith) (omega 
 pub begun-in-line : (g : Grid) → g .shut ≡ false → InLine (gridBegun g)
 begun-in-line g h = record { stage = begun-late g; clear = h }
 
-lines-begun : (columns k : ℕ) (g : Grid) (ended : List ℕ) (ls : List (List ℕ)) → linesLeft columns k (gridBegun g) ended ls ≡ linesLeft columns k g ended ls
+lines-begun : (say : List ℕ → List ℕ) (k : ℕ) (g : Grid) (ended : List ℕ) (ls : List (List ℕ)) → linesLeft say k (gridBegun g) ended ls ≡ linesLeft say k g ended ls
 unfolding blankLeft rowLeft
-lines-begun columns k g ended [] = rw (head-begun g [])
-lines-begun columns k g ended (l ∷ ls) = rw (head-begun g l)
+lines-begun say k g ended [] = rw (head-begun g [])
+lines-begun say k g ended (l ∷ ls) = rw (head-begun g l)
 
 pub after-begun : (g r : Grid) (ended after : List ℕ) (b : ℕ) → markGoesOn (g .stage) b ≡ false → Follows (gridBegun g) ended b r after → Follows g ended b r after
 unfolding rowsLeft
 after-begun g r ended after b stops f =
     record {
-      rows = λ columns k rest. f .rows columns k rest
-          ∙ rw (mark-late (gridBegun g .stage) (b ∷ rest) (begun-late g), mark-stops (g .stage) b rest stops) (lines-begun columns k g ended (linesBy (g .separator) (b ∷ rest)));
+      rows = λ say k rest. f .rows say k rest
+          ∙ rw (mark-late (gridBegun g .stage) (b ∷ rest) (begun-late g), mark-stops (g .stage) b rest stops) (lines-begun say k g ended (linesBy (g .separator) (b ∷ rest)));
     }

@@ -6,24 +6,17 @@ use mathlib.Core.List.{List, [], _∷_, _++_, map}
 use Prim.Native.Nat.{ℕ, suc, _+_, _-_, _≤_, _<_}
 use lib.Dec.{eqb, leb, ltb}
 use lib.ListN.{length, take, drop, replicate, getD}
-use Rattle.row.specs.Numbers.{notEmpty, linesOf, partsOf, isDigit, digits, isNumber, value, ceiling, hold}
+use Rattle.row.specs.Numbers.{lineFeed, notEmpty, linesOf, partsOf, isDigit, digits, isNumber, value, ceiling, hold}
 use Rattle.row.specs.Meaning.{mostColumns}
 use Rattle.grid.specs.declared.cell.Cell.{Cell}
 use Rattle.grid.specs.declared.cell.Cell.the-variants.{Fresh, Bare, Opened, Quoted, Closed, Bad}
 use Rattle.grid.specs.declared.Grid.{Grid}
 use Rattle.grid.specs.declared.Step.{Step}
 use Rattle.grid.specs.declared.cell.Run.{Run}
-use Rattle.grid.specs.Grid.{mark, beginsWith, comma, isSeparator, separatorOf, asComma, commas, hasDigit, carriageReturn, plain, isBlank, trimmed, closing, unquoted, rowOf, rowsOf}
+use Rattle.grid.specs.Grid.{mark, beginsWith, comma, isSeparator, separatorOf, asComma, commas, hasDigit, carriageReturn, plain, isBlank, trimmed, closing, unquoted, cellsOf, bodyOf}
+use Rattle.grid.specs.Told.{noNumber, told, rowIn, rowsBy}
 
 -- Cells
-
--- it stands for a cell that is no number, and is above every limit
-abbrev pub noNumber : ℕ
-noNumber = 1000000000001
-
--- what a cell says: its number, held, or none
-abbrev pub told : List ℕ → ℕ
-told p = cond (isNumber p) (hold (value 0 p)) noNumber
 
 -- what a cell says whose digits so far are worth v
 abbrev pub toldBehind : ℕ → List ℕ → ℕ
@@ -101,15 +94,15 @@ plainLeft false l = plain l
 plainLeft true [] = []
 plainLeft true (b ∷ l) = carriageReturn ∷ plain (b ∷ l)
 
--- the line is a heading; it is blank; the numbers of a line of so many: if `l` is left of it
+-- the line is a heading; it is blank; what it says of what its cells say: if `l` is left of it
 unfoldable pub headLeft : Grid → List ℕ → Bool
 headLeft g l = ltb (g .stage) 4 && not (hasDigit l)
 
 unfoldable pub blankLeft : Grid → List ℕ → Bool
 blankLeft g l = not (g .filled) && isBlank (plainLeft (g .shut) l)
 
-unfoldable pub rowLeft : ℕ → Grid → List ℕ → List ℕ → List ℕ
-rowLeft columns g ended l = rowBy columns (cellsLeft (g .at) ended (g .cell) (partsOf comma (plainLeft (g .shut) l)))
+unfoldable pub rowLeft : (List ℕ → List ℕ) → Grid → List ℕ → List ℕ → List ℕ
+rowLeft say g ended l = say (cellsLeft (g .at) ended (g .cell) (partsOf comma (plainLeft (g .shut) l)))
 
 -- Rows. `k` blank lines are held back: they count where another line stands behind them.
 
@@ -123,16 +116,16 @@ unfoldable pub lineThen : ℕ → Bool → Bool → List ℕ → List (List ℕ)
 lineThen k heading blank row rows = cond heading (blanksThen k rows) (cond blank (blanksThen (suc k) rows) (replicate k [] ++ row ∷ rows))
 
 -- the rows of whole lines
-abbrev pub rowsIn : ℕ → List (List ℕ) → List (List ℕ)
-rowsIn columns ls = map (rowOf columns) (trimmed (map plain ls))
+abbrev pub rowsIn : (List ℕ → List ℕ) → List (List ℕ) → List (List ℕ)
+rowsIn say ls = map (rowIn say) (trimmed (map plain ls))
 
 -- the line that is being read, `l` of it left, and whole lines behind it
-abbrev pub lineLeft : ℕ → ℕ → Grid → List ℕ → List ℕ → List (List ℕ) → List (List ℕ)
-lineLeft columns k g ended l ls = lineThen k (headLeft g l) (blankLeft g l) (rowLeft columns g ended l) (rowsIn columns ls)
+abbrev pub lineLeft : (List ℕ → List ℕ) → ℕ → Grid → List ℕ → List ℕ → List (List ℕ) → List (List ℕ)
+lineLeft say k g ended l ls = lineThen k (headLeft g l) (blankLeft g l) (rowLeft say g ended l) (rowsIn say ls)
 
-abbrev pub linesLeft : ℕ → ℕ → Grid → List ℕ → List (List ℕ) → List (List ℕ)
-linesLeft columns k g ended [] = lineLeft columns k g ended [] []
-linesLeft columns k g ended (l ∷ ls) = lineLeft columns k g ended l ls
+abbrev pub linesLeft : (List ℕ → List ℕ) → ℕ → Grid → List ℕ → List (List ℕ) → List (List ℕ)
+linesLeft say k g ended [] = lineLeft say k g ended [] []
+linesLeft say k g ended (l ∷ ls) = lineLeft say k g ended l ls
 
 -- the file's separator: the one that was read, or the first that is left
 abbrev pub separatorLeft : ℕ → List ℕ → ℕ
@@ -146,21 +139,21 @@ linesBy separator rest = linesOf (map (asComma (separatorLeft separator rest)) r
 abbrev pub gridFirst : Grid
 gridFirst = record { stage = 3; separator = 0; filled = false; shut = false; cell = Fresh; at = 0 }
 
-unfoldable pub rowsBehind : ℕ → ℕ → List ℕ → List ℕ → List (List ℕ)
-rowsBehind columns k ended text = linesLeft columns k gridFirst ended (linesOf (commas text))
+unfoldable pub rowsBehind : (List ℕ → List ℕ) → ℕ → List ℕ → List ℕ → List (List ℕ)
+rowsBehind say k ended text = linesLeft say k gridFirst ended (linesOf (commas text))
 
 -- the mark may still come whole
 unfoldable pub marksOn : ℕ → List ℕ → Bool
 marksOn stage rest = ltb stage 3 && beginsWith (drop stage mark) rest
 
 -- THE ROWS THAT ARE LEFT, if `rest` is what is left of the text
-unfoldable pub rowsLeft : ℕ → ℕ → Grid → List ℕ → List ℕ → List (List ℕ)
-rowsLeft columns k g ended rest =
-    cond (marksOn (g .stage) rest) (rowsBehind columns k ended (drop (3 - g .stage) rest)) (linesLeft columns k g ended (linesBy (g .separator) rest))
+unfoldable pub rowsLeft : (List ℕ → List ℕ) → ℕ → Grid → List ℕ → List ℕ → List (List ℕ)
+rowsLeft say k g ended rest =
+    cond (marksOn (g .stage) rest) (rowsBehind say k ended (drop (3 - g .stage) rest)) (linesLeft say k g ended (linesBy (g .separator) rest))
 
 -- the rows of the whole lines that are left behind a line feed
-unfoldable pub rowsAfter : ℕ → Grid → List ℕ → List (List ℕ)
-rowsAfter columns g rest = rowsIn columns (linesBy (g .separator) rest)
+unfoldable pub rowsAfter : (List ℕ → List ℕ) → Grid → List ℕ → List (List ℕ)
+rowsAfter say g rest = rowsIn say (linesBy (g .separator) rest)
 
 -- STEPS
 
@@ -199,18 +192,26 @@ pub record InLine (g : Grid) : Type 0 where
 
 -- the state says of a rest what another says of that rest behind a byte
 pub record Follows (g : Grid) (ended : List ℕ) (b : ℕ) (r : Grid) (after : List ℕ) : Type 0 where
-  pub rows : (columns k : ℕ) (rest : List ℕ) → rowsLeft columns k r after rest ≡ rowsLeft columns k g ended (b ∷ rest)
+  pub rows : (say : List ℕ → List ℕ) (k : ℕ) (rest : List ℕ) → rowsLeft say k r after rest ≡ rowsLeft say k g ended (b ∷ rest)
 
--- the state after a step from byte i of a text
+-- no line ends in these bytes
+abbrev pub noFeed : List ℕ → Bool
+noFeed [] = true
+noFeed (b ∷ bs) = not (eqb b lineFeed) && noFeed bs
+
+-- the state after a step from byte i of a text, over some bytes of its line
 pub record StepFrom (text : List ℕ) (i : ℕ) (g : Grid) (ended : List ℕ) (r : Step) (after : List ℕ) : Type 0 where
   pub on : i < r .end
   pub within : r .end ≤ length text
-  pub rows : (columns k : ℕ) → rowsLeft columns k (r .grid) after (drop (r .end) text) ≡ rowsLeft columns k g ended (drop i text)
+  pub read : List ℕ
+  pub stands : drop i text ≡ read ++ drop (r .end) text
+  pub line : noFeed read ≡ true
+  pub rows : (say : List ℕ → List ℕ) (k : ℕ) (rest : List ℕ) → rowsLeft say k (r .grid) after rest ≡ rowsLeft say k g ended (read ++ rest)
 
 -- the state before any byte
 pub record Starts (g : Grid) : Type 0 where
-  pub rows : (columns : ℕ) (ended rest : List ℕ) → columns < mostColumns → rowsLeft columns 0 g ended rest ≡ rowsOf columns rest
+  pub rows : (say : List ℕ → List ℕ) (ended rest : List ℕ) → rowsLeft say 0 g ended rest ≡ rowsBy say rest
 
 -- the state after a line feed
 pub record Next (g r : Grid) : Type 0 where
-  pub rows : (columns k : ℕ) (ended rest : List ℕ) → columns < mostColumns → rowsLeft columns k r ended rest ≡ blanksThen k (rowsAfter columns g rest)
+  pub rows : (say : List ℕ → List ℕ) (k : ℕ) (ended rest : List ℕ) → rowsLeft say k r ended rest ≡ blanksThen k (rowsAfter say g rest)

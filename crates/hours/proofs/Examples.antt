@@ -5,8 +5,8 @@ use Prim.Native.Nat.{ℕ}
 use lib.ListN.{replicate, set}
 use Rattle.units.specs.declared.Grains.{Grains}
 use Rattle.units.specs.Money.{grainsPlus}
-use Rattle.row.specs.Numbers.{numbersIn, numbersOf}
-use Rattle.tables.specs.Table.{rowOf}
+use Rattle.row.specs.Numbers.{numbersIn}
+use Rattle.grid.specs.Grid.{rowOf, rowsOf}
 use Rattle.pay.specs.declared.Member.{Member}
 use Rattle.pay.specs.Member.{memberIsSound}
 use Rattle.ramp.specs.Ramping.{isRamping, actionIsSound, firstStandard, apart, isRightWay, moveOf, errorOf, k1, k2, k3, index, rightWay, moves, distance, meanIndex, hourWorth, hourGrains}
@@ -44,12 +44,12 @@ pub two-hours : readHours coal 744 (first ++ 10 ∷ second ++ 10 ∷ third)
       actions = set (set (replicate mostHours 0) 3 1) 5 2;
     }
 unfolding coal first second third readHours hoursOfLines hoursPaid hourLines asHourLine ofHour lastHour hourLineIsSound firstBadLine paysFrom actionsFrom hoursWith
-    grainsSum grainsPlus memberIsSound isRamping actionIsSound firstStandard rowOf numbersOf numbersIn apart isRightWay moveOf errorOf k1 k2 k3 index rightWay moves
+    grainsSum grainsPlus memberIsSound isRamping actionIsSound firstStandard rowsOf rowOf numbersIn apart isRightWay moveOf errorOf k1 k2 k3 index rightWay moves
     distance meanIndex hourWorth hourGrains fraction plus less times sum mean cut
 two-hours = refl
 
 -- Hours that do not rise: line 1, behind line 0.
 pub not-rising : readHours coal 744 (second ++ 10 ∷ first ++ 10 ∷ []) ≡ hoursRefused (AtLine 1)
 unfolding coal first second readHours hoursOfLines hourLines asHourLine ofHour lastHour hourLineIsSound firstBadLine memberIsSound isRamping actionIsSound firstStandard
-    rowOf numbersOf numbersIn
+    rowsOf rowOf numbersIn
 not-rising = refl

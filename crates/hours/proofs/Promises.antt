@@ -211,7 +211,7 @@ module _ (m : Member) (hours : ℕ) where
 
     -- A FAULT THAT IS KNOWN STAYS: no bytes that follow change the answer.
     pub stops-late-enough : ((m : Member) (hours : ℕ) (x : List ℕ) → HasRead m hours r x → true ≡ isFault (readHours m hours (endedPart x) .fault)) → Settled m hours text
-    stops-late-enough t = settled m hours (r .cells) (r .sheet) text k (sym (t m hours text k))
+    stops-late-enough t = settled m hours r text k (sym (t m hours text k))
 
 -- Two outcomes that a contract allows are one
 

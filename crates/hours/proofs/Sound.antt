@@ -14,7 +14,7 @@ use Rattle.ramp.specs.Ramping.{mostActions, mostPower, mostDelay, mostRampRate,
 use Rattle.ramp.proofs.Sound.{within-of, of-within, unsound-behind, unsound-le}
 use Rattle.ramp.proofs.Going.{so-far-within}
 use Rattle.hours.specs.declared.HourLine.{HourLine}
-use Rattle.hours.specs.Hours.{ofHour, lastHour, hourLineIsSound, firstBadLine}
+use Rattle.hours.specs.Hours.{asHourLine, ofHour, lastHour, hourLineIsSound, firstBadLine}
 use Rattle.hours.specs.Outcomes.{LineWithin}
 use Rattle.hours.specs.Inner.{hourLineFits, blankHourLine, fairHourLine, mostShort, mostWord, GoodHour}
 use Rattle.hours.proofs.Lines.{of-its-hour, of-another, last-more, bad-behind}
@@ -68,6 +68,11 @@ sound-fits hours ls l few h =
 blank-bad : (hours : ℕ) (ls : List HourLine) → hourLineIsSound hours ls blankHourLine ≡ true → ⊥
 unfolding blankHourLine noAction
 blank-bad hours ls h = line-within hours ls blankHourLine h .action .some-rate refl
+
+-- a line of no numbers is never sound
+pub none-bad : (hours : ℕ) (ls : List HourLine) → hourLineIsSound hours ls (asHourLine []) ≡ false
+unfolding asHourLine
+none-bad hours ls = fails (hourLineIsSound hours ls (asHourLine [])) (λ h. h) (λ h. line-within hours ls (asHourLine []) h .action .some-rate refl)
 
 module _ (hours : ℕ) (few : hours ≤ mostShort) (ls : List HourLine) (l : HourLine) where
   -- a line that is taken by its fair form is itself,

@@ -1,8 +1,8 @@
 -- The sheet before any line, after a line that it takes, after one that it does not, and its answer. Assumes nothing.
 use mathlib.Core.Path.{_≡_, refl, ap, sym, _∙_, subst}
 use mathlib.Core.Bool.{Bool, true, false, cond, _&&_}
-use mathlib.Core.List.{List, [], _∷_, _++_, append-assoc, append-nil}
-use Prim.Native.Nat.{ℕ, _+_, _%_, _^_, _≤_, _<_}
+use mathlib.Core.List.{List, [], _∷_, _++_, map, append-assoc, append-nil}
+use Prim.Native.Nat.{ℕ, zero, suc, _+_, _%_, _^_, _≤_, _<_}
 use native.Mathlib.Nat.{mod-eq-of-lt, zero-add}
 use native.Mathlib.Numerals.{add-one}
 use native.Mathlib.Omega.{arith}
@@ -17,15 +17,17 @@ use Rattle.pay.specs.Member.{mostRated, memberIsSound}
 use Rattle.pay.proofs.Within.{line-of}
 use Rattle.ramp.specs.declared.Action.{Action}
 use Rattle.ramp.specs.Ramping.{mostActions, isRamping, actionIsSound, firstStandard, noAction, rightWay, hourGrains}
+use Rattle.grid.specs.declared.Grid.{Grid}
+use Rattle.grid.specs.Meaning.{rowBy, headLeft, blankLeft, rowLeft}
 use Rattle.hours.specs.declared.HourLine.{HourLine}
 use Rattle.hours.specs.declared.HoursFault.{HoursFault}
 use Rattle.hours.specs.declared.HoursFault.the-variants.{NoFault, OfMember, AtLine}
 use Rattle.hours.specs.declared.sheet.Sheet.{Sheet}
-use Rattle.hours.specs.Hours.{mostHours, ofHour, lastHour, hourLineIsSound, firstBadLine, paysFrom, hoursWith, grainsSum, hoursRefused, hoursPaid, hoursOfLines, isFault}
+use Rattle.hours.specs.Hours.{hourColumns, mostHours, asHourLine, ofHour, lastHour, hourLineIsSound, firstBadLine, paysFrom, hoursWith, grainsSum, hoursRefused, hoursPaid, hoursOfLines, isFault}
 use Rattle.hours.specs.Outcomes.{LineWithin}
-use Rattle.hours.specs.Inner.{mostShort, fairHourLine, linesSay, filledFor, standardFor, sheetTakes, BlankSheet, GoodHour, Taken, Refused, Judged}
+use Rattle.hours.specs.Inner.{mostShort, fairHourLine, endedLine, endedLines, heldAfter, linesSay, filledFor, standardFor, sheetTakes, BlankSheet, GoodHour, Taken, Refused, Judged}
 use Rattle.hours.proofs.Lines.{of-its-hour, last-more, bad-behind, paidFor, pays-table, actions-table, table-none, table-more}
-use Rattle.hours.proofs.Sound.{line-within, good-most, fair-same, fair-bad, sound-more, all-sound}
+use Rattle.hours.proofs.Sound.{line-within, none-bad, good-most, fair-same, fair-bad, sound-more, all-sound}
 
 -- What lines say of a member that may ramp
 
@@ -146,6 +148,24 @@ refused-answer m hours ls fault r = sym (ap (linesSay m hours) (sym (append-nil 
 pub refused-more : (m : Member) (hours : ℕ) (ls : List HourLine) (l : HourLine) (fault : HoursFault) → Refused m hours ls fault → Refused m hours (ls ++ l ∷ []) fault
 refused-more m hours ls l fault r = record { told = r .told; stays = λ rest. ap (linesSay m hours) (append-assoc ls (l ∷ []) rest) ∙ r .stays (l ∷ rest) }
 
+refused-all : (m : Member) (hours : ℕ) (ls more : List HourLine) (fault : HoursFault) → Refused m hours ls fault → Refused m hours (ls ++ more) fault
+refused-all m hours ls more fault r = record { told = r .told; stays = λ rest. ap (linesSay m hours) (append-assoc ls more rest) ∙ r .stays (more ++ rest) }
+
+-- A blank line, whatever lines stand behind it
+
+module _ (m : Member) (hours : ℕ) (ls more : List HourLine) (s : Sheet) (j : Judged m hours ls s) where
+  pub spoilt-before : s .refused ≡ true → Judged m hours (ls ++ asHourLine [] ∷ more) s
+  spoilt-before h = record { no = λ e. refused-all m hours ls (asHourLine [] ∷ more) (s .fault) (j .no e); yes = λ e. absurd (holds-or-fails h e) }
+
+  pub spoilt-now : (r : Sheet) → s .refused ≡ false → (r .refused ≡ true) × (r .fault ≡ AtLine (s .count)) → Judged m hours (ls ++ asHourLine [] ∷ more) r
+  spoilt-now r on e =
+      let bad = bad-refused m hours ls s (j .yes on) (asHourLine []) (none-bad hours ls) in
+      record {
+        no = λ h. subst (λ (x : HoursFault). Refused m hours (ls ++ asHourLine [] ∷ more) x) (sym (e .1))
+            (subst (λ (x : List HourLine). Refused m hours x (AtLine (s .count))) (append-snoc ls (asHourLine []) more) (refused-all m hours (ls ++ asHourLine [] ∷ []) more (AtLine (s .count)) bad));
+        yes = λ h. absurd (holds-or-fails (e .0) h);
+      }
+
 -- A line that is taken
 
 -- there is room for its action
@@ -233,3 +253,44 @@ module _ (s : Sheet) (l : HourLine) (r : Sheet) (on : s .refused ≡ false) (f :
         no = λ e. absurd (holds-or-fails e (t .0));
         yes = λ e. subst (λ (x : HourLine). Taken m hours (ls ++ x ∷ []) r) same (t .1);
       }
+
+-- The end of a line, where blank lines are held back or none
+
+module _ (grid : Grid) (ended : List ℕ) (s : Sheet) where
+  no-lines : (held : ℕ) → endedLines held grid ended ≡ [] → (m : Member) (hours : ℕ) (ls : List HourLine) → Judged m hours ls s → Judged m hours (ls ++ endedLines held grid ended) s
+  no-lines held e m hours ls j = subst (λ (x : List HourLine). Judged m hours x s) (sym (ap (λ (x : List HourLine). ls ++ x) e ∙ append-nil ls)) j
+
+  pub after-heading : headLeft grid [] ≡ true → (m : Member) (hours : ℕ) (ls : List HourLine) (held : ℕ) → Judged m hours ls s → Judged m hours (ls ++ endedLines held grid ended) s
+  unfolding endedLines
+  after-heading h m hours ls held j = no-lines held (rw h) m hours ls j
+
+  module _ (h : headLeft grid [] ≡ false) where
+    pub after-blank : blankLeft grid [] ≡ true → (m : Member) (hours : ℕ) (ls : List HourLine) (held : ℕ) → Judged m hours ls s → Judged m hours (ls ++ endedLines held grid ended) s
+    unfolding endedLines
+    after-blank b m hours ls held j = no-lines held (rw (h, b)) m hours ls j
+
+    module _ (b : blankLeft grid [] ≡ false) (r : Sheet) where
+      pub after-held : ((m : Member) (hours : ℕ) (ls more : List HourLine) → Judged m hours ls s → Judged m hours (ls ++ asHourLine [] ∷ more) r)
+          → (m : Member) (hours : ℕ) (ls : List HourLine) (held : ℕ) → true ≡ ltb 0 held → Judged m hours ls s → Judged m hours (ls ++ endedLines held grid ended) r
+      unfolding endedLines
+      after-held spoils m hours ls zero e j = absurd (holds-or-fails (sym e) (le-ltb 0 0 (omega arith)))
+      after-held spoils m hours ls (suc k) e j = rw (h, b) (spoils m hours ls (map asHourLine (replicate k [] ++ rowLeft (rowBy hourColumns) grid ended [] ∷ [])) j)
+
+      pub after-row : ((m : Member) (hours : ℕ) (ls : List HourLine) → Judged m hours ls s → Judged m hours (ls ++ endedLine grid ended ∷ []) r)
+          → (m : Member) (hours : ℕ) (ls : List HourLine) (held : ℕ) → false ≡ ltb 0 held → Judged m hours ls s → Judged m hours (ls ++ endedLines held grid ended) r
+      unfolding endedLines
+      after-row takes m hours ls zero e j = rw (h, b) (takes m hours ls j)
+      after-row takes m hours ls (suc k) e j = absurd (holds-or-fails (lt-ltb 0 (suc k) (omega arith)) (sym e))
+
+-- how many are held back then
+pub held-heading : (grid : Grid) (held : ℕ) → headLeft grid [] ≡ true → ltb 0 held ≡ ltb 0 (heldAfter held grid)
+unfolding heldAfter
+held-heading grid held h = rw h
+
+pub held-line : (grid : Grid) (held : ℕ) → headLeft grid [] ≡ false → blankLeft grid [] ≡ ltb 0 (heldAfter held grid)
+unfolding heldAfter
+held-line grid held h = rw h (go (blankLeft grid []))
+  where
+    go : (t : Bool) → t ≡ ltb 0 (cond t (suc held) 0)
+    go true = sym (lt-ltb 0 (suc held) (omega arith))
+    go false = sym (le-ltb 0 0 (omega arith))

@@ -7,8 +7,7 @@ use lib.Dec.{eqb, ltb, leb}
 use lib.ListN.{length, getD, replicate}
 use Rattle.units.specs.declared.Grains.{Grains}
 use Rattle.units.specs.Money.{grainsPlus}
-use Rattle.row.specs.Numbers.{linesOf}
-use Rattle.tables.specs.Table.{rowOf}
+use Rattle.grid.specs.Grid.{rowsOf}
 use Rattle.pay.specs.declared.Member.{Member}
 use Rattle.pay.specs.Member.{memberIsSound}
 use Rattle.ramp.specs.declared.Action.{Action}
@@ -50,7 +49,7 @@ asHourLine ns =
 
 -- the lines of a text; one that is not seven numbers is as bad as one of zeros, whose standard rate is zero
 unfoldable pub hourLines : List ℕ → List HourLine
-hourLines text = map (λ l. asHourLine (rowOf hourColumns l)) (linesOf text)
+hourLines text = map asHourLine (rowsOf hourColumns text)
 
 -- the actions of one hour, in their order
 unfoldable pub ofHour : ℕ → List HourLine → List Action

@@ -3,11 +3,11 @@
 use mathlib.Core.Path.{_≡_}
 use mathlib.Core.Bool.{Bool, true, false, cond, not, _&&_}
 use mathlib.Core.List.{List, [], _∷_, _++_, map}
-use Prim.Native.Nat.{ℕ, _-_, _≤_}
+use Prim.Native.Nat.{ℕ, suc, _-_, _≤_}
 use lib.Dec.{eqb, ltb, leb}
 use lib.ListN.{length, getD, take, replicate}
-use Rattle.tables.specs.declared.cells.Cells.{Cells}
-use Rattle.tables.specs.Meaning.{cellNumbers, rowsLeft}
+use Rattle.grid.specs.declared.Grid.{Grid}
+use Rattle.grid.specs.Meaning.{rowBy, headLeft, blankLeft, rowLeft}
 use Rattle.pay.specs.declared.Member.{Member}
 use Rattle.pay.specs.Member.{memberIsSound}
 use Rattle.ramp.specs.declared.Action.{Action}
@@ -42,21 +42,22 @@ blankHourLine = record { hour = 0; action = noAction }
 unfoldable pub fairHourLine : HourLine → HourLine
 fairHourLine l = cond (hourLineFits l) l blankHourLine
 
--- the numbers of the line, if `rest` is what is left of it
-abbrev pub hourNumbers : Cells → List ℕ → List ℕ
-hourNumbers cells rest = cellNumbers (hourColumns - 1) cells rest
-
 -- the line, if it ends here
-abbrev pub endedLine : Cells → HourLine
-endedLine cells = asHourLine (hourNumbers cells [])
+abbrev pub endedLine : Grid → List ℕ → HourLine
+endedLine grid ended = asHourLine (rowLeft (rowBy hourColumns) grid ended [])
 
 -- seven numbers, the last of them by itself
 abbrev pub sevenOf : List ℕ → ℕ → List ℕ
 sevenOf ended value = take (hourColumns - 1) ended ++ value ∷ []
 
--- the lines that are left: the one that is being read, and those behind it
-abbrev pub linesLeft : Cells → List (List ℕ) → List HourLine
-linesLeft cells ls = map asHourLine (rowsLeft (hourColumns - 1) cells ls)
+-- the lines that count, if it ends here: none of a heading or a blank line; otherwise the blank lines held back, and this one
+unfoldable pub endedLines : ℕ → Grid → List ℕ → List HourLine
+endedLines held grid ended =
+    cond (headLeft grid []) [] (cond (blankLeft grid []) [] (map asHourLine (replicate held [] ++ rowLeft (rowBy hourColumns) grid ended [] ∷ [])))
+
+-- how many blank lines are held back then
+unfoldable pub heldAfter : ℕ → Grid → ℕ
+heldAfter held grid = cond (headLeft grid []) held (cond (blankLeft grid []) (suc held) 0)
 
 -- 1 where something is so, else 0
 unfoldable pub oneIf : Bool → ℕ

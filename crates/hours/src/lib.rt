@@ -4,17 +4,19 @@ pub mod name;
 mod sheet;
 mod sums;
 
-use line::LAST;
+use grid::Grid;
 use pay::Member;
 use ramp::Action;
+use row::MOST_COLUMNS;
 use sheet::Sheet;
-use tables::cells::Cells;
 use units::Grains;
 ghost use mathlib.Core.Path.{_≡_};
 ghost use mathlib.Core.List.{List, [], _++_};
 ghost use Prim.Native.Nat.{ℕ};
+ghost use lib.Dec.{ltb};
 ghost use Rattle.pay.specs.declared.Member.{Member};
 ghost use Rattle.hours.specs.Hours.{monthHours, isFault, readHours};
+ghost use Rattle.hours.specs.Inner.{heldAfter};
 ghost use Rattle.hours.specs.Stream.{HasRead, endedPart};
 
 // The hours of 31 days.
@@ -50,10 +52,22 @@ fn month_hours(hours: u16) -> u16
     if hours < most { hours } else { most }
 }
 
-// All that is kept of the file so far: the line that is being read, and what the lines before it come to.
+// All that is kept of the file so far: the line that is being read, whether a blank line before it is held back, and what the lines before that come to.
 pub struct Reader {
-    cells: Cells,
+    grid: Grid,
+    ended: [u64; MOST_COLUMNS],
+    blank: bool,
     sheet: Sheet,
+}
+
+// Whether a blank line is held back behind the end of a line.
+fn held_behind(blank: bool, grid: Grid) -> bool
+    ensures { λ r. ⌜ ((held : ℕ) → blank ≡ ltb 0 held → r ≡ ltb 0 (heldAfter held grid)) ⌝ }
+{
+    if grid.is_heading() {
+        return blank;
+    }
+    grid.is_blank()
 }
 
 impl Reader {
@@ -61,30 +75,44 @@ impl Reader {
     pub fn start(member: Member, hours: u16) -> Reader
         ensures { λ r. ⌜ HasRead member (monthHours hours) r [] ⌝ }
     {
-        let cells = Cells::start();
+        let grid = Grid::start();
         let most = month_hours(hours);
         let sheet = Sheet::start(member, most);
-        Reader { cells, sheet }
+        Reader {
+            grid,
+            ended: [0; MOST_COLUMNS],
+            blank: false,
+            sheet,
+        }
     }
 
-    // The reader after some bytes more. The sheet is large: between line feeds only the cells move.
+    // The reader after some bytes more. The sheet is large: between line feeds only the grid moves.
     pub fn feed(self, bytes: &[u8]) -> Reader
         ensures { λ r. ⌜ ((m : Member) (hours : ℕ) (text : List ℕ) → HasRead m hours self text → HasRead m hours r (text ++ now (bytes .entry))) ⌝ }
     {
-        let mut cells = self.cells;
+        let mut grid = self.grid;
+        let mut ended = self.ended;
+        let mut blank = self.blank;
         let mut sheet = self.sheet;
         let mut i: usize = 0;
         while i < bytes.len() {
-            let b = bytes[i];
-            if b == b'\n' {
-                sheet = sheet.with(cells);
-                cells = Cells::start();
+            if bytes[i] == b'\n' {
+                sheet = sheet.after(blank, grid, ended);
+                blank = held_behind(blank, grid);
+                grid = grid.next();
+                i += 1;
             } else {
-                cells = cells.step(LAST, b);
+                let step = grid.step(bytes, i, &mut ended);
+                grid = step.grid;
+                i = step.end;
             }
-            i += 1;
         }
-        Reader { cells, sheet }
+        Reader {
+            grid,
+            ended,
+            blank,
+            sheet,
+        }
     }
 
     // Whether a fault is known: of the member, or of a line that has ended. No bytes that follow change the answer then.
@@ -99,13 +127,11 @@ impl Reader {
     pub fn finish(self) -> Hours
         ensures { λ r. ⌜ ((m : Member) (hours : ℕ) (text : List ℕ) → HasRead m hours self text → r ≡ readHours m hours text) ⌝ }
     {
-        let cells = self.cells;
+        let grid = self.grid;
+        let ended = self.ended;
         let sheet = self.sheet;
-        if cells.is_begun() {
-            let closed = sheet.with(cells);
-            return closed.answer();
-        }
-        sheet.answer()
+        let closed = sheet.after(self.blank, grid, ended);
+        closed.answer()
     }
 }
 

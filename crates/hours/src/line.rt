@@ -1,8 +1,8 @@
 // The line that is being read: seven numbers parted by commas, of which the last one read may still grow.
 use crate::HourLine;
+use grid::Grid;
 use ramp::Action;
-use row::hold;
-use tables::cells::Cells;
+use row::MOST_COLUMNS;
 use units::Kw;
 ghost use mathlib.Core.Path.{_≡_};
 ghost use Rattle.ramp.specs.Ramping.{noAction};
@@ -13,7 +13,7 @@ ghost use Rattle.hours.specs.Inner.{blankHourLine, fairHourLine, endedLi
 const COLUMNS: usize = 7;
 
 // Which of them is the last, from 0 on.
-pub const LAST: usize = COLUMNS - 1;
+const LAST: usize = COLUMNS - 1;
 
 const MOST_SHORT: u64 = 0xffff;
 
@@ -44,7 +44,7 @@ fn blank_hour_line() -> HourLine
 }
 
 // The line of seven numbers, or a blank one where a number does not fit: it is past its limit.
-fn typed(ended: [u64; 7], standard: u64) -> HourLine
+fn typed(ended: [u64; MOST_COLUMNS], standard: u64) -> HourLine
     ensures { λ r. ⌜ r ≡ fairHourLine (asHourLine (sevenOf ended standard)) ⌝ }
 {
     let h = ended[0];
@@ -77,13 +77,12 @@ fn typed(ended: [u64; 7], standard: u64) -> HourLine
 }
 
 // The line, if it ends here.
-pub fn line_in(cells: Cells) -> HourLine
-    ensures { λ r. ⌜ r ≡ fairHourLine (endedLine cells) ⌝ }
+pub fn line_in(grid: Grid, ended: [u64; MOST_COLUMNS]) -> HourLine
+    ensures { λ r. ⌜ r ≡ fairHourLine (endedLine grid ended) ⌝ }
 {
-    let row = cells.row;
-    if row.is_whole(LAST) {
-        let ended = row.ended;
-        return typed(ended, hold(row.value));
+    if grid.at == LAST {
+        let cell = grid.cell;
+        return typed(ended, cell.told());
     }
     blank_hour_line()
 }

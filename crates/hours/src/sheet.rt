@@ -7,6 +7,7 @@ use crate::line::line_in;
 use crate::line::no_action;
 use crate::sums::grains_sum;
 use crate::sums::hours_with;
+use grid::Grid;
 use pay::MOST_RATED;
 use pay::Member;
 use ramp::Action;
@@ -14,21 +15,22 @@ use ramp::actions::action_is_sound;
 use ramp::is_ramping;
 use ramp::so_far::HourSoFar;
 use ramp::so_far::MOST_ACTIONS;
-use tables::cells::Cells;
+use row::MOST_COLUMNS;
 use units::Grains;
 use units::Kw;
 ghost use mathlib.Core.Path.{_≡_};
 ghost use mathlib.Core.Bool.{true, false};
 ghost use mathlib.Core.List.{List, [], _∷_, _++_};
 ghost use Prim.Native.Nat.{ℕ, _≤_};
+ghost use lib.Dec.{ltb};
 ghost use lib.ListN.{length, take, replicate, set};
 ghost use Rattle.pay.specs.declared.Member.{Member};
 ghost use Rattle.pay.specs.Member.{mostRated};
 ghost use Rattle.ramp.specs.Ramping.{mostActions, hourGrains};
 ghost use Rattle.hours.specs.declared.HourLine.{HourLine};
-ghost use Rattle.hours.specs.Hours.{mostHours, hoursRefused};
+ghost use Rattle.hours.specs.Hours.{mostHours, asHourLine, hoursRefused};
 ghost use Rattle.hours.specs.declared.HoursFault.the-variants.{AtLine};
-ghost use Rattle.hours.specs.Inner.{endedLine, filledFor, standardFor, sheetTakes, linesSay, BlankSheet, GoodHour, Taken, Judged};
+ghost use Rattle.hours.specs.Inner.{endedLine, endedLines, filledFor, standardFor, sheetTakes, linesSay, BlankSheet, GoodHour, Taken, Judged};
 
 // How many lines were taken, the hour of the last of them (else 0), its actions, how many they are, and for each hour of the month its grains and its actions.
 // `refused`: the member, or the line after them, has the fault. The actions of the last hour are kept, and their sums made of them anew at every line: sums that
@@ -235,18 +237,44 @@ impl Sheet {
         }
     }
 
-    // The sheet after the end of a line.
-    pub fn with(self, cells: Cells) -> Sheet
-        ensures { λ r. ⌜ ((m : Member) (hours : ℕ) (ls : List HourLine) → Judged m hours ls self → Judged m hours (ls ++ endedLine cells ∷ []) r) ⌝ }
+    // The sheet after a line.
+    fn with(self, grid: Grid, ended: [u64; MOST_COLUMNS]) -> Sheet
+        ensures { λ r. ⌜ ((m : Member) (hours : ℕ) (ls : List HourLine) → Judged m hours ls self → Judged m hours (ls ++ endedLine grid ended ∷ []) r) ⌝ }
     {
         if self.refused {
             return self;
         }
-        let l = line_in(cells);
+        let l = line_in(grid, ended);
         if !self.takes(l) {
             return self.refusing();
         }
         self.taking(l)
+    }
+
+    // The sheet after a blank line, whatever lines stand behind it.
+    fn spoilt(self) -> Sheet
+        ensures { λ r. ⌜ ((m : Member) (hours : ℕ) (ls more : List HourLine) → Judged m hours ls self → Judged m hours (ls ++ asHourLine [] ∷ more) r) ⌝ }
+    {
+        if self.refused {
+            return self;
+        }
+        self.refusing()
+    }
+
+    // The sheet after the end of a line, where a blank line is held back or none.
+    pub fn after(self, blank: bool, grid: Grid, ended: [u64; MOST_COLUMNS]) -> Sheet
+        ensures { λ r. ⌜ ((m : Member) (hours : ℕ) (ls : List HourLine) (held : ℕ) → blank ≡ ltb 0 held → Judged m hours ls self → Judged m hours (ls ++ endedLines held grid ended) r) ⌝ }
+    {
+        if grid.is_heading() {
+            return self;
+        }
+        if grid.is_blank() {
+            return self;
+        }
+        if blank {
+            return self.spoilt();
+        }
+        self.with(grid, ended)
     }
 
     // The answer where no line follows.

@@ -28,7 +28,7 @@ same-length c = search needs
 returns-2 : tie.Need-returns-2
 returns-2 c = let s = c .before .before .before .before .before .before .before .before .before in
     let a = s .args in
-    follows-on (a .text .now) (a .i) (a .self) (a .ended .now) (c .before .before .other .result) _ (s .pre .1 .0) (c .before .before .other .ensures)
+    follows-on (a .text .now) (a .i) (a .self) (a .ended .now) (c .before .before .other .result) _ (s .pre .1 .0) (s .pre .1 .1) (c .before .before .other .ensures)
 
 pub step-spec : {M : Type 1} → statement M
 step-spec =

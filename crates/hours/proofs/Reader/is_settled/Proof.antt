@@ -3,7 +3,7 @@ use Rattle.hours.proofs.Reader.is_settled.Statement.{statement}
 use Rattle.hours.proofs.Reader.is_settled.Tie as tie
 
 returns : tie.Need-returns
-returns c = let r = c .before .args .self in λ m hours text k. settles m hours (r .cells) (r .sheet) text k
+returns c = let r = c .before .args .self in λ m hours text k. settles m hours r text k
 
 pub is-settled-spec : {M : Type 1} → statement M
 is-settled-spec = tie.close (tie.spec returns)

@@ -16,7 +16,7 @@ returns : tie.Need-returns
 returns c =
     let a = c .before .before .before .args in
     let most = c .before .month-hours .ensures in
-    starts (a .member) _ (c .before .before .start .result) (c .start2 .result) (c .before .before .start .ensures)
+    starts (a .member) _ (c .before .before .start .result) _ (c .start2 .result) (c .before .before .start .ensures)
     (rw most at (c .start2 .ensures))
 
 pub start-spec : {M : Type 1} → statement M

@@ -51,7 +51,7 @@ cast-t45 c = record { fits = omega (arith, limits c .6) }
 returns : tie.Need-returns
 returns c =
     let a = c .before .args in
-    let long : length (a .t1) ≡ 7 = search needs in
+    let long : length (a .t1) ≡ 8 = search needs in
     seven-fits (a .t1) (a .standard) long (c .if1 .taken)
 
 blank-hour-line-requires : tie.Need-blank-hour-line-requires
@@ -60,7 +60,7 @@ blank-hour-line-requires c κs = search needs
 returns-2 : tie.Need-returns-2
 returns-2 c =
     let a = c .before .before .args in
-    let long : length (a .t1) ≡ 7 = search needs in
+    let long : length (a .t1) ≡ 8 = search needs in
     c .blank-hour-line .ensures ∙ seven-not (a .t1) (a .standard) long (c .before .if1 .left)
 
 pub typed-spec : {M : Type 1} → statement M

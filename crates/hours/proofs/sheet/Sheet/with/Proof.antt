@@ -11,7 +11,7 @@ returns : tie.Need-returns
 returns c =
     let a = c .before .args in
     λ m hours ls j. record {
-      no = λ e. refused-more m hours ls (endedLine (a .cells)) (a .self .fault) (j .no e);
+      no = λ e. refused-more m hours ls (endedLine (a .grid) (a .ended)) (a .self .fault) (j .no e);
       yes = λ e. absurd (holds-or-fails (c .if1 .taken) e);
     }
 
@@ -28,7 +28,7 @@ returns-2 : tie.Need-returns-2
 returns-2 c =
     let a = c .before .before .before .before .before .args in
     let l = c .before .before .before .line-in in
-    with-refused (a .self) (endedLine (a .cells)) (c .refusing .result) (c .before .before .before .before .if1 .left) (l .result) (l .ensures)
+    with-refused (a .self) (endedLine (a .grid) (a .ended)) (c .refusing .result) (c .before .before .before .before .if1 .left) (l .result) (l .ensures)
     (sym (c .before .before .takes .ensures) ∙ not-true _ (c .before .if2 .taken)) (c .refusing .ensures .0) (c .refusing .ensures .1)
 
 taking-requires : tie.Need-taking-requires
@@ -38,7 +38,7 @@ returns-3 : tie.Need-returns-3
 returns-3 c =
     let a = c .before .before .before .before .before .args in
     let l = c .before .before .before .line-in in
-    with-taken (a .self) (endedLine (a .cells)) (c .taking .result) (c .before .before .before .before .if1 .left) (l .result) (l .ensures)
+    with-taken (a .self) (endedLine (a .grid) (a .ended)) (c .taking .result) (c .before .before .before .before .if1 .left) (l .result) (l .ensures)
     (sym (c .before .before .takes .ensures) ∙ not-false _ (c .before .if2 .left)) (c .taking .ensures)
 
 pub with-spec : {M : Type 1} → statement M
