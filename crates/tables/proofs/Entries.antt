@@ -1,28 +1,27 @@
 -- When an entry is sound, and what an entry says that was read from a line. Assumes nothing.
 use mathlib.Core.Path.{_≡_, refl, ap, sym, _∙_}
-use mathlib.Core.Bool.{Bool, true, false, cond, _&&_}
-use mathlib.Core.List.{List, [], _∷_}
+use mathlib.Core.Bool.{Bool, true, false, cond, _&&_, true≢false}
+use mathlib.Core.List.{List, [], _∷_, _++_}
 use Prim.Native.Nat.{ℕ, _≤_}
 use native.Mathlib.Omega.{arith}
 use lib.Dec.{ltb, leb}
-use lib.ListN.{length, getD}
-use borrow.Author.Tests.{lt-ltb, leb-true}
+use lib.ListN.{length, getD, take, length-take}
+use borrow.Author.Tests.{lt-ltb, leb-true, le-leb}
 use Rattle.le.proofs.Tests.{joined, each}
-use Rattle.row.specs.Numbers.{hold}
-use Rattle.row.specs.Meaning.{isRow, rowFirstFive}
+use Rattle.row.specs.Numbers.{ceiling}
+use Rattle.row.specs.Meaning.{mostColumns}
 use Rattle.row.specs.Inner.{fairBy}
 use Rattle.row.proofs.Texts.{and-false}
-use Rattle.row.proofs.Rows.{whole-row, none-row}
 use Rattle.row.proofs.Judging.{Lawful}
 use Rattle.share.specs.Sharing.{lineIsSound, mostNumber, mostStatus, mostEnergy, mostAssessment}
 use Rattle.pay.specs.Member.{memberIsSound}
-use Rattle.tables.specs.declared.cells.Cells.{Cells}
+use Rattle.grid.specs.declared.Grid.{Grid}
+use Rattle.grid.specs.Meaning.{cellTold, allTold}
+use Rattle.grid.proofs.Ends.{cellsHere, row-here, row-not}
 use Rattle.register.specs.declared.Entry.{Entry}
-use Rattle.tables.specs.Table.{comma}
 use Rattle.register.specs.Register.{blankEntry, entryLine, entryIsSound}
 use Rattle.tables.specs.Register.{asEntry, registerEntries}
 use Rattle.tables.specs.Meaning.{sixOf, fairEntry, entryIn}
-use Rattle.tables.proofs.Reading.{end-cells}
 
 -- Limits
 
@@ -116,12 +115,44 @@ six-sound d a l h = sym (fair-by true (entryBy d a) h) ∙ ap (λ (e : Entry). f
 pub six-bad : (d : List ℕ) (a : ℕ) → length d ≡ 5 → within (entryBy d a) ≡ false → blankEntry ≡ fairEntry (asEntry (sixOf d a))
 six-bad d a l h = sym (fair-by false (entryBy d a) h) ∙ ap (λ (e : Entry). fairEntry e) (entry-by d a l)
 
+-- Cells
+
+-- numbers within an entry's limits are numbers
+told-within : (d : List ℕ) (a : ℕ) → length d ≡ 5 → within (entryBy d a) ≡ true → allTold (sixOf d a) ≡ true
+told-within [] a l h = absurd (omega arith)
+told-within (n ∷ []) a l h = absurd (omega arith)
+told-within (n ∷ k ∷ []) a l h = absurd (omega arith)
+told-within (n ∷ k ∷ p ∷ []) a l h = absurd (omega arith)
+told-within (n ∷ k ∷ p ∷ s ∷ []) a l h = absurd (omega arith)
+told-within (n ∷ k ∷ p ∷ s ∷ e ∷ []) a l h =
+    let q = six-limits (n ∷ k ∷ p ∷ s ∷ e ∷ []) a h in
+    rw (le-leb n ceiling (omega arith), le-leb k ceiling (omega arith), le-leb p ceiling (omega arith), le-leb s ceiling (omega arith), le-leb e ceiling (omega arith), le-leb a ceiling (omega arith))
+told-within (n ∷ k ∷ p ∷ s ∷ e ∷ x ∷ d) a l h = absurd (omega arith)
+
+-- an entry whose cells are not all numbers is as bad as one of none
+fair-told : (d : List ℕ) (a : ℕ) → length d ≡ 5 → fairEntry (asEntry (sixOf d a)) ≡ fairEntry (asEntry (cond (allTold (sixOf d a)) (sixOf d a) []))
+unfolding asEntry
+fair-told d a l = go (allTold (sixOf d a)) refl
+  where
+    bad : (t : Bool) → within (entryBy d a) ≡ t → allTold (sixOf d a) ≡ false → blankEntry ≡ fairEntry (asEntry (sixOf d a))
+    bad true w f = absurd (true≢false (sym (told-within d a l w) ∙ f))
+    bad false w f = six-bad d a l w
+
+    go : (t : Bool) → allTold (sixOf d a) ≡ t → fairEntry (asEntry (sixOf d a)) ≡ fairEntry (asEntry (cond t (sixOf d a) []))
+    go true f = refl
+    go false f = sym (bad (within (entryBy d a)) refl f) ∙ sym (fair-by false blankEntry refl)
+
 -- A line that ends
 
-pub entry-whole : (cells : Cells) (five : List ℕ) (v : ℕ) → isRow 5 (cells .row) [] [] ≡ true → five ≡ rowFirstFive (cells .row) → v ≡ hold (cells .row .value)
-    → fairEntry (asEntry (sixOf five v)) ≡ entryIn cells
-entry-whole cells five v h f e = let six = end-cells 5 cells ∙ whole-row comma 5 (cells .row) v h e in rw (six, f)
+module _ (grid : Grid) (ended : List ℕ) (room : mostColumns ≤ length ended) where
+  pub entry-whole : (five : List ℕ) (v : ℕ) → grid .at ≡ 5 → five ≡ take 5 ended → v ≡ cellTold (grid .cell) → fairEntry (asEntry (sixOf five v)) ≡ entryIn grid ended
+  entry-whole five v at f e =
+      let long : length five ≡ 5 = ap length f ∙ omega (arith, length-take 5 ended) in
+      let here : sixOf five v ≡ cellsHere grid ended room = (λ i. f i ++ e i ∷ []) ∙ ap (λ (n : ℕ). take n ended ++ cellTold (grid .cell) ∷ []) (sym at) in
+      fair-told five v long
+      ∙ ap (λ (ns : List ℕ). fairEntry (asEntry (cond (allTold ns) ns []))) here
+      ∙ ap (λ (ns : List ℕ). fairEntry (asEntry ns)) (sym (row-here grid ended room 6 (omega arith) (omega arith)))
 
-pub entry-none : (cells : Cells) → isRow 5 (cells .row) [] [] ≡ false → blankEntry ≡ entryIn cells
-unfolding asEntry
-entry-none cells h = rw (end-cells 5 cells ∙ none-row comma 5 (cells .row) h) (sym (fair-by false blankEntry refl))
+  pub entry-none : (grid .at ≡ 5 → ⊥) → blankEntry ≡ entryIn grid ended
+  unfolding asEntry
+  entry-none ne = rw (row-not grid ended room 6 (λ e. ne (omega arith)) (omega arith)) (sym (fair-by false blankEntry refl))

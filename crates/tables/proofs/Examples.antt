@@ -1,17 +1,18 @@
 -- Texts and what is read of them: a register, a series, a number, and the edges of a line. They show that the definitions are about something. Assumes nothing.
 use mathlib.Core.Path.{_≡_, refl}
-use mathlib.Core.Bool.{Bool, true, false, _&&_}
+use mathlib.Core.Bool.{Bool, true, _&&_}
 use mathlib.Core.List.{List, [], _∷_, _++_}
 use Prim.Native.Nat.{ℕ}
 use lib.Dec.{eqb}
-use Rattle.row.specs.Numbers.{numbersIn, numbersOf}
+use Rattle.row.specs.Numbers.{numbersIn}
 use Rattle.row.specs.Judging.{filledUp, allTaken, judged}
 use Rattle.share.specs.Sharing.{lineIsSound}
 use Rattle.pay.specs.Member.{memberIsSound}
 use Rattle.register.specs.declared.Entry.{Entry}
 use Rattle.tables.specs.declared.roll.Register.{Register}
 use Rattle.tables.specs.declared.Told.the-variants.{Number, Nothing}
-use Rattle.tables.specs.Table.{rowOf, toldOf}
+use Rattle.grid.specs.Grid.{rowOf, rowsOf}
+use Rattle.tables.specs.Table.{toldOf}
 use Rattle.register.specs.Register.{entryLine, entryIsSound}
 use Rattle.tables.specs.Register.{asEntry, entriesOf, registerEntries, readRegister}
 use Rattle.tables.specs.Series.{outputOf, seriesOf, filledWith}
@@ -50,7 +51,7 @@ secondEntry =
 
 -- The first line ends in a carriage return and a line feed, the last in neither.
 pub register-read : readRegister (first ++ 13 ∷ 10 ∷ second) ≡ allTaken registerEntries (firstEntry ∷ secondEntry ∷ [])
-unfolding first second firstEntry secondEntry readRegister judged entriesOf rowOf numbersOf numbersIn asEntry entryIsSound memberIsSound lineIsSound entryLine filledUp
+unfolding first second firstEntry secondEntry readRegister judged entriesOf rowsOf rowOf numbersIn asEntry entryIsSound memberIsSound lineIsSound entryLine filledUp
 register-read = refl
 
 pub record Case : Type 0 where
@@ -63,11 +64,14 @@ pub cases : List Case
 cases =
     record { text = first ++ 10 ∷ second ++ 13 ∷ 10 ∷ []; number = 0; place = 0; count = 2 }
     ∷ record { text = second ++ 13 ∷ []; number = 0; place = 0; count = 1 }
-    -- no lines; an empty line; one behind a sound line; a carriage return alone
+    -- no lines; a heading, "no", alone and before a line
     ∷ record { text = []; number = 0; place = 0; count = 0 }
-    ∷ record { text = 10 ∷ []; number = 10; place = 0; count = 0 }
-    ∷ record { text = first ++ 10 ∷ 10 ∷ []; number = 10; place = 1; count = 0 }
-    ∷ record { text = 13 ∷ []; number = 10; place = 0; count = 0 }
+    ∷ record { text = 110 ∷ 111 ∷ 10 ∷ []; number = 0; place = 0; count = 0 }
+    ∷ record { text = 110 ∷ 111 ∷ 10 ∷ first; number = 0; place = 0; count = 1 }
+    -- an empty line behind the last; one between two; one that is not, behind a heading that is not counted
+    ∷ record { text = first ++ 10 ∷ 10 ∷ []; number = 0; place = 0; count = 1 }
+    ∷ record { text = first ++ 10 ∷ 10 ∷ second; number = 10; place = 1; count = 0 }
+    ∷ record { text = 110 ∷ 10 ∷ first ++ 10 ∷ ninth; number = 10; place = 1; count = 0 }
     -- two carriage returns; one within a line; a blank; a comma behind; a seventh number
     ∷ record { text = first ++ 13 ∷ 13 ∷ 10 ∷ []; number = 10; place = 0; count = 0 }
     ∷ record { text = 13 ∷ first; number = 10; place = 0; count = 0 }
@@ -90,7 +94,7 @@ every (c ∷ cs) = as-said c (readRegister (c .text)) && every cs
 
 -- Each text is read as the table says.
 pub reads-as-told : every cases ≡ true
-unfolding every as-said cases first second ninth readRegister judged entriesOf rowOf numbersOf numbersIn asEntry entryIsSound memberIsSound lineIsSound entryLine filledUp
+unfolding every as-said cases first second ninth readRegister judged entriesOf rowsOf rowOf numbersIn asEntry entryIsSound memberIsSound lineIsSound entryLine filledUp
 reads-as-told = refl
 
 -- Series
@@ -101,29 +105,29 @@ three = 49 ∷ 50 ∷ 10 ∷ 49 ∷ 120 ∷ 13 ∷ 10 ∷ 49 ∷ 51 ∷ []
 
 -- A line that is no number is told by the largest u32; what is behind the text's last line stays.
 pub series-read : filledWith (9 ∷ 9 ∷ 9 ∷ 9 ∷ []) (seriesOf three) ≡ record { count = 3; values = 12 ∷ 4294967295 ∷ 13 ∷ 9 ∷ [] }
-unfolding three filledWith seriesOf outputOf rowOf numbersOf numbersIn
+unfolding three filledWith seriesOf outputOf rowsOf rowOf numbersIn
 series-read = refl
 
 -- Where there is no room, the rest is not read.
 pub series-short : filledWith (9 ∷ 9 ∷ []) (seriesOf three) ≡ record { count = 2; values = 12 ∷ 4294967295 ∷ [] }
-unfolding three filledWith seriesOf outputOf rowOf numbersOf numbersIn
+unfolding three filledWith seriesOf outputOf rowsOf rowOf numbersIn
 series-short = refl
 
 -- Numbers
 
--- "42" with a carriage return; nothing; "1,2"; and a number past every limit.
-pub number-read : toldOf (rowOf 1 (52 ∷ 50 ∷ 13 ∷ [])) ≡ Number 42
-unfolding toldOf rowOf numbersOf numbersIn
+-- "42"; nothing; "1,2"; and a number past every limit.
+pub number-read : toldOf (52 ∷ 50 ∷ []) ≡ Number 42
+unfolding toldOf
 number-read = refl
 
-pub nothing-read : toldOf (rowOf 1 []) ≡ Nothing
-unfolding toldOf rowOf numbersOf numbersIn
+pub nothing-read : toldOf [] ≡ Nothing
+unfolding toldOf
 nothing-read = refl
 
-pub two-read : toldOf (rowOf 1 (49 ∷ 44 ∷ 50 ∷ [])) ≡ Nothing
-unfolding toldOf rowOf numbersOf numbersIn
+pub two-read : toldOf (49 ∷ 44 ∷ 50 ∷ []) ≡ Nothing
+unfolding toldOf
 two-read = refl
 
-pub large-read : toldOf (rowOf 1 (57 ∷ 57 ∷ 57 ∷ 57 ∷ 57 ∷ 57 ∷ 57 ∷ 57 ∷ 57 ∷ 57 ∷ 57 ∷ 57 ∷ 57 ∷ 57 ∷ [])) ≡ Number 1000000000000
-unfolding toldOf rowOf numbersOf numbersIn
+pub large-read : toldOf (57 ∷ 57 ∷ 57 ∷ 57 ∷ 57 ∷ 57 ∷ 57 ∷ 57 ∷ 57 ∷ 57 ∷ 57 ∷ 57 ∷ 57 ∷ 57 ∷ []) ≡ Number 1000000000000
+unfolding toldOf
 large-read = refl

@@ -1,6 +1,6 @@
 -- A number with or without a sign: its cases, what is read of texts, and that no contract leaves a choice. Assumes nothing.
 use mathlib.Core.Path.{_≡_, refl, ap, sym, _∙_}
-use mathlib.Core.Bool.{Bool, true, false, cond}
+use mathlib.Core.Bool.{Bool, true, false}
 use mathlib.Core.List.{List, [], _∷_, map}
 use Prim.Native.Nat.{ℕ, zero, suc, _-_, _≤_, _<_}
 use native.Mathlib.Omega.{arith}
@@ -11,12 +11,11 @@ use mir.Syntax.{w32}
 use mir.Val.{toZ, ofZ, SFits}
 use mir.Facts.{toZ-ofZ, toZ-pos}
 use borrow.Author.Tests.{eq-eqb, ne-eqb, lt-ltb, le-ltb}
-use Rattle.row.specs.Numbers.{numbersIn, numbersOf}
 use Rattle.tables.specs.declared.Told.{Told}
 use Rattle.tables.specs.declared.Told.the-variants.{Number, Nothing}
 use Rattle.tables.specs.declared.ToldInteger.{ToldInteger}
 use Rattle.tables.specs.declared.ToldInteger.the-variants.{Number as Integer, Nothing as NoInteger}
-use Rattle.tables.specs.Table.{rowOf, toldOf}
+use Rattle.tables.specs.Table.{toldOf}
 use Rattle.tables.specs.Integer.{minus, mostInteger, signedAs, withSign, integerOf}
 
 -- The sign
@@ -58,24 +57,24 @@ unfolding integerOf
 text-none [] h = refl
 text-none (b ∷ bs) h = absurd (omega arith)
 
-below-is : (text : List ℕ) → 0 < length text → getD text 0 0 ≡ minus → withSign (toldOf (rowOf 1 (take (length text - 1) (drop 1 text)))) true ≡ integerOf text
+below-is : (text : List ℕ) → 0 < length text → getD text 0 0 ≡ minus → withSign (toldOf (take (length text - 1) (drop 1 text))) true ≡ integerOf text
 unfolding integerOf
 below-is [] h e = absurd (omega arith)
-below-is (b ∷ bs) h e = rw (eq-eqb b minus e) (ap (λ (l : List ℕ). withSign (toldOf (rowOf 1 l)) true) (take-all (length (b ∷ bs) - 1) bs (omega arith)))
+below-is (b ∷ bs) h e = rw (eq-eqb b minus e) (ap (λ (l : List ℕ). withSign (toldOf l) true) (take-all (length (b ∷ bs) - 1) bs (omega arith)))
 
-above-is : (text : List ℕ) → 0 < length text → (getD text 0 0 ≡ minus → ⊥) → withSign (toldOf (rowOf 1 text)) false ≡ integerOf text
+above-is : (text : List ℕ) → 0 < length text → (getD text 0 0 ≡ minus → ⊥) → withSign (toldOf text) false ≡ integerOf text
 unfolding integerOf
 above-is [] h e = absurd (omega arith)
 above-is (b ∷ bs) h e = rw (ne-eqb b minus e)
 
 module _ (text : List ℕ) (t : Told) (s : Bool) (r : ToldInteger) (is : r ≡ withSign t s) (some : 0 < length text) where
-  pub text-below : s ≡ true → getD text 0 0 ≡ minus → t ≡ toldOf (rowOf 1 (take (length text - 1) (drop 1 text))) → r ≡ integerOf text
+  pub text-below : s ≡ true → getD text 0 0 ≡ minus → t ≡ toldOf (take (length text - 1) (drop 1 text)) → r ≡ integerOf text
   text-below g e f = is ∙ rw (f, g) (below-is text some e)
 
-  pub text-above : s ≡ false → (getD text 0 0 ≡ minus → ⊥) → t ≡ toldOf (rowOf 1 text) → r ≡ integerOf text
+  pub text-above : s ≡ false → (getD text 0 0 ≡ minus → ⊥) → t ≡ toldOf text → r ≡ integerOf text
   text-above g e f = is ∙ rw (f, g) (above-is text some e)
 
--- A text of one line says one number, or none.
+-- A text says one number, or none.
 pub integer-determined : (text : List ℕ) (t u : ToldInteger) → t ≡ integerOf text → u ≡ integerOf text → t ≡ u
 integer-determined text t u e f = e ∙ sym f
 
@@ -87,18 +86,17 @@ pub record Case : Type 0 where
 
 pub cases : List Case
 cases =
-    -- "5", "-5", "0", "-0", "-5" with a carriage return
+    -- "5", "-5", "0", "-0"
     record { text = 53 ∷ []; says = Integer (pos 5) }
     ∷ record { text = 45 ∷ 53 ∷ []; says = Integer (negsuc 4) }
     ∷ record { text = 48 ∷ []; says = Integer (pos 0) }
     ∷ record { text = 45 ∷ 48 ∷ []; says = Integer (pos 0) }
-    ∷ record { text = 45 ∷ 53 ∷ 13 ∷ []; says = Integer (negsuc 4) }
     -- "2147483647", "-2147483647", and one more of each
     ∷ record { text = 50 ∷ 49 ∷ 52 ∷ 55 ∷ 52 ∷ 56 ∷ 51 ∷ 54 ∷ 52 ∷ 55 ∷ []; says = Integer (pos 2147483647) }
     ∷ record { text = 45 ∷ 50 ∷ 49 ∷ 52 ∷ 55 ∷ 52 ∷ 56 ∷ 51 ∷ 54 ∷ 52 ∷ 55 ∷ []; says = Integer (negsuc 2147483646) }
     ∷ record { text = 50 ∷ 49 ∷ 52 ∷ 55 ∷ 52 ∷ 56 ∷ 51 ∷ 54 ∷ 52 ∷ 56 ∷ []; says = NoInteger }
     ∷ record { text = 45 ∷ 50 ∷ 49 ∷ 52 ∷ 55 ∷ 52 ∷ 56 ∷ 51 ∷ 54 ∷ 52 ∷ 56 ∷ []; says = NoInteger }
-    -- nothing, "-", "--1", "+1", "- 1", " -1", "-1x", "1-"
+    -- nothing, "-", "--1", "+1", "- 1", " -1", "-1x", "1-", "5" with a carriage return
     ∷ record { text = []; says = NoInteger }
     ∷ record { text = 45 ∷ []; says = NoInteger }
     ∷ record { text = 45 ∷ 45 ∷ 49 ∷ []; says = NoInteger }
@@ -107,9 +105,10 @@ cases =
     ∷ record { text = 32 ∷ 45 ∷ 49 ∷ []; says = NoInteger }
     ∷ record { text = 45 ∷ 49 ∷ 120 ∷ []; says = NoInteger }
     ∷ record { text = 49 ∷ 45 ∷ []; says = NoInteger }
+    ∷ record { text = 53 ∷ 13 ∷ []; says = NoInteger }
     ∷ []
 
 -- Each text says what the table has.
 pub integers-read : map (λ c. integerOf (c .text)) cases ≡ map (λ c. c .says) cases
-unfolding cases integerOf withSign toldOf rowOf numbersOf numbersIn
+unfolding cases integerOf withSign toldOf
 integers-read = refl

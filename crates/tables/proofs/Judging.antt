@@ -1,61 +1,106 @@
 -- Entries judged as their lines come are judged as the whole register is. Assumes nothing.
 use mathlib.Core.Path.{_≡_, refl, ap, sym, _∙_}
-use mathlib.Core.Bool.{true, false}
+use mathlib.Core.Bool.{Bool, true, false, cond}
 use mathlib.Core.List.{List, [], _∷_, map}
-use Prim.Native.Nat.{ℕ, _+_, _≤_, _<_}
-use lib.ListN.{length, getD, drop}
-use Rattle.row.specs.Numbers.{linesOf}
-use Rattle.row.specs.Judging.{judged}
-use Rattle.tables.specs.declared.cells.Cells.{Cells}
-use Rattle.register.specs.declared.Entry.{Entry}
+use Prim.Native.Nat.{ℕ, suc, _+_, _≤_, _<_}
+use native.Mathlib.Omega.{arith}
+use lib.ListN.{length, getD, drop, drop-of-length-le}
+use Rattle.row.specs.Judging.{refusedAt, judged}
+use Rattle.row.specs.Inner.{judgedOn}
+use Rattle.row.proofs.Judging.{blank-bad}
+use Rattle.row.proofs.Left.{next-byte}
+use Rattle.grid.specs.declared.Grid.{Grid}
+use Rattle.grid.specs.declared.Step.{Step}
+use Rattle.grid.specs.Grid.{rowsOf}
+use Rattle.grid.specs.Meaning.{rowBy, headLeft, blankLeft, blanksThen, lineThen, rowsLeft, rowsAfter, StepFrom, Starts, Next}
+use Rattle.grid.proofs.Rows.{blanks-none, numbers-rows, feed, ends}
+use Rattle.tables.specs.declared.roll.Register.{Register}
 use Rattle.tables.specs.declared.roll.Roll.{Roll}
-use Rattle.tables.specs.Table.{rowOf}
 use Rattle.tables.specs.Register.{asEntry, registerColumns, entriesOf, registerEntries, readRegister}
-use Rattle.tables.specs.Meaning.{cellsIsBegun, CellsFresh, CellsFollow, entryNumbers, entriesLeft, rollOutcome}
-use Rattle.tables.proofs.Texts.{fresh-rows, line-ends, line-goes-on, at-end}
+use Rattle.tables.specs.Meaning.{entryNumbers, rollOutcome, rollBlanks, lineEnds}
+use Rattle.tables.proofs.Entries.{lawful}
 
--- The end of the text
+-- A blank line
 
-pub end-open : (s r : Roll) (cells : Cells) → cellsIsBegun cells ≡ true
-    → ((rows : List (List ℕ)) → rollOutcome r rows ≡ rollOutcome s (entryNumbers cells [] ∷ rows)) → rollOutcome r [] ≡ rollOutcome s (entriesLeft cells [])
-end-open s r cells e c = rw e (c [])
+-- one with a line behind it is refused,
+blank-refuses : (roll : Roll) (rows : List (List ℕ)) → rollOutcome roll ([] ∷ rows) ≡ refusedAt registerEntries (roll .count)
+unfolding judgedOn asEntry
+blank-refuses roll rows = go (roll .refused) refl
+  where
+    go : (t : Bool) → roll .refused ≡ t → rollOutcome roll ([] ∷ rows) ≡ refusedAt registerEntries (roll .count)
+    go true e = rw e
+    go false e = rw (e, blank-bad registerEntries lawful (roll .before))
 
-pub end-shut : (s : Roll) (cells : Cells) → cellsIsBegun cells ≡ false → rollOutcome s [] ≡ rollOutcome s (entriesLeft cells [])
-end-shut s cells e = rw e
+-- and a refusal stays
+stays : (roll : Roll) (rows : List (List ℕ)) → roll .refused ≡ true → rollOutcome roll rows ≡ refusedAt registerEntries (roll .count)
+unfolding judgedOn
+stays roll rows e = rw e
 
-pub register-end : (roll : Roll) (cells : Cells) (text : List ℕ) (i : ℕ) → length text ≤ i
-    → rollOutcome roll (entriesLeft cells []) ≡ rollOutcome roll (entriesLeft cells (linesOf (drop i text)))
-register-end roll cells text i h = ap (λ (rows : List (List ℕ)). rollOutcome roll rows) (sym (at-end 5 cells text i h))
+-- The end of a line
+
+module _ (s : Roll) (grid : Grid) (ended : List ℕ) where
+  abbrev goesOn : Roll → Type 0
+  goesOn r = (rows : List (List ℕ)) → rollOutcome r (blanksThen (rollBlanks r) rows) ≡ rollOutcome s (lineEnds registerColumns (rollBlanks s) grid ended rows)
+
+  pub by-heading : headLeft grid [] ≡ true → goesOn s
+  unfolding lineThen
+  by-heading h rows = rw h
+
+  pub by-blank : headLeft grid [] ≡ false → blankLeft grid [] ≡ true
+      → goesOn (record { refused = s .refused; blank = true; before = s .before; count = s .count; entries = s .entries })
+  unfolding lineThen blanksThen
+  by-blank h b [] = rw (h, b)
+  by-blank h b (row ∷ rows) = rw (h, b) (go (s .blank))
+    where
+      go : (t : Bool) → rollOutcome s ([] ∷ row ∷ rows) ≡ rollOutcome s (blanksThen (suc (cond t 1 0)) (row ∷ rows))
+      go true = blank-refuses s (row ∷ rows) ∙ sym (blank-refuses s ([] ∷ row ∷ rows))
+      go false = refl
+
+  module _ (h : headLeft grid [] ≡ false) (b : blankLeft grid [] ≡ false) where
+    pub by-held : (r : Roll) → s .blank ≡ true → (r .refused ≡ true) × (r .count ≡ s .count) × (r .blank ≡ s .blank) → goesOn r
+    unfolding lineThen
+    by-held r held e rows =
+        stays r (blanksThen (rollBlanks r) rows) (e .0) ∙ ap (λ (n : ℕ). refusedAt registerEntries n) (e .1) ∙ sym (rw (h, b, held) (blank-refuses s (entryNumbers grid ended ∷ rows)))
+
+    pub by-row : (r : Roll) → s .blank ≡ false → r .blank ≡ s .blank → ((rows : List (List ℕ)) → rollOutcome r rows ≡ rollOutcome s (entryNumbers grid ended ∷ rows)) → goesOn r
+    unfolding lineThen
+    by-row r none e f rows =
+        ap (λ (t : Bool). rollOutcome r (blanksThen (cond t 1 0) rows)) (e ∙ none) ∙ ap (rollOutcome r) (blanks-none rows) ∙ f rows ∙ sym (rw (h, b, none))
 
 -- A byte of the text
 
-module _ (roll roll' : Roll) (cells cells' r : Cells) (text : List ℕ) (i : ℕ) (h : i < length text) where
+-- what is left of it
+abbrev pub rollLeft : Roll → Grid → List ℕ → List ℕ → Register
+rollLeft roll grid ended rest = rollOutcome roll (rowsLeft (rowBy registerColumns) (rollBlanks roll) grid ended rest)
+
+module _ (roll : Roll) (grid : Grid) (ended : List ℕ) (text : List ℕ) (i : ℕ) where
   -- it ends its line
-  pub register-line : (n : Roll) → getD text i 0 ≡ 10 → cells' ≡ r → CellsFresh r → roll' ≡ n
-      → ((rows : List (List ℕ)) → rollOutcome n rows ≡ rollOutcome roll (entryNumbers cells [] ∷ rows))
-      → rollOutcome roll' (entriesLeft cells' (linesOf (drop (i + 1) text))) ≡ rollOutcome roll (entriesLeft cells (linesOf (drop i text)))
-  register-line n e p f q s =
-      (λ j. rollOutcome (q j) (entriesLeft (p j) (linesOf (drop (i + 1) text))))
-      ∙ line-ends (λ rows. rollOutcome roll rows) (λ rows. rollOutcome n rows) 5 cells r text i h e f s
+  pub register-line : (r : Roll) (n : Grid) → i < length text → getD text i 0 ≡ 10 → Next grid n → goesOn roll grid ended r
+      → rollLeft r n ended (drop (i + 1) text) ≡ rollLeft roll grid ended (drop i text)
+  register-line r n more e next f =
+      let rest = drop (i + 1) text in
+      let byte : 10 ∷ rest ≡ drop i text = sym (next-byte text i more ∙ ap (λ (b : ℕ). b ∷ rest) e) in
+      ap (rollOutcome r) (next .rows (rowBy registerColumns) (rollBlanks r) ended rest)
+      ∙ f (rowsAfter (rowBy registerColumns) grid rest)
+      ∙ ap (rollOutcome roll) (sym (feed (rowBy registerColumns) (rollBlanks roll) grid ended rest) ∙ ap (rowsLeft (rowBy registerColumns) (rollBlanks roll) grid ended) byte)
 
   -- it is another one
-  pub register-byte : (getD text i 0 ≡ 10 → ⊥) → cells' ≡ r → CellsFollow 5 cells (getD text i 0) r → roll' ≡ roll
-      → rollOutcome roll' (entriesLeft cells' (linesOf (drop (i + 1) text))) ≡ rollOutcome roll (entriesLeft cells (linesOf (drop i text)))
-  register-byte ne p f q =
-      (λ j. rollOutcome (q j) (entriesLeft (p j) (linesOf (drop (i + 1) text))))
-      ∙ line-goes-on (λ rows. rollOutcome roll rows) (λ rows. rollOutcome roll rows) 5 cells r text i h ne f (λ rows. refl)
+  pub register-step : (s : Step) (after : List ℕ) → StepFrom text i grid ended s after → rollLeft roll (s .grid) after (drop (s .end) text) ≡ rollLeft roll grid ended (drop i text)
+  register-step s after f =
+      ap (rollOutcome roll) (f .rows (rowBy registerColumns) (rollBlanks roll) (drop (s .end) text) ∙ ap (rowsLeft (rowBy registerColumns) (rollBlanks roll) grid ended) (sym (f .stands)))
+
+  -- the text ends
+  pub register-end : (r : Roll) → length text ≤ i → goesOn roll grid ended r → rollOutcome r [] ≡ rollLeft roll grid ended (drop i text)
+  unfolding blanksThen
+  register-end r h f =
+      f [] ∙ ap (rollOutcome roll) (sym (ends (rowBy registerColumns) (rollBlanks roll) grid ended)
+      ∙ ap (rowsLeft (rowBy registerColumns) (rollBlanks roll) grid ended) (sym (drop-of-length-le text h)))
 
 -- The start of the text
 
-entries-of : (ls : List (List ℕ)) → map asEntry (map (rowOf registerColumns) ls) ≡ map (λ l. asEntry (rowOf registerColumns l)) ls
-entries-of [] = refl
-entries-of (l ∷ ls) = ap (λ (es : List Entry). asEntry (rowOf registerColumns l) ∷ es) (entries-of ls)
-
-pub starts : (cells : Cells) (roll : Roll) → CellsFresh cells
-    → ((rows : List (List ℕ)) → rollOutcome roll rows ≡ judged registerEntries (map asEntry rows)) → (text : List ℕ)
-    → rollOutcome roll (entriesLeft cells (linesOf text)) ≡ readRegister text
+pub starts : (grid : Grid) (roll : Roll) (ended : List ℕ) → Starts grid → roll .blank ≡ false
+    → ((rows : List (List ℕ)) → rollOutcome roll rows ≡ judged registerEntries (map asEntry rows)) → (text : List ℕ) → rollLeft roll grid ended text ≡ readRegister text
 unfolding readRegister entriesOf
-starts cells roll f h text =
-    ap (λ (rows : List (List ℕ)). rollOutcome roll rows) (fresh-rows 5 cells f (linesOf text))
-    ∙ h (map (rowOf registerColumns) (linesOf text))
-    ∙ ap (λ (es : List Entry). judged registerEntries es) (entries-of (linesOf text))
+starts grid roll ended f none h text =
+    ap (λ (t : Bool). rollOutcome roll (rowsLeft (rowBy registerColumns) (cond t 1 0) grid ended text)) none
+    ∙ ap (rollOutcome roll) (f .rows (rowBy registerColumns) ended text ∙ numbers-rows registerColumns text (omega arith)) ∙ h (rowsOf registerColumns text)

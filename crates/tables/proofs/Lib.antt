@@ -1,9 +1,8 @@
-pub mod Reading
-pub mod Texts
+pub mod Numbers
 pub mod Integers
 pub mod Names
-pub mod Filling
 pub mod Entries
 pub mod Judging
+pub mod Filling
 pub mod Promises
 pub mod Examples

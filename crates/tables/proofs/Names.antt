@@ -1,11 +1,10 @@
 -- The name of a member's series: it has the member's own number, and no contract leaves a choice. Assumes nothing.
 use mathlib.Core.Path.{_≡_, refl, ap, sym, _∙_}
-use mathlib.Core.Bool.{true}
-use mathlib.Core.List.{List, [], _∷_, _++_}
-use Prim.Native.Nat.{ℕ, _+_, _*_, _-_, _/_, _%_, _<_, _≤_}
+use mathlib.Core.List.{List, _∷_, _++_}
+use Prim.Native.Nat.{ℕ, _<_}
 use native.Mathlib.Omega.{arith}
 use lib.ListN.{length, take, drop}
-use Rattle.row.specs.Numbers.{isNumber, value}
+use Rattle.row.specs.Numbers.{value}
 use Rattle.tables.specs.Series.{slash, csv, seriesName}
 
 -- A member has one name of its series.

@@ -8,7 +8,7 @@ use lib.Dec.{ltb, leb, eqb}
 use lib.ListN.{length, getD, take, drop, length-append, length-take, length-drop}
 use borrow.Author.Tests.{ltb-true, ltb-false, leb-true}
 use Rattle.le.proofs.Tests.{joined, each}
-use Rattle.row.specs.Numbers.{numbers, value, numbersIn, ceiling, hold, numbersOf}
+use Rattle.row.specs.Numbers.{numbers, value, numbersIn, ceiling, hold}
 use Rattle.row.proofs.Texts.{by-parts}
 use Rattle.row.proofs.Held.{capped, at-least-one, held-at}
 use Rattle.row.specs.Judging.{refusedAt, allTaken, firstUnsound}
@@ -20,7 +20,8 @@ use Rattle.register.specs.declared.Entry.{Entry}
 use Rattle.register.specs.Register.{entryLine, entryIsSound, firstBadEntry}
 use Rattle.tables.specs.declared.Told.{Told}
 use Rattle.tables.specs.declared.roll.Register.{Register}
-use Rattle.tables.specs.Table.{plain, cellsOf, rowOf, toldOf}
+use Rattle.grid.specs.Grid.{unquoted, cellsOf, rowOf}
+use Rattle.tables.specs.Table.{toldOf}
 use Rattle.tables.specs.Register.{asEntry, entriesOf, registerEntries, readRegister}
 use Rattle.tables.specs.Series.{Filled, noOutput, outputOf, seriesOf, filledWith}
 use Rattle.register.proofs.Entries.{bad-le}
@@ -28,8 +29,8 @@ use Rattle.tables.proofs.Entries.{bounds, within, sound-is, lawful}
 
 -- Two outcomes that a contract allows are one
 
--- a text of one line tells one number, or none
-pub number-determined : (text : List ℕ) (t u : Told) → t ≡ toldOf (rowOf 1 text) → u ≡ toldOf (rowOf 1 text) → t ≡ u
+-- a text tells one number, or none
+pub number-determined : (text : List ℕ) (t u : Told) → t ≡ toldOf text → u ≡ toldOf text → t ≡ u
 number-determined text t u e f = e ∙ sym f
 
 -- a text has one register, or one refusal
@@ -61,9 +62,9 @@ abbrev pub isOutput : List (List ℕ) → Bool
 isOutput cells = numbers cells && eqb (length cells) 1 && leb (value 0 (getD cells 0 [])) 5000000
 
 -- THE BAD LINES OF A SERIES are those that scoring refuses with 11: an output is at most 5,000,000 kW just where its line says such a number.
-pub series-value : (l : List ℕ) → leb (outputOf (rowOf 1 l)) 5000000 ≡ isOutput (cellsOf (plain l))
-unfolding rowOf numbersOf numbersIn outputOf
-series-value l = by-parts 44 (λ cs. leb (outputOf (map hold (numbersIn 1 cs))) 5000000 ≡ isOutput cs) one (plain l)
+pub series-value : (l : List ℕ) → leb (outputOf (rowOf 1 l)) 5000000 ≡ isOutput (cellsOf l)
+unfolding rowOf numbersIn outputOf
+series-value l = by-parts 44 (λ cs. leb (outputOf (map hold (numbersIn 1 (map unquoted cs)))) 5000000 ≡ isOutput (map unquoted cs)) (λ p ps. one (unquoted p) (map unquoted ps)) l
   where
     low : (v : ℕ) → leb (min (hold v) noOutput) 5000000 ≡ leb v 5000000
     low v = capped (hold v) noOutput 5000000 (omega arith) ∙ capped v ceiling 5000000 (omega arith)
@@ -79,11 +80,11 @@ series-value l = by-parts 44 (λ cs. leb (outputOf (map hold (numbersIn 1 cs))) 
 
 -- a line is so many decimal numbers
 abbrev pub isRowOf : ℕ → List ℕ → Bool
-isRowOf columns l = numbers (cellsOf (plain l)) && eqb (length (cellsOf (plain l))) columns
+isRowOf columns l = numbers (cellsOf l) && eqb (length (cellsOf l)) columns
 
 -- the numbers of a line as they stand, however large
 abbrev pub written : ℕ → List ℕ → List ℕ
-written columns l = numbersIn columns (cellsOf (plain l))
+written columns l = numbersIn columns (cellsOf l)
 
 abbrev heldEntry : Entry → Entry
 heldEntry e =
@@ -105,7 +106,7 @@ held-entry ns =
     }
 
 held-row : (l : List ℕ) → asEntry (rowOf 6 l) ≡ heldEntry (asEntry (written 6 l))
-unfolding rowOf numbersOf
+unfolding rowOf
 held-row l = held-entry (written 6 l)
 
 held-within : (e : Entry) → within (heldEntry e) ≡ within e
@@ -147,7 +148,7 @@ entry-as-written before l h =
 
 -- A line that is not six numbers is never sound.
 pub bad-line : (before : ℕ) (l : List ℕ) → isRowOf 6 l ≡ false → entryIsSound before (asEntry (rowOf 6 l)) ≡ false
-unfolding asEntry rowOf numbersOf numbersIn
+unfolding asEntry rowOf numbersIn
 bad-line before l h = rw h (blank-bad registerEntries lawful before)
 
 -- Registers

@@ -8,7 +8,7 @@ use Rattle.tables.specs.declared.Told.{Told}
 use Rattle.tables.specs.declared.Told.the-variants.{Number, Nothing}
 use Rattle.tables.specs.declared.ToldInteger.{ToldInteger}
 use Rattle.tables.specs.declared.ToldInteger.the-variants.{Number as Integer, Nothing as NoInteger}
-use Rattle.tables.specs.Table.{rowOf, toldOf}
+use Rattle.tables.specs.Table.{toldOf}
 
 -- the sign of a number below zero
 abbrev pub minus : ℕ
@@ -31,4 +31,4 @@ withSign Nothing isBelow = NoInteger
 -- what a text says: a number behind `-` is below zero, a number alone is itself, and anything else is none
 unfoldable pub integerOf : List ℕ → ToldInteger
 integerOf [] = NoInteger
-integerOf (b ∷ bs) = cond (eqb b minus) (withSign (toldOf (rowOf 1 bs)) true) (withSign (toldOf (rowOf 1 (b ∷ bs))) false)
+integerOf (b ∷ bs) = cond (eqb b minus) (withSign (toldOf bs) true) (withSign (toldOf (b ∷ bs)) false)

@@ -2,12 +2,11 @@
 use mathlib.Core.List.{List, map}
 use Prim.Native.Nat.{ℕ}
 use lib.ListN.{getD}
-use Rattle.row.specs.Numbers.{linesOf}
 use Rattle.row.specs.Judging.{Judge, judged}
 use Rattle.register.specs.declared.Entry.{Entry}
 use Rattle.register.specs.Register.{mostEntries, blankEntry, entryIsSound}
 use Rattle.tables.specs.declared.roll.Register.{Register}
-use Rattle.tables.specs.Table.{rowOf}
+use Rattle.grid.specs.Grid.{rowsOf}
 
 -- Entries
 
@@ -27,7 +26,7 @@ asEntry ns =
 
 -- the entries of a text; a line that is not six numbers is as bad as one of zeros
 unfoldable pub entriesOf : List ℕ → List Entry
-entriesOf text = map (λ l. asEntry (rowOf registerColumns l)) (linesOf text)
+entriesOf text = map asEntry (rowsOf registerColumns text)
 
 -- Reading
 

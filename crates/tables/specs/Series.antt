@@ -3,8 +3,8 @@ use mathlib.Core.Bool.{cond}
 use mathlib.Core.List.{List, [], _∷_, _++_, map}
 use Prim.Native.Nat.{ℕ, min, _/_, _%_}
 use lib.ListN.{length, getD, take, drop}
-use Rattle.row.specs.Numbers.{notEmpty, linesOf, digitByte}
-use Rattle.tables.specs.Table.{rowOf}
+use Rattle.row.specs.Numbers.{notEmpty, digitByte}
+use Rattle.grid.specs.Grid.{rowsOf}
 
 -- a line is one number
 abbrev pub seriesColumns : ℕ
@@ -20,7 +20,7 @@ outputOf ns = cond (notEmpty ns) (min (getD ns 0 0) noOutput) noOutput
 
 -- the outputs of a text
 unfoldable pub seriesOf : List ℕ → List ℕ
-seriesOf text = map (λ l. outputOf (rowOf seriesColumns l)) (linesOf text)
+seriesOf text = map outputOf (rowsOf seriesColumns text)
 
 -- a lent list after reading, and how many of its values are of the text
 pub record Filled : Type 0 where

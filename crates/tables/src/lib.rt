@@ -1,20 +1,20 @@
 // Texts that a spreadsheet saves: a register, a series, a number, with or without a sign.
-pub mod cells;
 pub mod roll;
 pub mod series;
 
-use cells::Cells;
+use grid::cell::run_from;
+use row::hold;
 ghost use mathlib.Core.Path.{_≡_};
-ghost use Rattle.tables.specs.Table.{rowOf, toldOf};
+ghost use Rattle.tables.specs.Table.{toldOf};
 ghost use Rattle.tables.specs.Integer.{withSign, integerOf};
 
-// What a line of one number says.
+// What a text of one number says.
 pub enum Told {
     Number(u64),
     Nothing,
 }
 
-// What a line of one number with or without a sign says.
+// What a text of one number with or without a sign says.
 pub enum ToldInteger {
     Number(i32),
     Nothing,
@@ -23,17 +23,15 @@ pub enum ToldInteger {
 // The largest size of a number with a sign: as much below zero as above.
 const MOST_INTEGER: u64 = 0x7fff_ffff;
 
-// The number that a text of one line says.
+// The number that a text says.
 pub fn number(text: &[u8]) -> Told
-    ensures { λ r. ⌜ r ≡ toldOf (rowOf 1 (now (text .entry))) ⌝ }
+    ensures { λ r. ⌜ r ≡ toldOf (now (text .entry)) ⌝ }
 {
-    let mut cells = Cells::start();
-    let mut i: usize = 0;
-    while i < text.len() {
-        cells = cells.step(0, text[i]);
-        i += 1;
+    let run = run_from(text, 0, 0);
+    if (0 < run.end) & (run.end == text.len()) {
+        return Told::Number(hold(run.value));
     }
-    cells.told()
+    Told::Nothing
 }
 
 // The number by its size and its sign, if it is not too large.
@@ -53,7 +51,7 @@ fn with_sign(size: Told, below: bool) -> ToldInteger
     ToldInteger::Number(above)
 }
 
-// The number that a text of one line says, with or without a sign.
+// The number that a text says, with or without a sign.
 pub fn integer(text: &[u8]) -> ToldInteger
     ensures { λ r. ⌜ r ≡ integerOf (now (text .entry)) ⌝ }
 {

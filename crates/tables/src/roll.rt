@@ -1,21 +1,22 @@
 // The text of a register: a line a member.
-use crate::cells::Cells;
+use grid::Grid;
 use pay::Member;
 use register::Entry;
 use register::MOST_ENTRIES;
 use register::blank_entry;
-use row::hold;
+use row::MOST_COLUMNS;
 use share::limits::numbers_are_sound;
 use units::Kw;
 use units::Mwh;
 use units::Thousandths;
 ghost use mathlib.Core.Path.{_≡_};
-ghost use mathlib.Core.Bool.{true};
+ghost use mathlib.Core.Bool.{true, false};
 ghost use mathlib.Core.List.{List, [], _∷_, map};
 ghost use Prim.Native.Nat.{ℕ};
 ghost use Rattle.row.specs.Judging.{filledUp, judged};
-ghost use Rattle.tables.specs.Register.{asEntry, registerEntries, readRegister};
-ghost use Rattle.tables.specs.Meaning.{entryNumbers, entriesLeft, sixOf, fairEntry, entryIn, rollOutcome};
+ghost use Rattle.grid.specs.Meaning.{blanksThen};
+ghost use Rattle.tables.specs.Register.{registerColumns, asEntry, registerEntries, readRegister};
+ghost use Rattle.tables.specs.Meaning.{sixOf, fairEntry, entryNumbers, entryIn, rollOutcome, rollBlanks, lineEnds};
 
 // The answer: 10 and a place, or zeros, how many entries there are, and the entries.
 pub struct Register {
@@ -25,9 +26,11 @@ pub struct Register {
     pub entries: [Entry; MOST_ENTRIES],
 }
 
-// How many entries were sound, the number of the last of them (else 0), and the entries; `refused`: the one after them was not.
+// How many entries were sound, the number of the last of them (else 0), and the entries; `refused`: the one after them was not; `blank`: a blank line is held back, which is
+// one of them where another line stands behind it.
 pub struct Roll {
     pub refused: bool,
+    pub blank: bool,
     pub before: u16,
     pub count: usize,
     pub entries: [Entry; MOST_ENTRIES],
@@ -72,13 +75,13 @@ fn typed(ended: [u64; 5], assessed: u64) -> Entry
 }
 
 // The entry that a line says, if it ends here.
-fn entry_in(cells: Cells) -> Entry
-    ensures { λ r. ⌜ r ≡ entryIn cells ⌝ }
+fn entry_in(grid: Grid, ended: [u64; MOST_COLUMNS]) -> Entry
+    ensures { λ r. ⌜ r ≡ entryIn grid ended ⌝ }
 {
-    let row = cells.row;
-    if row.is_whole(LAST) {
-        let ended = row.first_five();
-        return typed(ended, hold(row.value));
+    if grid.at == LAST {
+        let cell = grid.cell;
+        let n = ended;
+        return typed([n[0], n[1], n[2], n[3], n[4]], cell.told());
     }
     blank_entry()
 }
@@ -87,10 +90,12 @@ impl Roll {
     // The roll before any line.
     fn start() -> Roll
         ensures { λ r. ⌜ ((rows : List (List ℕ)) → rollOutcome r rows ≡ judged registerEntries (map asEntry rows)) ⌝ }
+        ensures { λ r. ⌜ r .blank ≡ false ⌝ }
     {
         let entries = blank_entries();
         Roll {
             refused: false,
+            blank: false,
             before: 0,
             count: 0,
             entries,
@@ -98,20 +103,21 @@ impl Roll {
     }
 
     fn refuse(mut self) -> Roll
-        ensures { λ r. ⌜ (r .refused ≡ true) × (r .count ≡ self .count) ⌝ }
+        ensures { λ r. ⌜ (r .refused ≡ true) × (r .count ≡ self .count) × (r .blank ≡ self .blank) ⌝ }
     {
         self.refused = true;
         self
     }
 
-    // The roll after the end of a line. An entry that was read is within its limits or blank: its number decides.
-    fn with(self, cells: Cells) -> Roll
-        ensures { λ r. ⌜ ((rows : List (List ℕ)) → rollOutcome r rows ≡ rollOutcome self (entryNumbers cells [] ∷ rows)) ⌝ }
+    // The roll after a line. An entry that was read is within its limits or blank: its number decides.
+    fn with(self, grid: Grid, ended: [u64; MOST_COLUMNS]) -> Roll
+        ensures { λ r. ⌜ ((rows : List (List ℕ)) → rollOutcome r rows ≡ rollOutcome self (entryNumbers grid ended ∷ rows)) ⌝ }
+        ensures { λ r. ⌜ r .blank ≡ self .blank ⌝ }
     {
         if self.refused {
             return self;
         }
-        let e = entry_in(cells);
+        let e = entry_in(grid, ended);
         if e.member.number <= self.before {
             return self.refuse();
         }
@@ -123,6 +129,7 @@ impl Roll {
         entries[at] = e;
         Roll {
             refused: false,
+            blank: self.blank,
             before: e.member.number,
             count: at + 1,
             entries,
@@ -151,34 +158,43 @@ impl Roll {
         }
     }
 
-    // The answer where the text ends in these cells: a line that was begun ends here.
-    fn ended(self, cells: Cells) -> Register
-        ensures { λ r. ⌜ r ≡ rollOutcome self (entriesLeft cells []) ⌝ }
+    // The roll after the end of a line: a heading is left out, and a blank line held back.
+    fn after(mut self, grid: Grid, ended: [u64; MOST_COLUMNS]) -> Roll
+        ensures { λ r. ⌜ ((rows : List (List ℕ)) → rollOutcome r (blanksThen (rollBlanks r) rows) ≡ rollOutcome self (lineEnds registerColumns (rollBlanks self) grid ended rows)) ⌝ }
     {
-        if cells.is_begun() {
-            let closed = self.with(cells);
-            return closed.answer();
+        if grid.is_heading() {
+            return self;
         }
-        self.answer()
+        if grid.is_blank() {
+            self.blank = true;
+            return self;
+        }
+        if self.blank {
+            return self.refuse();
+        }
+        self.with(grid, ended)
     }
 }
 
-// What a register's text says. The roll is large: between line feeds only the cells move.
+// What a register's text says. The roll is large: between line feeds only the grid moves.
 pub fn read_register(text: &[u8]) -> Register
     ensures { λ r. ⌜ r ≡ readRegister (now (text .entry)) ⌝ }
 {
-    let mut cells = Cells::start();
+    let mut grid = Grid::start();
+    let mut ended: [u64; MOST_COLUMNS] = [0; MOST_COLUMNS];
     let mut roll = Roll::start();
     let mut i: usize = 0;
     while i < text.len() {
-        let b = text[i];
-        if b == b'\n' {
-            roll = roll.with(cells);
-            cells = Cells::start();
+        if text[i] == b'\n' {
+            roll = roll.after(grid, ended);
+            grid = grid.next();
+            i += 1;
         } else {
-            cells = cells.step(LAST, b);
+            let step = grid.step(text, i, &mut ended);
+            grid = step.grid;
+            i = step.end;
         }
-        i += 1;
     }
-    roll.ended(cells)
+    let last = roll.after(grid, ended);
+    last.answer()
 }

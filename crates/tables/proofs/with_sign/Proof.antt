@@ -1,4 +1,3 @@
-use mathlib.Core.Path.{_≡_}
 use native.Mathlib.Omega.{arith}
 use Rattle.tables.proofs.Integers.{sign-none, sign-large, sign-above, sign-below, less-fits}
 use borrow.Author.Needs.{needs}

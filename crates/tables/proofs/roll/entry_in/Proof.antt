@@ -1,42 +1,58 @@
-use mathlib.Core.Path.{sym, _∙_}
+use mathlib.Core.Path.{_∙_}
+use Prim.Native.Nat.{_≤_}
+use native.Mathlib.Omega.{arith}
+use lib.ListN.{length}
+use Rattle.row.specs.Meaning.{mostColumns}
+use Rattle.row.proofs.Rows.{first-five}
 use Rattle.tables.proofs.Entries.{entry-whole, entry-none}
 use borrow.Author.Needs.{needs}
 use Rattle.tables.proofs.roll.entry_in.Statement.{statement}
 use Rattle.tables.proofs.roll.entry_in.Tie as tie
 
-is-whole-requires : tie.Need-is-whole-requires
-is-whole-requires c κs = search needs
+array-read-t8 : tie.Need-array-read-t8
+array-read-t8 c = search needs
 
-first-five-requires : tie.Need-first-five-requires
-first-five-requires c κs = search needs
+array-read-t11 : tie.Need-array-read-t11
+array-read-t11 c = search needs
 
-hold-requires : tie.Need-hold-requires
-hold-requires c κs = search needs
+array-read-t14 : tie.Need-array-read-t14
+array-read-t14 c = search needs
+
+array-read-t17 : tie.Need-array-read-t17
+array-read-t17 c = search needs
+
+array-read-t20 : tie.Need-array-read-t20
+array-read-t20 c = search needs
+
+told-requires : tie.Need-told-requires
+told-requires c κs = search needs
 
 typed-requires : tie.Need-typed-requires
 typed-requires c κs = search needs
 
 returns : tie.Need-returns
-returns c =
-    let cells = c .before .before .before .before .before .before .args .cells in
-    let f = c .before .before .first-five in
-    let whole = sym (c .before .before .before .before .is-whole .ensures) ∙ c .before .before .before .if1 .taken in
-    c .typed .ensures ∙ entry-whole cells (f .result) (c .before .hold .result) whole (f .ensures) (c .before .hold .ensures)
+returns c = let a = c .before .before .before .before .args in
+    let room : mostColumns ≤ length (a .ended) = search needs in
+    c .typed .ensures ∙ entry-whole (a .grid) (a .ended) room _ (c .before .told .result) (c .before .before .if1 .taken) (first-five (a .ended) (omega (arith, room))) (c .before .told .ensures)
 
 blank-entry-requires : tie.Need-blank-entry-requires
 blank-entry-requires c κs = search needs
 
 returns-2 : tie.Need-returns-2
-returns-2 c =
-    c .blank-entry .ensures ∙ entry-none (c .before .before .before .before .args .cells) (sym (c .before .before .is-whole .ensures) ∙ c .before .if1 .left)
+returns-2 c = let a = c .before .before .before .args in
+    let room : mostColumns ≤ length (a .ended) = search needs in
+    c .blank-entry .ensures ∙ entry-none (a .grid) (a .ended) room (c .before .if1 .left)
 
 pub entry-in-spec : {M : Type 1} → statement M
 entry-in-spec =
     tie.close
     (tie.spec
-    is-whole-requires
-    first-five-requires
-    hold-requires
+    array-read-t8
+    array-read-t11
+    array-read-t14
+    array-read-t17
+    array-read-t20
+    told-requires
     typed-requires
     returns
     blank-entry-requires

@@ -1,3 +1,4 @@
+use mathlib.Core.Path.{refl}
 use mathlib.Core.List.{map}
 use Rattle.row.proofs.Judging.{judged-start}
 use Rattle.tables.specs.Register.{asEntry, registerEntries}
@@ -9,7 +10,7 @@ blank-entries-requires : tie.Need-blank-entries-requires
 blank-entries-requires c κs = search needs
 
 returns : tie.Need-returns
-returns c = λ rows. judged-start registerEntries (c .blank-entries .result) (c .blank-entries .ensures) (map asEntry rows)
+returns c = ((λ rows. judged-start registerEntries (c .blank-entries .result) (c .blank-entries .ensures) (map asEntry rows)), refl)
 
 pub start-spec : {M : Type 1} → statement M
 start-spec = tie.close (tie.spec blank-entries-requires returns)
