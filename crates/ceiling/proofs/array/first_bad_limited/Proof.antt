@@ -1,0 +1,79 @@
+use mathlib.Core.Path.{_≡_, ap, sym, _∙_}
+use Prim.Native.Nat.{_+_, _-_, _≤_}
+use native.Mathlib.Omega.{arith}
+use mathlib.Core.List.{List}
+use lib.ListN.{take, drop, length, getD}
+use Rattle.ceiling.specs.declared.LimitedLine.{LimitedLine}
+use Rattle.ceiling.specs.Inner.{blankLimited}
+use Rattle.share.proofs.Lists.{part-step, part-end}
+use Rattle.ceiling.specs.Ceiling.{firstBadLimited}
+use Rattle.ceiling.proofs.Places.{bad-step, bad-here}
+use borrow.Author.Needs.{needs}
+use Rattle.ceiling.proofs.array.first_bad_limited.Statement.{statement}
+use Rattle.ceiling.proofs.array.first_bad_limited.Tie as tie
+
+abbrev Inv-loop : tie.InvT-loop
+Inv-loop count lines before₀ i₀ before i = (i ≤ count) × (i + firstBadLimited before (drop i (take count lines)) ≡ firstBadLimited 0 (take count lines))
+
+abbrev μ-loop : tie.MeasureT-loop
+μ-loop count lines before₀ i₀ before i = count - i
+
+loop-holds : tie.Need-loop-holds Inv-loop μ-loop
+loop-holds c = omega arith
+
+mul-l : tie.Need-mul-l Inv-loop μ-loop
+mul-l c = search needs
+
+array-copy-out-l : tie.Need-array-copy-out-l Inv-loop μ-loop
+array-copy-out-l c = search needs
+
+limited-is-sound-requires : tie.Need-limited-is-sound-requires Inv-loop μ-loop
+limited-is-sound-requires c κs = search needs
+
+returns : tie.Need-returns Inv-loop μ-loop
+returns c =
+    let s = c .before .before .before .before .before in
+    let l = c .before .before .before .before .loop in
+    let long : length (s .args .t1) ≡ 64 = search needs in
+    let e = ap (λ (ls : List LimitedLine). firstBadLimited (l .before) ls) (part-step (s .args .t1) (s .args .count) (l .i) blankLimited (omega arith) (omega arith)) in
+    let bad = bad-here (l .before) (getD (s .args .t1) (l .i) blankLimited) (drop (l .i + 1) (take (s .args .count) (s .args .t1))) (sym (c .before .limited-is-sound .ensures) ∙ c .if1 .left) in
+    omega arith
+
+add-i : tie.Need-add-i Inv-loop μ-loop
+add-i c = search needs
+
+loop-less : tie.Need-loop-less Inv-loop μ-loop
+loop-less c = search needs
+
+loop-again : tie.Need-loop-again Inv-loop μ-loop
+loop-again c =
+    let s = c .before .before .before .before .before in
+    let l = c .before .before .before .before .loop in
+    let long : length (s .args .t1) ≡ 64 = search needs in
+    let e = ap (λ (ls : List LimitedLine). firstBadLimited (l .before) ls) (part-step (s .args .t1) (s .args .count) (l .i) blankLimited (omega arith) (omega arith)) in
+    let more = bad-step (l .before) (getD (s .args .t1) (l .i) blankLimited) (drop (l .i + 1) (take (s .args .count) (s .args .t1))) (sym (c .before .limited-is-sound .ensures) ∙ c .if1 .taken) in
+    omega arith
+
+returns-2 : tie.Need-returns-2 Inv-loop μ-loop
+returns-2 c =
+    let s = c .before .before in
+    let l = c .before .loop in
+    let long : length (s .args .t1) ≡ 64 = search needs in
+    let e = ap (λ (ls : List LimitedLine). firstBadLimited (l .before) ls) (part-end (s .args .t1) (s .args .count) (l .i) (omega arith) (omega arith)) in
+    omega arith
+
+pub first-bad-limited-spec : {M : Type 1} → statement M
+first-bad-limited-spec =
+    tie.close
+    (tie.spec
+    Inv-loop
+    μ-loop
+    loop-holds
+    mul-l
+    array-copy-out-l
+    limited-is-sound-requires
+    returns
+    add-i
+    loop-less
+    loop-again
+    returns-2)

@@ -1,0 +1,80 @@
+use mathlib.Core.Path.{_≡_, refl, ap, sym, _∙_}
+use Prim.Native.Nat.{_-_, _≤_}
+use native.Mathlib.Omega.{arith}
+use lib.ListN.{length, take, drop, length-set, replicate}
+use lib.Seq.{take-all, take-at}
+use Rattle.apportion.proofs.Loops.{over, over-step}
+use Rattle.ceiling.specs.Ceiling.{positives}
+use Rattle.ceiling.specs.Inner.{partsIn}
+use Rattle.ceiling.proofs.Places.{length-positives, positive-of}
+use borrow.Author.Needs.{needs}
+use Rattle.ceiling.proofs.second.positives_of.Statement.{statement}
+use Rattle.ceiling.proofs.second.positives_of.Tie as tie
+
+abbrev Inv-loop : tie.InvT-loop
+Inv-loop count shared ps₀ i₀ ps i = (i ≤ count) × (length ps ≡ 64) × (ps ≡ over (replicate 64 0) (positives (partsIn (take count shared))) i)
+
+abbrev μ-loop : tie.MeasureT-loop
+μ-loop count shared ps₀ i₀ ps i = count - i
+
+loop-holds : tie.Need-loop-holds Inv-loop μ-loop
+loop-holds c = (omega arith, search needs, refl)
+
+mul-s : tie.Need-mul-s Inv-loop μ-loop
+mul-s c = search needs
+
+array-copy-out-s : tie.Need-array-copy-out-s Inv-loop μ-loop
+array-copy-out-s c = search needs
+
+positive-requires : tie.Need-positive-requires Inv-loop μ-loop
+positive-requires c κs = search needs
+
+mul-ps : tie.Need-mul-ps Inv-loop μ-loop
+mul-ps c = search needs
+
+array-write-ps : tie.Need-array-write-ps Inv-loop μ-loop
+array-write-ps c = search needs
+
+add-i : tie.Need-add-i Inv-loop μ-loop
+add-i c = search needs
+
+loop-less : tie.Need-loop-less Inv-loop μ-loop
+loop-less c = search needs
+
+loop-again : tie.Need-loop-again Inv-loop μ-loop
+loop-again c =
+    let s = c .before .before .before .before .before in
+    let l = c .before .before .before .before .loop in
+    let long : length (s .args .t1) ≡ 64 = search needs in
+    let lp = length-positives (s .args .t1) (s .args .count) (omega arith) in (
+      omega arith,
+      simp length-set (l .inv .1),
+      over-step (replicate 64 0) (positives (partsIn (take (s .args .count) (s .args .t1)))) (l .ps) (l .i) 0 _ (l .inv .2) (omega arith) (omega arith)
+          (positive-of (s .args .t1) (s .args .count) (l .i) (omega arith) (omega arith) ∙ sym (c .positive .ensures)),
+    )
+
+returns : tie.Need-returns Inv-loop μ-loop
+returns c =
+    let s = c .before .before in
+    let l = c .before .loop in
+    let long : length (s .args .t1) ≡ 64 = search needs in
+    let w = positives (partsIn (take (s .args .count) (s .args .t1))) in
+    let lp = length-positives (s .args .t1) (s .args .count) (omega arith) in
+    ap (take (s .args .count)) (l .inv .2 ∙ rw (take-all (l .i) w (omega arith))) ∙ take-at w (drop (l .i) (replicate 64 0)) (s .args .count) lp
+
+pub positives-of-spec : {M : Type 1} → statement M
+positives-of-spec =
+    tie.close
+    (tie.spec
+    Inv-loop
+    μ-loop
+    loop-holds
+    mul-s
+    array-copy-out-s
+    positive-requires
+    mul-ps
+    array-write-ps
+    add-i
+    loop-less
+    loop-again
+    returns)

@@ -1,0 +1,4 @@
+pub mod Ceiling
+pub mod Forms
+pub mod Inner
+pub mod Verdict
