@@ -3,5 +3,10 @@ pub mod Places
 pub mod Turns
 pub mod PastFirst
 pub mod Outcomes
+pub mod Gather
 pub mod Promises
+pub mod Refusals
+pub mod NoLimits
+pub mod WholePart
+pub mod TwoForms
 pub mod Worked

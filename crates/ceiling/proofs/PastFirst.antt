@@ -1,8 +1,8 @@
 -- What the second sharing is given by the first. Assumes nothing.
-use mathlib.Core.Path.{_≡_, refl, sym, ap, _∙_, subst}
-use mathlib.Core.List.{List, [], _∷_}
+use mathlib.Core.Path.{_≡_, sym, ap, _∙_}
+use mathlib.Core.List.{List}
 use mathlib.Core.Logic.{inl, inr}
-use Prim.Native.Nat.{ℕ, _*_, _≤_, _<_, _^_}
+use Prim.Native.Nat.{ℕ, _≤_, _<_, _^_}
 use native.Mathlib.Decide.{decLe}
 use native.Mathlib.Omega.{arith}
 use lib.IntN.{natAbs}
@@ -14,7 +14,7 @@ use Rattle.apportion.proofs.Promises.{Shareable, adds-up}
 use Rattle.share.specs.declared.Line.{Line}
 use Rattle.share.specs.declared.Shared.{Shared}
 use Rattle.share.specs.Sharing.{Part, SharingOutcome, sharing}
-use Rattle.share.specs.Forms.{fillIn, clear, cleared, arrayOf, sharingCounted, sharedArray, blankLine}
+use Rattle.share.specs.Forms.{fillIn, clear, cleared, arrayOf, sharedArray, blankLine}
 use Rattle.share.proofs.Lines.{length-filled}
 use Rattle.share.proofs.Counted.{counted-few}
 use Rattle.share.proofs.Outcomes.{taken-list, each-given}

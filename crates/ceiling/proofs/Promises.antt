@@ -1,12 +1,11 @@
 -- What sharing with limits promises of every list of lines that it does not refuse.
 use mathlib.Core.Path.{_≡_, refl, sym, ap, _∙_}
-use mathlib.Core.Bool.{Bool, true, false, cond}
+use mathlib.Core.Bool.{Bool, true, false}
 use mathlib.Core.List.{List, [], _∷_, _++_, map}
 use mathlib.Core.Logic.{_⊎_, inl, inr}
 use Prim.Native.Nat.{ℕ, zero, suc, _+_, _-_, _*_, _≤_, _<_}
 use native.Mathlib.Nat.{mul-le-mul}
 use native.Mathlib.Decide.{decLe, decLt}
-use borrow.Author.Tests.{le-ltb}
 use native.Mathlib.Omega.{arith}
 use lib.IntN.{ℤ, pos, negsuc, negℤ, natAbs, _+ℤ_, _-ℤ_, _*ℤ_, +ℤ-assoc, +ℤ-comm, +ℤ-idr}
 use lib.ListN.{length, getD, length-map, List·getD-map}
@@ -25,7 +24,7 @@ use Rattle.ceiling.specs.declared.LimitedLine.{LimitedLine}
 use Rattle.ceiling.specs.Ceiling.{plainLines, paid, beyond, positive, uncollectedOf, uncollectedSum, positives, givenUp, CeiledPart, ceiledPart, ceiledBy, ceiledParts}
 use Rattle.ceiling.specs.Ceiling.{CeilingOutcome, ceiling}
 use Rattle.ceiling.specs.Inner.{blankLimited, partIn}
-use Rattle.ceiling.proofs.Signs.{beyond-paid, positive-le, beyond-unlimited, beyond-is}
+use Rattle.ceiling.proofs.Signs.{paid-pos, paid-neg, positive-pos, positive-neg, beyond-paid, beyond-unlimited, beyond-is}
 use Rattle.ceiling.proofs.Places.{length-uncollected, uncollected-at, by-at}
 use Rattle.ceiling.proofs.PastFirst.{long-parts}
 use Rattle.ceiling.proofs.Outcomes.{taken-list}
@@ -52,21 +51,6 @@ share-most n i ws h k = go (decLe 1 (total ws))
         omega (arith, e)
 
 -- The amount after the second sharing, over plain values
-
-paid-pos : (n : ℕ) → paid (pos n) ≡ 0
-unfolding paid
-paid-pos n = rw (le-ltb n 0 (omega arith))
-
-paid-neg : (n : ℕ) → paid (negsuc n) ≡ suc n
-unfolding paid
-paid-neg n = refl
-
-positive-neg : (n : ℕ) → positive (negsuc n) ≡ 0
-unfolding positive
-positive-neg n = refl
-
-positive-pos : (n : ℕ) → positive (pos n) ≤ n
-positive-pos n = positive-le (pos n)
 
 sign-up : (n m : ℕ) → m ≤ n → SignOf (pos n) (pos m)
 sign-up n zero h = neither refl
@@ -100,7 +84,6 @@ after-paid l (pos n) g h =
     omega (arith, ap paid e, paid-pos (n - g), paid-pos n)
 after-paid l (negsuc n) g h =
     let v : g ≡ 0 = omega (arith, positive-neg n) in
-    let u = beyond l (negsuc n) in
     let e : negsuc n +ℤ pos (beyond l (negsuc n)) -ℤ pos g ≡ pos (beyond l (negsuc n)) -ℤ pos (suc n) =
     ap (λ (g : ℕ). negsuc n +ℤ pos (beyond l (negsuc n)) -ℤ pos g) v ∙ +ℤ-idr (negsuc n +ℤ pos (beyond l (negsuc n))) ∙ +ℤ-comm (negsuc n) (pos (beyond l (negsuc n))) in
     ap paid e ∙ go (beyond l (negsuc n)) (omega (arith, beyond-paid l (negsuc n), paid-neg n)) (decLt (beyond l (negsuc n)) (suc n))
@@ -138,7 +121,6 @@ by-total [] [] (g ∷ gs) h k = absurd (omega arith)
 by-total (p ∷ ps) [] gs h k = absurd (omega arith)
 by-total (p ∷ ps) (u ∷ us) [] h k = absurd (omega arith)
 by-total (p ∷ ps) (u ∷ us) (g ∷ gs) h k =
-    let rest : ℤ = sumℤ (map (λ p. p .amount) ps) in
     ap (λ (z : ℤ). p .amount +ℤ pos u -ℤ pos g +ℤ z) (by-total ps us gs (omega arith) (omega arith))
     ∙ by-parts (p .amount) (pos u) (negℤ (pos g)) (sumℤ (map (λ p. p .amount) ps)) (pos (total us)) (negℤ (pos (total gs)))
     ∙ ap (λ (z : ℤ). p .amount +ℤ sumℤ (map (λ p. p .amount) ps) +ℤ pos (u + total us) +ℤ z) (signed-add true g (total gs))
@@ -219,7 +201,6 @@ module _ (part : ℕ) (ls : List LimitedLine) (none : ceiling part ls .number �
   pub within-limit : (i : ℕ) (d : LimitedLine) (c : CeiledPart) → i < length ls → getD ls i d .limit .none ≡ false
       → paid (getD (ceiling part ls .parts) i c .amount) ≤ getD ls i d .limit .fen .0
   within-limit i d c h t =
-      let p = partIn blankLine in
       let z = getD (first .parts) i (partIn blankLine) .amount in
       omega (
         arith,
@@ -245,7 +226,6 @@ module _ (part : ℕ) (ls : List LimitedLine) (none : ceiling part ls .number �
       let q = getD (ceiling part ls .parts) i c in
       q .amount ≡ pos (l .compensation .0) -ℤ pos (assessmentFen l) +ℤ q .share +ℤ pos (q .uncollected) -ℤ pos (q .given)
   amount-is i d c h =
-      let p = partIn blankLine in
       rw (line-gets i c (partIn blankLine) h, ← getD-mapped (λ (l : LimitedLine). l .line) ls i d blankLine h)
       (ap (λ (z : ℤ). z +ℤ pos (getD (uncollectedOf ls (first .parts)) i 0) -ℤ pos (getD (givenUp ls (first .parts)) i 0))
       (S.amount-is part (plainLines ls) (taken-list part ls none .first) i blankLine (partIn blankLine) (rw (length-map ls (λ (l : LimitedLine). l .line)) h)))
@@ -276,7 +256,6 @@ module _ (part : ℕ) (ls : List LimitedLine) (none : ceiling part ls .number �
   pub one-fen-given-none : (i : ℕ) (c : CeiledPart) → i < length ls → total (positives (first .parts)) ≡ 0
       → (uncollectedSum ls (first .parts) ≡ 0) × (getD (ceiling part ls .parts) i c .given ≡ 0)
   one-fen-given-none i c h z =
-      let p = partIn blankLine in
       let k : i < length (first .parts) = omega (arith, long) in (
         omega (arith, taken-list part ls none .room),
         omega (

@@ -1,15 +1,15 @@
 -- What is paid and what is got, and sums that fit. Assumes nothing.
-use mathlib.Core.Path.{_≡_, refl, sym, ap, _∙_, subst}
-use mathlib.Core.Bool.{Bool, true, false, cond, _||_}
-use Prim.Native.Nat.{ℕ, suc, _+_, _-_, _^_, _≤_, _<_}
+use mathlib.Core.Path.{_≡_, refl, sym, ap, _∙_}
+use mathlib.Core.Bool.{Bool, true, false, cond}
+use Prim.Native.Nat.{ℕ, zero, suc, _+_, _-_, _^_, _≤_, _<_}
 use native.Mathlib.Omega.{arith}
-use borrow.Author.Tests.{le-ltb}
+use borrow.Author.Tests.{le-ltb, lt-ltb}
 use lib.Dec.{T}
 use lib.IntN.{ℤ, pos, negsuc, natAbs, _+ℤ_, _-ℤ_, +ℤ-comm}
 use lib.Signed.{ltZ, nonNeg}
 use mir.Syntax.{Width, w64}
 use mir.Val.{Fits, SFits, toZ, ofZ}
-use mir.ValLaws.{toZ-pos, toZ-ofZ}
+use mir.ValLaws.{toZ-ofZ}
 use Rattle.share.proofs.Signs.{abs-most, signed-add, abs-signed, small-fits}
 use Rattle.le.proofs.Signs.{cast-pos}
 use Rattle.ceiling.specs.declared.Limit.{Limit}
@@ -108,3 +108,21 @@ beyond-unlimited l z t = rw t
 pub beyond-is : (l : Limit) (z : ℤ) (n : ℕ) → l .none ≡ false → n ≡ paid z - l .fen .0 → n ≡ beyond l z
 unfolding beyond
 beyond-is l z n t e = rw t e
+
+-- what a number above or below zero pays and gets
+pub paid-pos : (n : ℕ) → paid (pos n) ≡ 0
+unfolding paid
+paid-pos n = rw (le-ltb n 0 (omega arith))
+
+pub paid-neg : (n : ℕ) → paid (negsuc n) ≡ suc n
+unfolding paid
+paid-neg n = refl
+
+pub positive-neg : (n : ℕ) → positive (negsuc n) ≡ 0
+unfolding positive
+positive-neg n = refl
+
+pub positive-pos : (n : ℕ) → positive (pos n) ≡ n
+unfolding positive
+positive-pos zero = refl
+positive-pos (suc n) = rw (lt-ltb 0 (suc n) (omega arith))

@@ -1,18 +1,18 @@
 -- The outcome by its cases, over plain values. Assumes nothing.
-use mathlib.Core.Path.{_≡_, refl, sym, ap, _∙_}
+use mathlib.Core.Path.{_≡_}
 use mathlib.Core.Bool.{Bool, true, false, cond, _&&_}
 use mathlib.Core.List.{List, [], _∷_}
-use Prim.Native.Nat.{ℕ, zero, suc, _+_, min, _≤_, _<_}
-use native.Mathlib.Decide.{decLe, decLt}
+use Prim.Native.Nat.{ℕ, suc, min, _≤_, _<_}
+use native.Mathlib.Decide.{decLt}
 use native.Mathlib.Omega.{arith}
 use borrow.Author.Tests.{lt-ltb, le-ltb, eq-eqb, ne-eqb}
-use lib.ListN.{length, take, length-map}
+use lib.ListN.{length}
 use Rattle.apportion.specs.Apportion.{total}
 use Rattle.share.specs.Sharing.{mostNumber, mostPart, partPlace, lineIsSound, firstBadLine, SharingOutcome, sharing}
 use Rattle.share.proofs.Bounds.{few-sound}
 use Rattle.ceiling.specs.declared.LimitedLine.{LimitedLine}
 use Rattle.ceiling.specs.Ceiling.{limitIsSound, limitedIsSound, firstBadLimited, plainLines, positives, uncollectedSum}
-use Rattle.ceiling.specs.Ceiling.{CeilingOutcome, ceilingRefused, ceilingAccepted, secondSharing, bothSharings, ceilingInTurn, ceiling}
+use Rattle.ceiling.specs.Ceiling.{ceilingRefused, ceilingAccepted, secondSharing, bothSharings, ceilingInTurn}
 
 -- a line with its limit is bad no later than without it
 pub limited-le : (before : ℕ) (ls : List LimitedLine) → firstBadLimited before ls ≤ firstBadLine before (plainLines ls)

@@ -1,10 +1,10 @@
 -- What inner contracts speak of, and no sentence of the request. Assumes nothing.
 use mathlib.Core.Path.{_≡_}
-use mathlib.Core.Bool.{Bool, false, cond}
+use mathlib.Core.Bool.{false, cond}
 use mathlib.Core.List.{List, map}
 use Prim.Native.Nat.{ℕ, _≤_, _<_, _^_}
 use lib.Dec.{eqb}
-use lib.IntN.{pos, natAbs}
+use lib.IntN.{natAbs}
 use lib.ListN.{getD, take}
 use Rattle.share.specs.declared.Line.{Line}
 use Rattle.share.specs.declared.Shared.{Shared}

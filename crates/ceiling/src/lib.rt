@@ -1,6 +1,7 @@
 // The ceiling on a bad month: sharing of lines with limits. What a member pays beyond its limit is not collected; the members with positive
 // amounts give it up.
 pub mod array;
+pub mod lent;
 pub mod second;
 
 use array::cleared_lines;

@@ -10,12 +10,11 @@ use share::Shared;
 use units::Fen;
 use units::SignedFen;
 ghost use mathlib.Core.Path.{_≡_};
-ghost use Prim.Native.Nat.{ℕ, _<_, _≤_, _^_};
+ghost use Prim.Native.Nat.{_<_, _≤_, _^_};
 ghost use lib.IntN.{natAbs};
-ghost use lib.ListN.{getD, take};
+ghost use lib.ListN.{take};
 ghost use Rattle.apportion.specs.Apportion.{total, apportion};
-ghost use Rattle.share.specs.Forms.{sharedArray};
-ghost use Rattle.ceiling.specs.Ceiling.{paid, beyond, positive, positives, uncollectedOf, ceiledPart, ceiledBy, plainLines};
+ghost use Rattle.ceiling.specs.Ceiling.{paid, beyond, positive, positives, uncollectedOf, ceiledPart, ceiledBy};
 ghost use Rattle.ceiling.specs.Forms.{ceiledLine, ceiledLines, clearedLines, ceiledArray};
 ghost use Rattle.ceiling.specs.Inner.{partIn, partsIn, AmountsWithin, EachWithin, PastFirst};
 
@@ -68,7 +67,7 @@ fn uncollected_of(lines: [LimitedLine; 64], shared: [Line; 64], count: usize) ->
 }
 
 // The positive amounts of the first lines.
-fn positives_of(shared: [Line; 64], count: usize) -> [u64; 64]
+fn positives(shared: [Line; 64], count: usize) -> [u64; 64]
     requires { ⌜ count ≤ 64 ⌝ }
     ensures { λ r. ⌜ take count r ≡ positives (partsIn (take count shared)) ⌝ }
 {
@@ -76,8 +75,8 @@ fn positives_of(shared: [Line; 64], count: usize) -> [u64; 64]
     let mut i: usize = 0;
     while i < count {
         let s = shared[i];
-        let amount = s.amount;
-        ps[i] = positive(amount);
+        let got = s.amount;
+        ps[i] = positive(got);
         i += 1;
     }
     ps
@@ -149,7 +148,7 @@ pub fn second_sharing(part: u32, lines: [LimitedLine; 64], count: usize, first: 
 {
     let shared = first.lines;
     let us = uncollected_of(lines, shared, count);
-    let ps = positives_of(shared, count);
+    let ps = positives(shared, count);
     let sum = apportion::total(&us[..count]);
     let most = apportion::total(&ps[..count]);
     if most < sum {

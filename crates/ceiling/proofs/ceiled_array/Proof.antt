@@ -1,4 +1,4 @@
-use mathlib.Core.Path.{_≡_, sym, ap, ap₂, _∙_}
+use mathlib.Core.Path.{_≡_, ap, ap₂, _∙_}
 use Prim.Native.Nat.{ℕ, _≤_}
 use native.Mathlib.Omega.{arith}
 use lib.ListN.{length, take}
@@ -7,7 +7,7 @@ use mathlib.Core.List.{List}
 use Rattle.share.specs.declared.Line.{Line}
 use Rattle.share.specs.Forms.{sharedArray}
 use Rattle.share.specs.Sharing.{SharingOutcome, sharing}
-use Rattle.ceiling.specs.Ceiling.{firstBadLimited, plainLines, CeilingOutcome, ceilingRefused}
+use Rattle.ceiling.specs.Ceiling.{firstBadLimited, plainLines, ceilingRefused}
 use Rattle.ceiling.specs.Forms.{ceiledOf, ceiledArray}
 use Rattle.ceiling.proofs.Places.{take-seen}
 use Rattle.ceiling.proofs.Turns.{bad-few, turn-part, turn-10, turn-on, both-refused}

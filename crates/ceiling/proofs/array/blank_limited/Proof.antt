@@ -1,4 +1,3 @@
-use mathlib.Core.Path.{refl}
 use borrow.Author.Needs.{needs}
 use Rattle.ceiling.proofs.array.blank_limited.Statement.{statement}
 use Rattle.ceiling.proofs.array.blank_limited.Tie as tie

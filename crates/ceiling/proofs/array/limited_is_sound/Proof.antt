@@ -1,4 +1,3 @@
-use mathlib.Core.Path.{refl}
 use Rattle.ceiling.specs.Ceiling.{limitedIsSound}
 use borrow.Author.Needs.{needs}
 use Rattle.ceiling.proofs.array.limited_is_sound.Statement.{statement}

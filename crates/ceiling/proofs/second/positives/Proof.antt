@@ -8,8 +8,8 @@ use Rattle.ceiling.specs.Ceiling.{positives}
 use Rattle.ceiling.specs.Inner.{partsIn}
 use Rattle.ceiling.proofs.Places.{length-positives, positive-of}
 use borrow.Author.Needs.{needs}
-use Rattle.ceiling.proofs.second.positives_of.Statement.{statement}
-use Rattle.ceiling.proofs.second.positives_of.Tie as tie
+use Rattle.ceiling.proofs.second.positives.Statement.{statement}
+use Rattle.ceiling.proofs.second.positives.Tie as tie
 
 abbrev Inv-loop : tie.InvT-loop
 Inv-loop count shared ps₀ i₀ ps i = (i ≤ count) × (length ps ≡ 64) × (ps ≡ over (replicate 64 0) (positives (partsIn (take count shared))) i)
@@ -62,8 +62,8 @@ returns c =
     let lp = length-positives (s .args .t1) (s .args .count) (omega arith) in
     ap (take (s .args .count)) (l .inv .2 ∙ rw (take-all (l .i) w (omega arith))) ∙ take-at w (drop (l .i) (replicate 64 0)) (s .args .count) lp
 
-pub positives-of-spec : {M : Type 1} → statement M
-positives-of-spec =
+pub positives-spec : {M : Type 1} → statement M
+positives-spec =
     tie.close
     (tie.spec
     Inv-loop
