@@ -139,7 +139,13 @@ module _ (xs : List LimitedLine) (ys : List Line) (us gs : List ℕ) (n : ℕ) (
       → getD (ceiledLines got (clearedLines xs)) i blankLimited ≡ ceiledLine (getD xs i blankLimited) (ceiledPart (partIn (getD ys i blankLine)) (getD us i 0) (getD gs i 0))
   got-at i h =
       ceiled-at got (clearedLines xs) i blankLimited noPart (rw length-got h) (rw (length-map xs (λ l. clearedLine l)) (omega arith))
-      ∙ rw (getD-mapped (λ l. clearedLine l) xs i blankLimited blankLimited (omega arith), by-at (partsIn (take n ys)) (take n us) (take n gs) i (partIn blankLine) noPart lu lg (rw (length-parts ys n ky) h), part-in ys n i (partIn blankLine) h ky, getD-take n us i 0 h, getD-take n gs i 0 h)
+      ∙ rw (
+        getD-mapped (λ l. clearedLine l) xs i blankLimited blankLimited (omega arith),
+        by-at (partsIn (take n ys)) (take n us) (take n gs) i (partIn blankLine) noPart lu lg (rw (length-parts ys n ky) h),
+        part-in ys n i (partIn blankLine) h ky,
+        getD-take n us i 0 h,
+        getD-take n gs i 0 h,
+      )
 
   pub got-all : take n (ceiledLines got (clearedLines xs)) ++ drop n (clearedLines xs) ≡ ceiledLines got (clearedLines xs)
   got-all =

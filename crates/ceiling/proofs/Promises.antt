@@ -13,10 +13,10 @@ use Rattle.apportion.specs.Apportion.{total, apportion}
 use Rattle.apportion.proofs.Promises.{less-than-one, nothing, each-one, adds-up}
 use Rattle.apportion.proofs.Loops.{getD-total}
 use Rattle.share.specs.declared.Line.{Line}
-use Rattle.share.specs.Sharing.{assessmentFen, below, weightOf, allWeights, generatorsGap, Part, SharingOutcome, sharing}
+use Rattle.share.specs.Sharing.{mostCompensation, assessmentFen, below, weightOf, allWeights, generatorsGap, Part, SharingOutcome, sharing}
 use Rattle.share.specs.Forms.{blankLine}
 use Rattle.share.proofs.Lists.{getD-mapped}
-use Rattle.share.proofs.Signs.{diff-up, diff-down, signed-add, by-parts}
+use Rattle.share.proofs.Signs.{diff-up, diff-down, abs-most, signed-add, by-parts}
 use Rattle.share.proofs.Promises.{SignOf, neither, over, under, sumℤ, sum-last}
 use Rattle.share.proofs.Promises as S
 use Rattle.ceiling.specs.declared.Limit.{Limit}
@@ -24,7 +24,7 @@ use Rattle.ceiling.specs.declared.LimitedLine.{LimitedLine}
 use Rattle.ceiling.specs.Ceiling.{plainLines, paid, beyond, positive, uncollectedOf, uncollectedSum, positives, givenUp, CeiledPart, ceiledPart, ceiledBy, ceiledParts}
 use Rattle.ceiling.specs.Ceiling.{CeilingOutcome, ceiling}
 use Rattle.ceiling.specs.Inner.{blankLimited, partIn}
-use Rattle.ceiling.proofs.Signs.{paid-pos, paid-neg, positive-pos, positive-neg, beyond-paid, beyond-unlimited, beyond-is}
+use Rattle.ceiling.proofs.Signs.{paid-pos, paid-neg, positive-pos, positive-neg, positive-le, beyond-paid, beyond-le, beyond-unlimited, beyond-is}
 use Rattle.ceiling.proofs.Places.{length-uncollected, uncollected-at, by-at}
 use Rattle.ceiling.proofs.PastFirst.{long-parts}
 use Rattle.ceiling.proofs.Outcomes.{taken-list}
@@ -57,40 +57,49 @@ sign-up n zero h = neither refl
 sign-up zero (suc m) h = absurd (omega arith)
 sign-up (suc n) (suc m) h = over n m refl refl
 
-sign-down : (n u : ℕ) → u ≤ suc n → SignOf (negsuc n) (negsuc n +ℤ pos u)
-sign-down n u h = rw (+ℤ-comm (negsuc n) (pos u)) (go (decLt u (suc n)))
+sign-down : (n u : ℕ) → u ≤ suc n → SignOf (negsuc n) (pos u -ℤ pos (suc n))
+sign-down n u h = go (decLt u (suc n))
   where
     go : Dec (u < suc n) → SignOf (negsuc n) (pos u -ℤ pos (suc n))
     go (yes l) = under n (suc n - suc u) refl (diff-down u (suc n) l)
     go (no f) = neither (diff-up u (suc n) (omega arith) ∙ ap pos (omega arith))
 
+-- of what one gets all is collected, and of what one pays nothing is given up
+after-up : (l : Limit) (n g : ℕ) → g ≤ positive (pos n) → pos n +ℤ pos (beyond l (pos n)) -ℤ pos g ≡ pos (n - g)
+after-up l n g h =
+    let u : beyond l (pos n) ≡ 0 = omega (arith, beyond-paid l (pos n), paid-pos n) in
+    ap (λ (u : ℕ). pos n +ℤ pos u -ℤ pos g) u ∙ ap (λ (z : ℤ). z -ℤ pos g) (+ℤ-idr (pos n)) ∙ diff-up n g (omega (arith, positive-pos n))
+
+after-down : (l : Limit) (n g : ℕ) → g ≤ positive (negsuc n)
+    → (negsuc n +ℤ pos (beyond l (negsuc n)) -ℤ pos g ≡ pos (beyond l (negsuc n)) -ℤ pos (suc n)) × (beyond l (negsuc n) ≤ suc n)
+after-down l n g h =
+    let v : g ≡ 0 = omega (arith, positive-neg n) in (
+      ap (λ (g : ℕ). negsuc n +ℤ pos (beyond l (negsuc n)) -ℤ pos g) v ∙ +ℤ-idr (negsuc n +ℤ pos (beyond l (negsuc n))) ∙ +ℤ-comm (negsuc n) (pos (beyond l (negsuc n))),
+      omega (arith, beyond-paid l (negsuc n), paid-neg n),
+    )
+
 -- an amount keeps its sign, or comes to zero
 after-sign : (l : Limit) (z : ℤ) (g : ℕ) → g ≤ positive z → SignOf z (z +ℤ pos (beyond l z) -ℤ pos g)
-after-sign l (pos n) g h =
-    let u : beyond l (pos n) ≡ 0 = omega (arith, beyond-paid l (pos n), paid-pos n) in
-    let e : pos n +ℤ pos (beyond l (pos n)) -ℤ pos g ≡ pos (n - g) = ap (λ (u : ℕ). pos n +ℤ pos u -ℤ pos g) u ∙ ap (λ (z : ℤ). z -ℤ pos g) (+ℤ-idr (pos n)) ∙ diff-up n g (omega (arith, positive-pos n)) in
-    rw e (sign-up n (n - g) (omega arith))
-after-sign l (negsuc n) g h =
-    let v : g ≡ 0 = omega (arith, positive-neg n) in
-    let e : negsuc n +ℤ pos (beyond l (negsuc n)) -ℤ pos g ≡ negsuc n +ℤ pos (beyond l (negsuc n)) =
-    ap (λ (g : ℕ). negsuc n +ℤ pos (beyond l (negsuc n)) -ℤ pos g) v ∙ +ℤ-idr (negsuc n +ℤ pos (beyond l (negsuc n))) in
-    rw e (sign-down n (beyond l (negsuc n)) (omega (arith, beyond-paid l (negsuc n), paid-neg n)))
+after-sign l (pos n) g h = rw (after-up l n g h) (sign-up n (n - g) (omega arith))
+after-sign l (negsuc n) g h = let e = after-down l n g h in rw (e .0) (sign-down n (beyond l (negsuc n)) (e .1))
 
 -- what is paid after it is what was paid, less what is not collected
 after-paid : (l : Limit) (z : ℤ) (g : ℕ) → g ≤ positive z → paid (z +ℤ pos (beyond l z) -ℤ pos g) ≡ paid z - beyond l z
-after-paid l (pos n) g h =
-    let u : beyond l (pos n) ≡ 0 = omega (arith, beyond-paid l (pos n), paid-pos n) in
-    let e : pos n +ℤ pos (beyond l (pos n)) -ℤ pos g ≡ pos (n - g) = ap (λ (u : ℕ). pos n +ℤ pos u -ℤ pos g) u ∙ ap (λ (z : ℤ). z -ℤ pos g) (+ℤ-idr (pos n)) ∙ diff-up n g (omega (arith, positive-pos n)) in
-    omega (arith, ap paid e, paid-pos (n - g), paid-pos n)
+after-paid l (pos n) g h = omega (arith, ap paid (after-up l n g h), paid-pos (n - g), paid-pos n)
 after-paid l (negsuc n) g h =
-    let v : g ≡ 0 = omega (arith, positive-neg n) in
-    let e : negsuc n +ℤ pos (beyond l (negsuc n)) -ℤ pos g ≡ pos (beyond l (negsuc n)) -ℤ pos (suc n) =
-    ap (λ (g : ℕ). negsuc n +ℤ pos (beyond l (negsuc n)) -ℤ pos g) v ∙ +ℤ-idr (negsuc n +ℤ pos (beyond l (negsuc n))) ∙ +ℤ-comm (negsuc n) (pos (beyond l (negsuc n))) in
-    ap paid e ∙ go (beyond l (negsuc n)) (omega (arith, beyond-paid l (negsuc n), paid-neg n)) (decLt (beyond l (negsuc n)) (suc n))
+    let e = after-down l n g h in
+    ap paid (e .0) ∙ go (beyond l (negsuc n)) (e .1) (decLt (beyond l (negsuc n)) (suc n))
   where
     go : (u : ℕ) → u ≤ suc n → Dec (u < suc n) → paid (pos u -ℤ pos (suc n)) ≡ paid (negsuc n) - u
     go u k (yes l) = omega (arith, ap paid (diff-down u (suc n) l), paid-neg (suc n - suc u), paid-neg n)
     go u k (no f) = omega (arith, ap paid (diff-up u (suc n) (omega arith)), paid-pos (u - suc n), paid-neg n)
+
+-- it is no larger
+after-most : (l : Limit) (z : ℤ) (g : ℕ) → g ≤ positive z → natAbs (z +ℤ pos (beyond l z) -ℤ pos g) ≤ natAbs z
+after-most l (pos n) g h = omega (arith, ap natAbs (after-up l n g h))
+after-most l (negsuc n) g h =
+    let e = after-down l n g h in
+    omega (arith, ap natAbs (e .0), abs-most (beyond l (negsuc n)) (suc n) (suc n) (e .1) (omega arith))
 
 -- and where it is zero or below, and no more is paid than the limit, or there is none, it stays
 after-kept : (l : Limit) (z : ℤ) (g : ℕ) → g ≤ positive z → positive z ≡ 0 → beyond l z ≡ 0 → z +ℤ pos (beyond l z) -ℤ pos g ≡ z
@@ -229,6 +238,28 @@ module _ (part : ℕ) (ls : List LimitedLine) (none : ceiling part ls .number �
       rw (line-gets i c (partIn blankLine) h, ← getD-mapped (λ (l : LimitedLine). l .line) ls i d blankLine h)
       (ap (λ (z : ℤ). z +ℤ pos (getD (uncollectedOf ls (first .parts)) i 0) -ℤ pos (getD (givenUp ls (first .parts)) i 0))
       (S.amount-is part (plainLines ls) (taken-list part ls none .first) i blankLine (partIn blankLine) (rw (length-map ls (λ (l : LimitedLine). l .line)) h)))
+
+  -- No amount grows: a share is at most 10^11 fen; an amount, what is not collected of it and what it gives up are at most twice that.
+  pub part-within : (i : ℕ) (c : CeiledPart) → i < length ls → let q = getD (ceiling part ls .parts) i c in
+      (natAbs (q .share) ≤ 100000000000) × (natAbs (q .amount) ≤ 200000000000) × (q .uncollected ≤ 200000000000) × (q .given ≤ 200000000000)
+  part-within i c h =
+      let z = getD (first .parts) i (partIn blankLine) .amount in
+      let l = getD ls i blankLimited .limit in
+      let e = line-gets i c (partIn blankLine) h in
+      let w = S.part-within part (plainLines ls) (taken-list part ls none .first) i (partIn blankLine) (rw (length-map ls (λ (l : LimitedLine). l .line)) h) in (
+        omega (arith, ap (λ (x : CeiledPart). natAbs (x .share)) e, w .0),
+        omega (
+          arith,
+          ap natAbs (amount-after i blankLimited c (partIn blankLine) h),
+          w .1,
+          after-most l z (getD (givenUp ls (first .parts)) i 0) (gives-up i (partIn blankLine) h),
+        ),
+        omega (arith, ap (λ (x : CeiledPart). x .uncollected) e, uncollected-at ls (first .parts) i blankLimited (partIn blankLine) long h, beyond-le l z, w .1),
+        omega (arith, ap (λ (x : CeiledPart). x .given) e, gives-up i (partIn blankLine) h, positive-le z, w .1),
+      )
+
+  pub user-within : natAbs (ceiling part ls .user) ≤ mostCompensation
+  user-within = rw user-kept (S.user-within part (plainLines ls) (taken-list part ls none .first))
 
   -- THE ONE-FEN RULE of the first sharing: share times the sum of weights lies less than that sum away from the generators' R times the weight.
   pub one-fen : (i : ℕ) (d : Line) (c : CeiledPart) → 0 < allWeights (plainLines ls) → i < length ls

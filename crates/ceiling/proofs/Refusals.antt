@@ -90,7 +90,8 @@ bad-at first (l ∷ ls) h = go (limitedIsSound first l) refl h (bad-at (l .line 
     go : (b : Bool) → limitedIsSound first l ≡ b → cond b (suc (firstBadLimited (l .line .number) ls)) 0 < suc (length ls)
         → (firstBadLimited (l .line .number) ls < length ls
         → limitedIsSound (numberBefore (l .line .number) (plainLines ls) (firstBadLimited (l .line .number) ls)) (getD ls (firstBadLimited (l .line .number) ls) blankLimited) ≡ false)
-        → limitedIsSound (numberBefore first (plainLines (l ∷ ls)) (cond b (suc (firstBadLimited (l .line .number) ls)) 0)) (getD (l ∷ ls) (cond b (suc (firstBadLimited (l .line .number) ls)) 0) blankLimited) ≡ false
+        → limitedIsSound (numberBefore first (plainLines (l ∷ ls)) (cond b (suc (firstBadLimited (l .line .number) ls)) 0))
+        (getD (l ∷ ls) (cond b (suc (firstBadLimited (l .line .number) ls)) 0) blankLimited) ≡ false
     go true e k rec =
         ap (λ (n : ℕ). limitedIsSound n (getD ls (firstBadLimited (l .line .number) ls) blankLimited)) (sym (number-step first l ls (firstBadLimited (l .line .number) ls))) ∙ rec (omega arith)
     go false e k rec = e

@@ -61,4 +61,10 @@ whole-never-17 ls n =
     ∙ ap (λ (z : ℤ). sumℤ (map (λ p. p .amount) (sharing mostPart (plainLines ls) .parts)) +ℤ z) (sym (ap (λ (o : SharingOutcome). o .user) (whole-part (plainLines ls))))
     ∙ sym (sum-last (map (λ p. p .amount) (sharing mostPart (plainLines ls) .parts)) (sharing mostPart (plainLines ls) .user))
     ∙ adds-to-zero mostPart (plainLines ls) none in
-    absurd (omega (arith, s .1, no-difference (total (positives (parts mostPart (plainLines ls)))) (total (payments (parts mostPart (plainLines ls)))) zero, uncollected-paid ls (parts mostPart (plainLines ls))))
+    absurd
+    (omega (
+      arith,
+      s .1,
+      no-difference (total (positives (parts mostPart (plainLines ls)))) (total (payments (parts mostPart (plainLines ls)))) zero,
+      uncollected-paid ls (parts mostPart (plainLines ls)),
+    ))

@@ -95,17 +95,23 @@ cases =
     ∷ []
 
 pub worked : Holds cases
-unfolding ceiling ceilingInTurn bothSharings secondSharing ceiledParts givenUp positive beyond paid limitedIsSound limitIsSound sharingInTurn settled parts userAmount generatorsAmount gap lineIsSound apportion fenPerThousandth
+unfolding
+    ceiling ceilingInTurn bothSharings secondSharing ceiledParts givenUp positive beyond paid limitedIsSound limitIsSound
+    sharingInTurn settled parts userAmount generatorsAmount gap lineIsSound apportion fenPerThousandth
 worked = (refl, (refl, (refl, (refl, (refl, (refl, (refl, (refl, (refl, (refl, (refl, (refl, (refl, (refl, (refl, tt)))))))))))))))
 
 -- The promises meet such a sum: their conditions can be met.
 none-refused : ceiling 5000 (two (upTo 50000)) .number ≡ 0
-unfolding ceiling ceilingInTurn bothSharings secondSharing positive beyond paid limitedIsSound limitIsSound sharingInTurn settled parts userAmount generatorsAmount gap lineIsSound apportion fenPerThousandth
+unfolding
+    ceiling ceilingInTurn bothSharings secondSharing positive beyond paid limitedIsSound limitIsSound
+    sharingInTurn settled parts userAmount generatorsAmount gap lineIsSound apportion fenPerThousandth
 none-refused = refl
 
 pub two-adds-up : sumℤ (allCeiled (ceiling 5000 (two (upTo 50000)))) ≡ pos 0
 two-adds-up = adds-to-zero 5000 (two (upTo 50000)) none-refused
 
 pub two-within : paid (negsuc 49999) ≤ 50000
-unfolding ceiling ceilingInTurn bothSharings secondSharing ceiledParts givenUp positive beyond paid limitedIsSound limitIsSound sharingInTurn settled parts userAmount generatorsAmount gap lineIsSound apportion fenPerThousandth
+unfolding
+    ceiling ceilingInTurn bothSharings secondSharing ceiledParts givenUp positive beyond paid limitedIsSound limitIsSound
+    sharingInTurn settled parts userAmount generatorsAmount gap lineIsSound apportion fenPerThousandth
 two-within = within-limit 5000 (two (upTo 50000)) none-refused 0 (limited 1 0 0 0 0 unlimited) (got (pos 0) (pos 0) 0 0) (lit< tt) refl

@@ -175,7 +175,8 @@ module _ {M : Type 1} (𝓤 : URA M) (H : Heap 𝓤) (A : Atoms 𝓤) (W : Given
   blanks-of : (r : List LimitedLine) → ent 𝓤 (ensured 𝓤 H A blanks.ended (blanks.clauses 𝓤 H A at-mem run) tt tt tt r) (fact 𝓤 (r ≡ replicate 64 blankLimited))
   blanks-of r = exE 𝓤 _ (λ ws. snd∗ 𝓤 (sem 𝓤 H A (lasts blanks.ended tt tt ws)) (fact 𝓤 (r ≡ replicate 64 blankLimited)))
 
-  put-of : (a : List LimitedLine) (i : ℕ) (v : LimitedLine) (r : List LimitedLine) → ent 𝓤 (ensured 𝓤 H A put-line.ended (put-line.clauses 𝓤 H A at-mem run) tt (a, (i, (v, tt))) tt r) (fact 𝓤 (r ≡ set a i v))
+  put-of : (a : List LimitedLine) (i : ℕ) (v : LimitedLine) (r : List LimitedLine)
+      → ent 𝓤 (ensured 𝓤 H A put-line.ended (put-line.clauses 𝓤 H A at-mem run) tt (a, (i, (v, tt))) tt r) (fact 𝓤 (r ≡ set a i v))
   put-of a i v r = exE 𝓤 _ (λ ws. snd∗ 𝓤 (sem 𝓤 H A (lasts put-line.ended tt (a, (i, (v, tt))) ws)) (fact 𝓤 (r ≡ set a i v)))
 
   share-of : (p : ℕ) (a : List LimitedLine) (k : ℕ) (r : Ceiled)
@@ -363,7 +364,8 @@ module _ {M : Type 1} (𝓤 : URA M) (H : Heap 𝓤) (A : Atoms 𝓤) (W : Given
             assigns-last ! (bin ! (load ! (from ! (stop !)) (look ! 10 refl)) (lit ! tt) next-fits) (from ! (stop !)) (store ! 10 refl (tt, next-fits)) $
             forget ! 15 refl $ forget ! 16 refl $ forget ! 17 refl $ forget ! 18 refl $
             rewrite ! 10 (λ (z : ℕ). ‵ (fat fullShare word l9 0 (vint w64 z))) (add-one j) refl $
-            rewrite ! 0 (λ (z : LimitedLine). ‵ (row R fullShare (set (written j) j z) b o)) e refl $ rewrite ! 0 (λ (z : List LimitedLine). ‵ (row R fullShare z b o)) (scattered-more ys (h .lines) j) refl $
+            rewrite ! 0 (λ (z : LimitedLine). ‵ (row R fullShare (set (written j) j z) b o)) e refl $
+            rewrite ! 0 (λ (z : List LimitedLine). ‵ (row R fullShare z b o)) (scattered-more ys (h .lines) j) refl $
             again ! (fewer k) I₂ t (record { at = suc j; le = l }) (omega arith))))))
           where
             j : ℕ

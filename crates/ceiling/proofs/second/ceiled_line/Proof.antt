@@ -33,7 +33,12 @@ sub-amount c =
     let s = c .before .before in
     let z = s .args .s .amount .0 in
     let f : SFits w64 z = amount-fits (s .args .s .amount .0) (s .pre .0) in
-    rw (toZ-ofZ f, toZ-pos w64 (half (s .args .u) (s .pre .1 .0)), toZ-ofZ (plus-fits z (s .args .u) (s .pre .0) (s .pre .1 .0)), toZ-pos w64 (half (s .args .g) (s .pre .1 .1)))
+    rw (
+      toZ-ofZ f,
+      toZ-pos w64 (half (s .args .u) (s .pre .1 .0)),
+      toZ-ofZ (plus-fits z (s .args .u) (s .pre .0) (s .pre .1 .0)),
+      toZ-pos w64 (half (s .args .g) (s .pre .1 .1)),
+    )
     (minus-fits z (s .args .u) (s .args .g) (s .pre .0) (s .pre .1 .0) (s .pre .1 .1))
 
 with-amount-requires : tie.Need-with-amount-requires
@@ -44,7 +49,14 @@ returns c =
     let s = c .before .before .before .before .before in
     let z = s .args .s .amount .0 in
     let f : SFits w64 z = amount-fits (s .args .s .amount .0) (s .pre .0) in
-    rw (c .before .with-amount .ensures, toZ-ofZ f, toZ-pos w64 (half (s .args .u) (s .pre .1 .0)), toZ-ofZ (plus-fits z (s .args .u) (s .pre .0) (s .pre .1 .0)), toZ-pos w64 (half (s .args .g) (s .pre .1 .1)), toZ-ofZ (minus-fits z (s .args .u) (s .args .g) (s .pre .0) (s .pre .1 .0) (s .pre .1 .1)))
+    rw (
+      c .before .with-amount .ensures,
+      toZ-ofZ f,
+      toZ-pos w64 (half (s .args .u) (s .pre .1 .0)),
+      toZ-ofZ (plus-fits z (s .args .u) (s .pre .0) (s .pre .1 .0)),
+      toZ-pos w64 (half (s .args .g) (s .pre .1 .1)),
+      toZ-ofZ (minus-fits z (s .args .u) (s .args .g) (s .pre .0) (s .pre .1 .0) (s .pre .1 .1)),
+    )
 
 pub ceiled-line-spec : {M : Type 1} → statement M
 ceiled-line-spec =
