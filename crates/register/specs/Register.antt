@@ -1,12 +1,14 @@
--- The register of a month: a line a member, with what its sharing line needs besides the compensation. Assumes nothing.
-use mathlib.Core.Bool.{Bool, cond, _&&_}
+-- The register of a month: a line a member, with what its sharing line needs besides the compensation, and with its limit. Assumes nothing.
+use mathlib.Core.Bool.{Bool, false, cond, _&&_}
 use mathlib.Core.List.{List, [], _∷_}
 use Prim.Native.Nat.{ℕ, suc}
 use lib.IntN.{pos}
 use lib.ListN.{getD, drop}
 use Rattle.units.specs.declared.Fen.{Fen}
 use Rattle.share.specs.declared.Line.{Line}
-use Rattle.share.specs.Sharing.{lineIsSound, mostNumber}
+use Rattle.share.specs.Sharing.{mostNumber}
+use Rattle.ceiling.specs.declared.LimitedLine.{LimitedLine}
+use Rattle.ceiling.specs.Ceiling.{limitedIsSound}
 use Rattle.pay.specs.Member.{memberIsSound}
 use Rattle.register.specs.declared.Entry.{Entry}
 
@@ -22,6 +24,7 @@ blankEntry =
       status = 0;
       energy = record { 0 = 0 };
       assessment = record { 0 = 0 };
+      limit = record { none = false; fen = record { 0 = 0 } };
     }
 
 -- the sharing line of an entry whose member is compensated so
@@ -37,16 +40,20 @@ entryLine e fen =
       amount = record { 0 = pos 0 };
     }
 
--- an entry is sound after the number `before`: as a register line, and as a sharing line, which has no compensation yet
+-- the same with the entry's limit; nothing is shared yet
+unfoldable pub entryLimited : Entry → Fen → LimitedLine
+entryLimited e fen = record { line = entryLine e fen; limit = e .limit; uncollected = record { 0 = 0 }; given = record { 0 = 0 } }
+
+-- an entry is sound after the number `before`: as a register line, as a sharing line, which has no compensation yet, and by its limit
 unfoldable pub entryIsSound : ℕ → Entry → Bool
-entryIsSound before e = memberIsSound (e .member) && lineIsSound before (entryLine e (record { 0 = 0 }))
+entryIsSound before e = memberIsSound (e .member) && limitedIsSound before (entryLimited e (record { 0 = 0 }))
 
 -- the place of the first entry that is not sound, or the number of entries where all are
 abbrev pub firstBadEntry : ℕ → List Entry → ℕ
 firstBadEntry before [] = 0
 firstBadEntry before (e ∷ es) = cond (entryIsSound before e) (suc (firstBadEntry (e .member .number) es)) 0
 
--- the sharing lines of entries whose members are compensated so, in turn
-abbrev pub linesFor : List Entry → List Fen → List Line
-linesFor [] fens = []
-linesFor (e ∷ es) fens = entryLine e (getD fens 0 (record { 0 = 0 })) ∷ linesFor es (drop 1 fens)
+-- the sharing lines, with their limits, of entries whose members are compensated so, in turn
+abbrev pub limitedFor : List Entry → List Fen → List LimitedLine
+limitedFor [] fens = []
+limitedFor (e ∷ es) fens = entryLimited e (getD fens 0 (record { 0 = 0 })) ∷ limitedFor es (drop 1 fens)

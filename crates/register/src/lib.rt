@@ -1,7 +1,10 @@
-// The register of a month: a line a member, with what its sharing line needs besides the compensation.
+// The register of a month: a line a member, with what its sharing line needs besides the compensation, and with its limit.
+use ceiling::Limit;
+use ceiling::LimitedLine;
+use ceiling::array::blank_limiteds;
+use ceiling::limit_is_sound;
 use pay::Member;
 use share::Line;
-use share::array::blank_lines;
 use share::limits::numbers_are_sound;
 use units::Fen;
 use units::Kw;
@@ -11,14 +14,15 @@ use units::Thousandths;
 ghost use mathlib.Core.Path.{_≡_};
 ghost use Prim.Native.Nat.{_≤_};
 ghost use lib.ListN.{getD, take};
-ghost use Rattle.register.specs.Register.{mostEntries, blankEntry, entryLine, entryIsSound, firstBadEntry, linesFor};
+ghost use Rattle.register.specs.Register.{mostEntries, blankEntry, entryLine, entryIsSound, firstBadEntry, limitedFor};
 
-// A member, and what its sharing line needs besides its compensation.
+// A member, what its sharing line needs besides its compensation, and what it pays at most.
 pub struct Entry {
     pub member: Member,
     pub status: u8,
     pub energy: Mwh,
     pub assessment: Thousandths,
+    pub limit: Limit,
 }
 
 // The most entries that a register may have.
@@ -37,6 +41,10 @@ pub fn blank_entry() -> Entry
         status: 0,
         energy: Mwh(0),
         assessment: Thousandths(0),
+        limit: Limit {
+            none: false,
+            fen: Fen(0),
+        },
     }
 }
 
@@ -71,7 +79,8 @@ impl Entry {
             0,
             self.assessment.0 as u64,
         );
-        member.is_sound() & is_line
+        let limit = self.limit;
+        member.is_sound() & (is_line & limit_is_sound(limit))
     }
 }
 
@@ -101,16 +110,40 @@ fn fen_of(fens: [Fen; MOST_ENTRIES], i: usize) -> Fen
     if i < MOST_ENTRIES { fens[i] } else { Fen(0) }
 }
 
-// The sharing lines of entries whose members are compensated so, in turn.
-pub fn lines_for(entries: [Entry; MOST_ENTRIES], fens: [Fen; MOST_ENTRIES]) -> [Line; MOST_ENTRIES]
-    ensures { λ r. ⌜ r ≡ linesFor entries fens ⌝ }
+// The limit of line i, and none behind the last.
+fn limit_of(entries: [Entry; MOST_ENTRIES], i: usize) -> Limit
+    ensures { λ r. ⌜ r ≡ getD entries i blankEntry .limit ⌝ }
 {
-    let mut lines = blank_lines();
+    if i < MOST_ENTRIES {
+        let e = entries[i];
+        return e.limit;
+    }
+    Limit {
+        none: false,
+        fen: Fen(0),
+    }
+}
+
+// The sharing lines, with their limits, of entries whose members are compensated so, in turn.
+pub fn limited_for(
+    entries: [Entry; MOST_ENTRIES],
+    fens: [Fen; MOST_ENTRIES],
+) -> [LimitedLine; MOST_ENTRIES]
+    ensures { λ r. ⌜ r ≡ limitedFor entries fens ⌝ }
+{
+    let mut lines = blank_limiteds();
     let mut i: usize = 0;
     while i < MOST_ENTRIES {
         let next = i + 1;
         let fen = fen_of(fens, i);
-        lines[i] = entries[i].line(fen);
+        let line = entries[i].line(fen);
+        let limit = limit_of(entries, i);
+        lines[i] = LimitedLine {
+            line,
+            limit,
+            uncollected: Fen(0),
+            given: Fen(0),
+        };
         i = next;
     }
     lines

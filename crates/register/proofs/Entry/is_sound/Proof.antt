@@ -1,7 +1,8 @@
 use mathlib.Core.Path.{ap₂}
 use mathlib.Core.Bool.{_&&_}
 use Rattle.share.specs.Sharing.{lineIsSound}
-use Rattle.register.specs.Register.{entryIsSound, entryLine}
+use Rattle.ceiling.specs.Ceiling.{limitedIsSound}
+use Rattle.register.specs.Register.{entryIsSound, entryLine, entryLimited}
 use borrow.Author.Needs.{needs}
 use Rattle.register.proofs.Entry.is_sound.Statement.{statement}
 use Rattle.register.proofs.Entry.is_sound.Tie as tie
@@ -24,9 +25,13 @@ numbers-are-sound-requires c κs = search needs
 is-sound-requires : tie.Need-is-sound-requires
 is-sound-requires c κs = search needs
 
+limit-is-sound-requires : tie.Need-limit-is-sound-requires
+limit-is-sound-requires c κs = search needs
+
 returns : tie.Need-returns
-unfolding entryIsSound entryLine lineIsSound
-returns c = ap₂ _&&_ (c .is-sound .ensures) (c .before .numbers-are-sound .ensures)
+unfolding entryIsSound entryLimited entryLine limitedIsSound lineIsSound
+returns c =
+    ap₂ _&&_ (c .before .is-sound .ensures) (ap₂ _&&_ (c .before .before .before .numbers-are-sound .ensures) (c .limit-is-sound .ensures))
 
 pub is-sound-spec : {M : Type 1} → statement M
 is-sound-spec =
@@ -38,4 +43,5 @@ is-sound-spec =
     cast-numbers-are-sound-4
     numbers-are-sound-requires
     is-sound-requires
+    limit-is-sound-requires
     returns)

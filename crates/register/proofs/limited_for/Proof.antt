@@ -2,23 +2,23 @@ use mathlib.Core.Path.{_≡_, refl, _∙_, ap}
 use Prim.Native.Nat.{_-_, _≤_}
 use native.Mathlib.Omega.{arith}
 use lib.ListN.{length, getD, take, length-set}
-use Rattle.register.specs.Register.{blankEntry, entryLine, linesFor}
-use Rattle.register.proofs.Entries.{line-next, lines-all}
+use Rattle.register.specs.Register.{blankEntry, entryLine, limitedFor}
+use Rattle.register.proofs.Entries.{limited-is, line-next, lines-all}
 use borrow.Author.Needs.{needs}
-use Rattle.register.proofs.lines_for.Statement.{statement}
-use Rattle.register.proofs.lines_for.Tie as tie
+use Rattle.register.proofs.limited_for.Statement.{statement}
+use Rattle.register.proofs.limited_for.Tie as tie
 
 abbrev Inv-loop : tie.InvT-loop
-Inv-loop fens entries lines₀ i₀ lines i = (i ≤ 64) × (length lines ≡ 64) × (take i lines ≡ take i (linesFor entries fens))
+Inv-loop fens entries lines₀ i₀ lines i = (i ≤ 64) × (length lines ≡ 64) × (take i lines ≡ take i (limitedFor entries fens))
 
 abbrev μ-loop : tie.MeasureT-loop
 μ-loop fens entries lines₀ i₀ lines i = 64 - i
 
-blank-lines-requires : tie.Need-blank-lines-requires Inv-loop μ-loop
-blank-lines-requires c κs = tt
+blank-limiteds-requires : tie.Need-blank-limiteds-requires Inv-loop μ-loop
+blank-limiteds-requires c κs = tt
 
 loop-holds : tie.Need-loop-holds Inv-loop μ-loop
-loop-holds c = (omega arith, ap length (c .blank-lines .ensures), refl)
+loop-holds c = (omega arith, ap length (c .blank-limiteds .ensures), refl)
 
 add-next : tie.Need-add-next Inv-loop μ-loop
 add-next c = omega arith
@@ -35,6 +35,9 @@ array-copy-out-line c = omega arith
 line-requires : tie.Need-line-requires Inv-loop μ-loop
 line-requires c κs = tt
 
+limit-of-requires : tie.Need-limit-of-requires Inv-loop μ-loop
+limit-of-requires c κs = tt
+
 mul-lines : tie.Need-mul-lines Inv-loop μ-loop
 mul-lines c = omega arith
 
@@ -46,12 +49,12 @@ loop-less c = omega arith
 
 loop-again : tie.Need-loop-again Inv-loop μ-loop
 loop-again c =
-    let a = c .before .before .before .before .before .before .args in
-    let l = c .before .before .before .before .loop in
-    let fen = c .before .before .fen-of in
+    let a = c .before .before .before .before .before .before .before .args in
+    let l = c .before .before .before .before .before .loop in
+    let line = c .before .line .ensures ∙ ap (entryLine (getD (a .t1) (l .i) blankEntry)) (c .before .before .before .fen-of .ensures) in
     let wide : length (a .t1) ≡ 64 = search needs in
-    let own = c .line .ensures ∙ ap (entryLine (getD (a .t1) (l .i) blankEntry)) (fen .ensures) in
-    (omega arith, simp length-set (l .inv .1), line-next (a .t1) (a .fens) (l .lines) (l .i) blankEntry (c .line .result) (omega arith) (omega (arith, l .inv .1)) own (l .inv .2))
+    let own = limited-is (getD (a .t1) (l .i) blankEntry) _ _ _ line (c .limit-of .ensures) in
+    (omega arith, simp length-set (l .inv .1), line-next (a .t1) (a .fens) (l .lines) (l .i) blankEntry _ (omega arith) (omega (arith, l .inv .1)) own (l .inv .2))
 
 returns : tie.Need-returns Inv-loop μ-loop
 returns c =
@@ -60,19 +63,20 @@ returns c =
     let wide : length (a .t1) ≡ 64 = search needs in
     lines-all (a .t1) (a .fens) (l .lines) (l .i) (omega (arith, l .inv .1)) (omega arith) (l .inv .2)
 
-pub lines-for-spec : {M : Type 1} → statement M
-lines-for-spec =
+pub limited-for-spec : {M : Type 1} → statement M
+limited-for-spec =
     tie.close
     (tie.spec
     Inv-loop
     μ-loop
-    blank-lines-requires
+    blank-limiteds-requires
     loop-holds
     add-next
     fen-of-requires
     mul-line
     array-copy-out-line
     line-requires
+    limit-of-requires
     mul-lines
     array-set-from-lines
     loop-less
