@@ -6,7 +6,6 @@ use Prim.Native.Nat.{ℕ, zero, suc, _-_, _≤_, _<_}
 use native.Mathlib.Omega.{arith}
 use borrow.Author.Tests.{ltb-true, ltb-false, eqb-true}
 use lib.Dec.{ltb, eqb}
-use lib.IntN.{pos}
 use lib.ListN.{length, getD, take, drop, length-map, List·getD-append}
 use lib.Seq.{drop-drop}
 use Rattle.units.specs.declared.Grains.{Grains}
@@ -19,11 +18,14 @@ use Rattle.score.specs.Scoring.{grainsEarned, inFen}
 use Rattle.book.proofs.Judged.{zero-accepted}
 use Rattle.apportion.specs.Apportion.{total}
 use Rattle.share.specs.declared.Line.{Line}
-use Rattle.share.specs.Sharing.{Part, below, mostPart, SharingOutcome, sharing}
+use Rattle.share.specs.Sharing.{below, mostPart}
 use Rattle.share.specs.Forms.{blankLine}
 use Rattle.share.proofs.Lists.{getD-mapped}
+use Rattle.ceiling.specs.declared.LimitedLine.{LimitedLine}
+use Rattle.ceiling.specs.Ceiling.{CeiledPart, CeilingOutcome}
+use Rattle.ceiling.specs.Inner.{blankLimited}
 use Rattle.register.specs.declared.Entry.{Entry}
-use Rattle.register.specs.Register.{blankEntry, entryLine, firstBadEntry}
+use Rattle.register.specs.Register.{blankEntry, entryLine, entryLimited, firstBadEntry}
 use Rattle.register.proofs.Entries.{length-lines, line-at}
 use Rattle.month.specs.declared.Fault.{Fault}
 use Rattle.month.specs.declared.Fault.the-variants.{NoFault, InPart, InRegister, InBook, Unlisted, OfMember, OfRamping, InSharing}
@@ -33,13 +35,13 @@ use Rattle.month.specs.declared.Statement.{Statement}
 use Rattle.month.specs.declared.members.MemberEarned.{MemberEarned}
 use Rattle.month.specs.declared.members.MemberEarned.the-variants.{ScoreAndHours, NotScored, NotRamped}
 use Rattle.month.specs.Settling.{MonthGiven, firstUnlisted, noRamping, earnedWith, earnings, firstRefusedMember, memberFault, earnedGrains, compensations}
-use Rattle.month.specs.Settling.{rowOf, rowsOf, blankRow, filledRows, monthRefused, sharedMonth, monthLines, earnedMonth, settling}
-use Rattle.month.specs.Outcomes.{ownSeries, rampedOfLine, earnedIn, linesIn, grainsIn, statementOf}
+use Rattle.month.specs.Settling.{rowOf, noPart, rowsOf, blankRow, filledRows, monthRefused, sharedMonth, monthLines, earnedMonth, settling}
+use Rattle.month.specs.Outcomes.{ownSeries, rampedOfLine, earnedIn, limitedIn, linesIn, grainsIn, sharedIn, statementOf}
 use Rattle.month.proofs.Walking.{noGrains, noFen, fenOf, isBoth, length-earnings}
 use Rattle.month.proofs.Statements.{next-of}
 
 abbrev pub rowsSettled : MonthGiven → List Row
-rowsSettled g = rowsOf (below (linesIn g)) (linesIn g) (grainsIn g) (g .ramped) (sharing (g .part) (linesIn g) .parts)
+rowsSettled g = rowsOf (below (linesIn g)) (linesIn g) (grainsIn g) (g .ramped) (sharedIn g .parts)
 
 -- what it has passed
 pub record Passed (g : MonthGiven) : Type 0 where
@@ -48,7 +50,7 @@ pub record Passed (g : MonthGiven) : Type 0 where
   pub book : check (g .book) ≡ accepted
   pub listed : countAt (g .book) ≤ firstUnlisted (g .entries) (callsOf (g .book))
   pub members : length (earnedIn g) ≤ firstRefusedMember (earnedIn g)
-  pub shared : sharing (g .part) (linesIn g) .number ≡ 0
+  pub shared : sharedIn g .number ≡ 0
   pub is : settling g ≡ statementOf g
 
 -- a fault is one
@@ -141,8 +143,8 @@ passed g h = go (ltb first (length es)) (eqb (o .number) 0) refl refl (r .none)
     first : ℕ
     first = firstRefusedMember es
 
-    o : SharingOutcome
-    o = sharing (g .part) (linesIn g)
+    o : CeilingOutcome
+    o = sharedIn g
 
     all : Bool → Bool → Statement
     all a b =
@@ -194,15 +196,12 @@ with-both (Refused number place) r g e = absurd (true≢false (sym (ap isBoth e)
 
 -- The rows
 
-abbrev pub noPart : Part
-noPart = record { share = pos 0; amount = pos 0 }
-
-pub length-rows : (isBelow : Bool) (ls : List Line) (gs : List Grains) (rs : List Ramped) (ps : List Part) → length (rowsOf isBelow ls gs rs ps) ≡ length ls
+pub length-rows : (isBelow : Bool) (ls : List Line) (gs : List Grains) (rs : List Ramped) (ps : List CeiledPart) → length (rowsOf isBelow ls gs rs ps) ≡ length ls
 unfolding rowsOf
 length-rows isBelow [] gs rs ps = refl
 length-rows isBelow (l ∷ ls) gs rs ps = ap suc (length-rows isBelow ls (drop 1 gs) (drop 1 rs) (drop 1 ps))
 
-pub row-at : (isBelow : Bool) (ls : List Line) (gs : List Grains) (rs : List Ramped) (ps : List Part) (i : ℕ) (d : Row) → i < length ls
+pub row-at : (isBelow : Bool) (ls : List Line) (gs : List Grains) (rs : List Ramped) (ps : List CeiledPart) (i : ℕ) (d : Row) → i < length ls
     → getD (rowsOf isBelow ls gs rs ps) i d ≡ rowOf isBelow (getD ls i blankLine) (getD gs i noGrains) (getD rs i noRamping .hours) (getD ps i noPart)
 unfolding rowsOf
 row-at isBelow [] gs rs ps i d h = absurd (omega arith)
@@ -211,30 +210,38 @@ row-at isBelow (l ∷ ls) gs rs ps (suc i) d h =
     row-at isBelow ls (drop 1 gs) (drop 1 rs) (drop 1 ps) i d (omega arith) ∙ rw (next-of gs i noGrains, next-of rs i noRamping, next-of ps i noPart) refl
 
 module _ (g : MonthGiven) where
-  pub length-in : length (linesIn g) ≡ length (g .entries)
+  pub length-limited : length (limitedIn g) ≡ length (g .entries)
   unfolding monthLines
-  length-in = length-lines (g .entries) (compensations (grainsIn g))
+  length-limited = length-lines (g .entries) (compensations (grainsIn g))
+
+  pub length-in : length (linesIn g) ≡ length (g .entries)
+  length-in = length-map (limitedIn g) (λ (l : LimitedLine). l .line) ∙ length-limited
 
   -- the row of line i
   pub settled-row : (i : ℕ) → Passed g → i < length (g .entries)
       → getD (settling g .rows) i blankRow
-      ≡ rowOf (below (linesIn g)) (getD (linesIn g) i blankLine) (getD (grainsIn g) i noGrains) (rampedOfLine g i .hours) (getD (sharing (g .part) (linesIn g) .parts) i noPart)
+      ≡ rowOf (below (linesIn g)) (getD (linesIn g) i blankLine) (getD (grainsIn g) i noGrains) (rampedOfLine g i .hours) (getD (sharedIn g .parts) i noPart)
   unfolding filledRows
   settled-row i p h =
       let long = length-in in
-      let rows = length-rows (below (linesIn g)) (linesIn g) (grainsIn g) (g .ramped) (sharing (g .part) (linesIn g) .parts) in
+      let rows = length-rows (below (linesIn g)) (linesIn g) (grainsIn g) (g .ramped) (sharedIn g .parts) in
       ap (λ (s : Statement). getD (s .rows) i blankRow) (p .is) ∙ List·getD-append (rowsSettled g) _ blankRow i (omega arith)
-      ∙ row-at (below (linesIn g)) (linesIn g) (grainsIn g) (g .ramped) (sharing (g .part) (linesIn g) .parts) i blankRow (omega arith)
+      ∙ row-at (below (linesIn g)) (linesIn g) (grainsIn g) (g .ramped) (sharedIn g .parts) i blankRow (omega arith)
 
   -- the grains of line i, and the fen of them
   pub grains-at : (i : ℕ) → i < length (g .entries) → getD (grainsIn g) i noGrains ≡ earnedGrains (getD (earnedIn g) i (NotScored 0 0))
   grains-at i h =
       getD-mapped earnedGrains (earnedIn g) i (NotScored 0 0) noGrains (omega (arith, length-earnings (g .entries) (g .book) (g .series) (g .lengths) (g .ramped)))
 
-  pub line-in : (i : ℕ) → i < length (g .entries) → getD (linesIn g) i blankLine ≡ entryLine (getD (g .entries) i blankEntry) (fenOf (getD (grainsIn g) i noGrains))
+  pub limited-in : (i : ℕ) → i < length (g .entries) → getD (limitedIn g) i blankLimited ≡ entryLimited (getD (g .entries) i blankEntry) (fenOf (getD (grainsIn g) i noGrains))
   unfolding monthLines
-  line-in i h =
+  limited-in i h =
       let long = length-map (earnedIn g) earnedGrains in
       line-at (g .entries) (compensations (grainsIn g)) i blankEntry h
-      ∙ ap (entryLine (getD (g .entries) i blankEntry))
+      ∙ ap (entryLimited (getD (g .entries) i blankEntry))
       (getD-mapped fenOf (grainsIn g) i noGrains noFen (omega (arith, length-earnings (g .entries) (g .book) (g .series) (g .lengths) (g .ramped))))
+
+  pub line-in : (i : ℕ) → i < length (g .entries) → getD (linesIn g) i blankLine ≡ entryLine (getD (g .entries) i blankEntry) (fenOf (getD (grainsIn g) i noGrains))
+  unfolding entryLimited
+  line-in i h =
+      getD-mapped (λ (l : LimitedLine). l .line) (limitedIn g) i blankLimited blankLine (omega (arith, length-limited)) ∙ ap (λ (l : LimitedLine). l .line) (limited-in i h)

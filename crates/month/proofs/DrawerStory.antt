@@ -1,7 +1,7 @@
 -- The story of the stop that came back, settled: the spare terminal's early entry alone would pay member 3; with head office's withdrawal among the books
 -- nobody pays for it, whether the spare terminal is plugged in or not. Assumes nothing.
 use mathlib.Core.Path.{_≡_, refl, sym, _∙_, ap, ap₂, subst}
-use mathlib.Core.Bool.{false}
+use mathlib.Core.Bool.{true, false}
 use mathlib.Core.List.{List, [], _∷_, _++_, map, List·Memᴰ as In, List·Memᴰ·head as here, List·Memᴰ·tail as there}
 use Prim.Native.Nat.{ℕ, _≤_}
 use native.Mathlib.Omega.{arith}
@@ -51,8 +51,9 @@ use Rattle.score.proofs.Empty.{still}
 use Rattle.score.proofs.Listed.{earned-over-calls}
 use Rattle.apportion.specs.Apportion.{apportion}
 use Rattle.share.specs.Sharing.{gap, generatorsAmount, userAmount, lineIsSound, parts, settled, sharingInTurn}
+use Rattle.ceiling.specs.Ceiling.{limitIsSound, limitedIsSound, paid, beyond, positive, givenUp, ceiledParts, secondSharing, bothSharings, ceilingInTurn, ceiling}
 use Rattle.register.specs.declared.Entry.{Entry}
-use Rattle.register.specs.Register.{entryLine, entryIsSound, firstBadEntry}
+use Rattle.register.specs.Register.{entryLine, entryLimited, entryIsSound, firstBadEntry}
 use Rattle.month.specs.declared.Fault.the-variants.{NoFault}
 use Rattle.month.specs.declared.members.MemberEarned.the-variants.{ScoreAndHours}
 use Rattle.month.specs.declared.Row.{Row}
@@ -99,13 +100,13 @@ early-nothing =
     early-entry march spare two spare-month few-first early early-there refl head-office (there (here refl)) withdrawal withdrawn-there refl refl
     left with-emptied left-covers-spare with-emptied-covers left-room with-emptied-room
 
--- A month of two members, 3 and 5, both coal of 300,000 kW and of equal energy, without assessments
+-- A month of two members, 3 and 5, both coal of 300,000 kW and of equal energy, without assessments and without limits
 
 abbrev member : ℕ → Member
 member number = record { number = number; kind = coal; rated = record { 0 = 300000 } }
 
 abbrev entry : ℕ → Entry
-entry number = record { member = member number; status = 0; energy = record { 0 = 100 }; assessment = record { 0 = 0 } }
+entry number = record { member = member number; status = 0; energy = record { 0 = 100 }; assessment = record { 0 = 0 }; limit = record { none = true; fen = record { 0 = 0 } } }
 
 abbrev pub register : List Entry
 register = entry 3 ∷ entry 5 ∷ []
@@ -131,6 +132,8 @@ row number grains compensation share amount =
       energy = record { 0 = 100 };
       weight = 1000;
       share = record { 0 = share };
+      uncollected = record { 0 = 0 };
+      given = record { 0 = 0 };
       amount = record { 0 = amount };
     }
 
@@ -173,7 +176,7 @@ unfolding recordsEarned firstRefused firstNonzero refusalAt early stop monthGrai
 live-five s = refl
 
 both-listed : 2 ≤ firstBadEntry 0 register
-unfolding entryIsSound entryLine memberIsSound lineIsSound
+unfolding entryIsSound entryLimited entryLine memberIsSound limitedIsSound limitIsSound lineIsSound
 both-listed = omega arith
 
 all-have : (c : Call) → isUnlisted register c ≡ false → firstUnlisted register (c ∷ []) ≡ 1
@@ -249,7 +252,8 @@ module _ (s : List ℕ) (long : length s ≡ 2976) (within : ValuesWithin s 2976
         rows = filledRows (row 3 3600000000000 60000000 (negsuc 29999999) (pos 30000000) ∷ row 5 0 0 (negsuc 29999999) (negsuc 29999999) ∷ []);
       }
   unfolding
-      spare early stop isUnlisted isListed earnedMonth firstRefusedMember monthLines earnedGrains entryLine sharedMonth rowsOf rowOf
+      spare early stop isUnlisted isListed earnedMonth firstRefusedMember monthLines earnedGrains entryLimited entryLine sharedMonth rowsOf rowOf
+      ceiling ceilingInTurn bothSharings secondSharing limitedIsSound limitIsSound ceiledParts givenUp beyond paid positive
       grainsPlus grainsToFen sharingInTurn settled parts generatorsAmount userAmount gap lineIsSound apportion fenPerThousandth
   early-alone =
       settled-one early early-within 3600000000000 0 refl (live-three s) (live-five s)
@@ -267,7 +271,8 @@ module _ (s : List ℕ) (long : length s ≡ 2976) (within : ValuesWithin s 2976
         rows = filledRows (row 3 0 0 (pos 0) (pos 0) ∷ row 5 0 0 (pos 0) (pos 0) ∷ []);
       }
   unfolding
-      withdrawal stop isUnlisted isListed earnedMonth firstRefusedMember monthLines earnedGrains entryLine sharedMonth rowsOf rowOf
+      withdrawal stop isUnlisted isListed earnedMonth firstRefusedMember monthLines earnedGrains entryLimited entryLine sharedMonth rowsOf rowOf
+      ceiling ceilingInTurn bothSharings secondSharing limitedIsSound limitIsSound ceiledParts givenUp beyond paid positive
       grainsPlus grainsToFen sharingInTurn settled parts generatorsAmount userAmount gap lineIsSound apportion fenPerThousandth
   withdrawn-alone =
       settled-one withdrawal withdrawal-within 0 0 refl (gone-three s) (gone-five s)

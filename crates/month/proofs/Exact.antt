@@ -2,12 +2,12 @@
 use mathlib.Core.Path.{_≡_, refl, sym, ap, _∙_}
 use mathlib.Core.Bool.{Bool, true, false, cond, not, _&&_, _||_, true≢false}
 use mathlib.Core.List.{List, [], _∷_, map}
-use mathlib.Core.Logic.{_↔_}
+use mathlib.Core.Logic.{_↔_, inl, inr}
 use Prim.Native.Nat.{ℕ, zero, suc, _+_, _≤_, _<_}
 use native.Mathlib.Decide.{ℕ-discrete, decLt}
 use native.Mathlib.Omega.{arith}
-use borrow.Author.Tests.{eq-eqb, ne-eqb, eqb-false, ltb-true, le-ltb, not-true}
-use lib.Dec.{eqb, ltb}
+use borrow.Author.Tests.{eq-eqb, ne-eqb, eqb-false, ltb-true, le-ltb, le-leb, leb-true, not-true}
+use lib.Dec.{eqb, ltb, leb}
 use lib.ListN.{length, getD, take, length-take}
 use Rattle.call.specs.declared.Call.{Call}
 use Rattle.call.specs.Revising.{withdrawn}
@@ -30,10 +30,13 @@ use Rattle.score.proofs.First.{first-bad}
 use Rattle.book.proofs.Judged.{zero-accepted}
 use Rattle.score.proofs.Turns.{score-is}
 use Rattle.pay.proofs.Within.{line-of, of-line}
-use Rattle.share.specs.Sharing.{sharing, mostPart}
+use Rattle.share.specs.Sharing.{lineIsSound, mostPart}
 use Rattle.share.proofs.Bounds.{sound-from, sound-to}
+use Rattle.ceiling.specs.declared.Limit.{Limit}
+use Rattle.ceiling.specs.Ceiling.{mostLimit, limitIsSound, limitedIsSound}
+use Rattle.ceiling.specs.Verdict.{SoundLimit}
 use Rattle.register.specs.declared.Entry.{Entry}
-use Rattle.register.specs.Register.{blankEntry, entryIsSound, firstBadEntry}
+use Rattle.register.specs.Register.{blankEntry, entryLine, entryLimited, entryIsSound, firstBadEntry}
 use Rattle.register.proofs.Entries.{bad-le}
 use Rattle.month.specs.declared.Fault.the-variants.{InRegister, OfMember, OfRamping, InSharing}
 use Rattle.month.specs.declared.Fault.{Fault}
@@ -43,7 +46,7 @@ use Rattle.month.specs.declared.members.MemberEarned.{MemberEarned}
 use Rattle.month.specs.declared.members.MemberEarned.the-variants.{ScoreAndHours, NotScored, NotRamped}
 use Rattle.month.specs.Settling.{MonthGiven, isListed, isUnlisted, firstUnlisted, earnedWith, earnedGrains, firstRefusedMember, memberFault, monthRefused}
 use Rattle.month.specs.Settling.{sharedMonth, earnedMonth, settling}
-use Rattle.month.specs.Outcomes.{ownSeries, scoreOfLine, rampedOfLine, earnedIn, linesIn, sharedIn, statementOf, EntryWithin, AllWithin, FirstBadAt, RegisterWithin}
+use Rattle.month.specs.Outcomes.{ownSeries, scoreOfLine, rampedOfLine, earnedIn, limitedIn, sharedIn, statementOf, EntryWithin, AllWithin, FirstBadAt, RegisterWithin}
 use Rattle.month.specs.Outcomes.{RegisterAndBook, Without, Listed, AllListed, Scored, AllScored, MonthOutcome}
 use Rattle.month.specs.Outcomes.{bad-part, bad-entry, one-more, bad-book, without-line, bad-member, bad-ramping, not-shared, settled}
 use Rattle.month.proofs.Walking.{isBoth, length-earnings}
@@ -57,15 +60,33 @@ both true true h = (refl, refl)
 both true false h = absurd (true≢false (sym h))
 both false u h = absurd (true≢false (sym h))
 
+limit-from : (l : Limit) → limitIsSound l ≡ true → SoundLimit l
+unfolding limitIsSound
+limit-from l = go (l .none) refl
+  where
+    go : (t : Bool) → l .none ≡ t → (t || leb (l .fen .0) mostLimit) ≡ true → SoundLimit l
+    go true e h = inl e
+    go false e h = inr (leb-true (l .fen .0) mostLimit h)
+
+limit-to : (l : Limit) → SoundLimit l → limitIsSound l ≡ true
+unfolding limitIsSound
+limit-to l (inl e) = rw e refl
+limit-to l (inr h) = rw (le-leb (l .fen .0) mostLimit h) (any (l .none))
+  where
+    any : (t : Bool) → (t || true) ≡ true
+    any true = refl
+    any false = refl
+
 entry-from : (before : ℕ) (e : Entry) → entryIsSound before e ≡ true → EntryWithin before e
-unfolding entryIsSound
+unfolding entryIsSound entryLimited limitedIsSound
 entry-from before e h =
     let p = both (memberIsSound (e .member)) _ h in
-    record { member = line-of (e .member) (p .0); line = sound-from before _ (p .1) }
+    let q = both (lineIsSound before (entryLine e (record { 0 = 0 }))) _ (p .1) in
+    record { member = line-of (e .member) (p .0); line = sound-from before _ (q .0); limit = limit-from (e .limit) (q .1) }
 
 entry-to : (before : ℕ) (e : Entry) → EntryWithin before e → entryIsSound before e ≡ true
-unfolding entryIsSound
-entry-to before e w = rw (of-line (e .member) (w .member), sound-to before _ (w .line)) refl
+unfolding entryIsSound entryLimited limitedIsSound
+entry-to before e w = rw (of-line (e .member) (w .member), sound-to before _ (w .line), limit-to (e .limit) (w .limit)) refl
 
 all-from : (before : ℕ) (es : List Entry) → length es ≤ firstBadEntry before es → AllWithin before es
 all-from before [] h = tt
@@ -351,16 +372,16 @@ module _ (g : MonthGiven) where
       → monthRefused (OfRamping i (rampedOfLine g i .number) (rampedOfLine g i .place)) ≡ rest
   at-ramping i h e z some = at-fault i _ h e (sym (ramping-fault (ownOf i) (rampedOfLine g i) (earned-some _ _ _) i (sym (number-of i) ∙ z) some))
 
-  shared-on : length (g .entries) ≤ firstRefusedMember (earnedIn g) → rest ≡ sharedMonth (g .part) (g .book) (linesIn g) (map earnedGrains (earnedIn g)) (g .ramped) (sharedIn g)
+  shared-on : length (g .entries) ≤ firstRefusedMember (earnedIn g) → rest ≡ sharedMonth (g .part) (g .book) (limitedIn g) (map earnedGrains (earnedIn g)) (g .ramped) (sharedIn g)
   unfolding earnedMonth
   shared-on h = rw (le-ltb (firstRefusedMember (earnedIn g)) (length (earnedIn g)) (omega (arith, earned-long))) refl
 
   shared-no : (sharedIn g .number ≡ 0 → ⊥)
-      → sharedMonth (g .part) (g .book) (linesIn g) (map earnedGrains (earnedIn g)) (g .ramped) (sharedIn g) ≡ monthRefused (InSharing (sharedIn g .number) (sharedIn g .place))
+      → sharedMonth (g .part) (g .book) (limitedIn g) (map earnedGrains (earnedIn g)) (g .ramped) (sharedIn g) ≡ monthRefused (InSharing (sharedIn g .number) (sharedIn g .place))
   unfolding sharedMonth
   shared-no some = rw (ne-eqb (sharedIn g .number) 0 some) refl
 
-  shared-yes : sharedIn g .number ≡ 0 → sharedMonth (g .part) (g .book) (linesIn g) (map earnedGrains (earnedIn g)) (g .ramped) (sharedIn g) ≡ statementOf g
+  shared-yes : sharedIn g .number ≡ 0 → sharedMonth (g .part) (g .book) (limitedIn g) (map earnedGrains (earnedIn g)) (g .ramped) (sharedIn g) ≡ statementOf g
   unfolding sharedMonth
   shared-yes z = rw (eq-eqb (sharedIn g .number) 0 z) refl
 
@@ -391,7 +412,7 @@ module _ (g : MonthGiven) (fits : length (g .entries) ≤ g .count) where
       let e = first-without g (countAt (g .book)) (omega arith) (w .listed) (λ l. absurd (omega arith)) in
       listed g (w .front .register .part) (register-sound (w .front .register)) (book-none (w .front .book)) (countAt (g .book)) call refl call-is (omega arith)
 
-  at-sharing : AllScored g → settling g ≡ sharedMonth (g .part) (g .book) (linesIn g) (map earnedGrains (earnedIn g)) (g .ramped) (sharedIn g)
+  at-sharing : AllScored g → settling g ≡ sharedMonth (g .part) (g .book) (limitedIn g) (map earnedGrains (earnedIn g)) (g .ramped) (sharedIn g)
   at-sharing w =
       let e = first-refused g (length (g .entries)) (omega arith) (w .scored) (λ l. absurd (omega arith)) in
       sym (goes-on (w .front)) ∙ shared-on g (omega arith)

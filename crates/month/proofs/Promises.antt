@@ -1,12 +1,12 @@
 -- What a month's statement promises. Assumes nothing.
 use mathlib.Core.Path.{_≡_, refl, sym, ap, ap₂, _∙_}
-use mathlib.Core.Bool.{Bool}
+use mathlib.Core.Bool.{Bool, false}
 use mathlib.Core.List.{List, [], _∷_, _++_, map}
 use Prim.Native.Nat.{ℕ, zero, suc, _+_, _-_, _*_, _≤_, _<_}
 use native.Mathlib.Nat.{add-zero}
 use native.Mathlib.Omega.{arith}
 use lib.IntN.{ℤ, pos, natAbs, _+ℤ_, _-ℤ_}
-use lib.ListN.{length, getD, replicate}
+use lib.ListN.{length, getD, replicate, length-map}
 use Rattle.units.specs.declared.Grains.{Grains}
 use Rattle.units.specs.Money.{grainsToFen, grainsPlus, fenPerThousandth}
 use Rattle.book.specs.declared.Header.{Header}
@@ -21,24 +21,32 @@ use Rattle.score.specs.Scoring.{grainsEarned}
 use Rattle.score.proofs.Turns.{score-is}
 use Rattle.score.proofs.Exact.{fen-once}
 use Rattle.score.proofs.Most.{mostRamping, hours-fit}
-use Rattle.apportion.specs.Apportion.{apportion}
+use Rattle.apportion.proofs.Promises.{each-one}
 use Rattle.share.specs.declared.Line.{Line}
-use Rattle.share.specs.Sharing.{Part, partOf, parts, below, gap, generatorsAmount, weightOf, weights, SharingOutcome, sharing}
+use Rattle.share.specs.Sharing.{Part, below, weightOf, sharing}
 use Rattle.share.specs.Forms.{blankLine}
-use Rattle.share.proofs.Lines.{part-at}
-use Rattle.share.proofs.Outcomes.{taken-list, each-given, long-shares}
-use Rattle.share.proofs.Promises.{sumℤ, sum-last, gap-is, adds-to-gap, adds-to-zero}
+use Rattle.share.proofs.Lists.{getD-mapped}
+use Rattle.share.proofs.Promises.{sumℤ, SignOf, sum-last, gap-is, adds-to-gap, amount-is as shared-amount}
+use Rattle.ceiling.specs.declared.Limit.{Limit}
+use Rattle.ceiling.specs.declared.LimitedLine.{LimitedLine}
+use Rattle.ceiling.specs.Ceiling.{paid, positive, uncollectedOf, uncollectedSum, positives, givenUp, CeiledPart, ceiledBy, ceiledParts, CeilingOutcome, ceiling}
+use Rattle.ceiling.specs.Inner.{blankLimited}
+use Rattle.ceiling.proofs.Places.{length-uncollected}
+use Rattle.ceiling.proofs.PastFirst.{long-parts}
+use Rattle.ceiling.proofs.Outcomes.{taken-list, each-given}
+use Rattle.ceiling.proofs.NoLimits.{untouched, asBefore, no-limits}
+use Rattle.ceiling.proofs.Promises.{gap-kept, user-kept, share-kept, within-limit, adds-to-zero, amount-is as ceiling-amount, sign-kept as ceiling-sign}
 use Rattle.register.specs.declared.Entry.{Entry}
-use Rattle.register.specs.Register.{blankEntry, entryLine}
+use Rattle.register.specs.Register.{blankEntry, entryLine, entryLimited}
 use Rattle.month.specs.declared.Fault.the-variants.{NoFault}
 use Rattle.month.specs.declared.Ramped.{Ramped}
 use Rattle.month.specs.declared.Row.{Row}
 use Rattle.month.specs.declared.Statement.{Statement}
 use Rattle.month.specs.declared.members.MemberEarned.the-variants.{NotScored}
-use Rattle.month.specs.Settling.{MonthGiven, earnedGrains, rowOf, rowsOf, blankRow, filledRows, settling}
+use Rattle.month.specs.Settling.{MonthGiven, earnedGrains, rowOf, noPart, rowsOf, blankRow, filledRows, settling}
 use Rattle.month.proofs.Walking.{noGrains, length-earnings}
-use Rattle.month.specs.Outcomes.{ownSeries, scoreOfLine, rampedOfLine, earnedIn, linesIn, grainsIn}
-use Rattle.month.proofs.Accepted.{rowsSettled, passed, both-at, earned-at, with-both, noPart, length-in, settled-row, grains-at, line-in}
+use Rattle.month.specs.Outcomes.{ownSeries, scoreOfLine, rampedOfLine, earnedIn, limitedIn, linesIn, grainsIn, sharedIn, NoneLimited}
+use Rattle.month.proofs.Accepted.{rowsSettled, passed, both-at, earned-at, with-both, length-limited, length-in, settled-row, grains-at, limited-in, line-in}
 
 -- Two statements that the contract of `settle` allows are one.
 pub settle-determined : (g : MonthGiven) (r s : Statement) → r ≡ settling g → s ≡ settling g → r ≡ s
@@ -100,7 +108,7 @@ module _ (g : MonthGiven) (none : settling g .fault ≡ NoFault) where
   line-is i h =
       let row =
       settled-row g i (passed g none) h
-      ∙ ap (λ (l : Line). rowOf (below (linesIn g)) l (getD (grainsIn g) i noGrains) (rampedOfLine g i .hours) (getD (sharing (g .part) (linesIn g) .parts) i noPart)) (line-in g i h) in (
+      ∙ ap (λ (l : Line). rowOf (below (linesIn g)) l (getD (grainsIn g) i noGrains) (rampedOfLine g i .hours) (getD (sharedIn g .parts) i noPart)) (line-in g i h) in (
         ap (λ (r : Row). r .number) row,
         ap (λ (r : Row). r .hours) row,
         ap (λ (r : Row). r .energy) row,
@@ -110,7 +118,7 @@ module _ (g : MonthGiven) (none : settling g .fault ≡ NoFault) where
 
   -- There is a row for each entry, and no other.
   pub line-count : settling g .count ≡ length (g .entries)
-  line-count = ap (λ (s : Statement). s .count) (passed g none .is) ∙ length-in g
+  line-count = ap (λ (s : Statement). s .count) (passed g none .is) ∙ length-limited g
 
   -- Where the hours pay nothing, as where there is no file, they are the score's own grains and fen.
   pub compensation-alone : (i : ℕ) → i < length (g .entries) → rampedOfLine g i .grains .0 ≡ 0
@@ -123,20 +131,44 @@ module _ (g : MonthGiven) (none : settling g .fault ≡ NoFault) where
       c .3 ∙ ap grainsToFen same ∙ sym (fen-once (entryOfLine g i .member) (g .book) (ownSeries (g .series) (g .lengths) i)) in
       (ap (λ (n : ℕ). record { 0 = n }) same, ap (λ (n : ℕ). record { 0 = n }) fen)
 
-  -- Each amount is made of its own line: compensation less assessment, and the share.
+  -- the row of line i, and what it gets
+  row-is : (i : ℕ) → i < length (g .entries)
+      → rowOfLine g i ≡ rowOf (below (linesIn g)) (getD (limitedIn g) i blankLimited .line) (getD (grainsIn g) i noGrains) (rampedOfLine g i .hours) (getD (sharedIn g .parts) i noPart)
+  row-is i h =
+      settled-row g i (passed g none) h
+      ∙ ap (λ (l : Line). rowOf (below (linesIn g)) l (getD (grainsIn g) i noGrains) (rampedOfLine g i .hours) (getD (sharedIn g .parts) i noPart))
+      (getD-mapped (λ (l : LimitedLine). l .line) (limitedIn g) i blankLimited blankLine (omega (arith, length-limited g)))
+
+  -- Each amount is made of its own line: compensation less assessment, the share, what is not collected of it, less what it gives up.
   pub amount-is : (i : ℕ) → i < length (g .entries)
-      → rowOfLine g i .amount .0 ≡ pos (rowOfLine g i .compensation .0) -ℤ pos (rowOfLine g i .assessment .0 * fenPerThousandth) +ℤ rowOfLine g i .share .0
-  unfolding rowOf parts
+      → rowOfLine g i .amount .0
+      ≡ pos (rowOfLine g i .compensation .0) -ℤ pos (rowOfLine g i .assessment .0 * fenPerThousandth) +ℤ rowOfLine g i .share .0 +ℤ pos (rowOfLine g i .uncollected .0)
+      -ℤ pos (rowOfLine g i .given .0)
+  unfolding rowOf
   amount-is i h =
-      let p = passed g none in
-      let ls = linesIn g in
-      let ss = apportion (generatorsAmount (g .part) ls) (weights ls) in
-      let given : getD (sharing (g .part) ls .parts) i noPart ≡ partOf (below ls) (getD ls i blankLine) (getD ss i 0) =
-      ap (λ (o : SharingOutcome). getD (o .parts) i noPart) (taken-list (g .part) ls (p .shared) .is)
-      ∙ part-at (below ls) ls ss i blankLine noPart (long-shares (generatorsAmount (g .part) ls) ls) (omega (arith, length-in g)) in
-      let row : rowOfLine g i ≡ rowOf (below ls) (getD ls i blankLine) (getD (grainsIn g) i noGrains) (rampedOfLine g i .hours) (partOf (below ls) (getD ls i blankLine) (getD ss i 0)) =
-      settled-row g i p h ∙ ap (rowOf (below ls) (getD ls i blankLine) (getD (grainsIn g) i noGrains) (rampedOfLine g i .hours)) given in
-      rw row refl
+      rw (row-is i h) (ceiling-amount (g .part) (limitedIn g) (passed g none .shared) i blankLimited noPart (omega (arith, length-limited g)))
+
+  -- NO AMOUNT TAKES THE OPPOSITE SIGN: compensation less assessment and the share keep their sign, or come to zero.
+  pub sign-kept : (i : ℕ) → i < length (g .entries)
+      → SignOf (pos (rowOfLine g i .compensation .0) -ℤ pos (rowOfLine g i .assessment .0 * fenPerThousandth) +ℤ rowOfLine g i .share .0) (rowOfLine g i .amount .0)
+  unfolding rowOf
+  sign-kept i h =
+      let all = passed g none .shared in
+      let first = taken-list (g .part) (limitedIn g) all .first in
+      rw (
+        settled-row g i (passed g none) h,
+        share-kept (g .part) (limitedIn g) all i noPart (record { share = pos 0; amount = pos 0 }) (omega (arith, length-limited g)),
+        ← shared-amount (g .part) (linesIn g) first i blankLine (record { share = pos 0; amount = pos 0 }) (omega (arith, length-in g)),
+      )
+      (ceiling-sign (g .part) (limitedIn g) all i noPart (record { share = pos 0; amount = pos 0 }) (omega (arith, length-limited g)))
+
+  -- NOBODY PAYS MORE THAN ITS LIMIT: a line whose entry has one.
+  pub limit-kept : (i : ℕ) → i < length (g .entries) → entryOfLine g i .limit .none ≡ false → paid (rowOfLine g i .amount .0) ≤ entryOfLine g i .limit .fen .0
+  unfolding rowOf entryLimited
+  limit-kept i h some =
+      let own : getD (limitedIn g) i blankLimited .limit ≡ entryOfLine g i .limit = ap (λ (l : LimitedLine). l .limit) (limited-in g i h) in
+      rw (row-is i h, ← own)
+      (within-limit (g .part) (limitedIn g) (passed g none .shared) i blankLimited noPart (omega (arith, length-limited g)) (ap (λ (l : Limit). l .none) own ∙ some))
 
 -- What all get
 
@@ -145,8 +177,8 @@ blank-none f e zero = refl
 blank-none f e (suc k) = ap₂ _+ℤ_ e (blank-none f e k)
 
 -- a column of the rows, and the same of the parts
-sum-rows : (f : Row → ℤ) (h : Part → ℤ) (isBelow : Bool) → ((l : Line) (x : Grains) (n : ℕ) (p : Part) → f (rowOf isBelow l x n p) ≡ h p)
-    → (ls : List Line) (gs : List Grains) (rs : List Ramped) (ps : List Part) (zs : List Row) → length ps ≡ length ls → sumℤ (map f zs) ≡ pos 0
+sum-rows : (f : Row → ℤ) (h : CeiledPart → ℤ) (isBelow : Bool) → ((l : Line) (x : Grains) (n : ℕ) (p : CeiledPart) → f (rowOf isBelow l x n p) ≡ h p)
+    → (ls : List Line) (gs : List Grains) (rs : List Ramped) (ps : List CeiledPart) (zs : List Row) → length ps ≡ length ls → sumℤ (map f zs) ≡ pos 0
     → sumℤ (map f (rowsOf isBelow ls gs rs ps ++ zs)) ≡ sumℤ (map h ps)
 unfolding rowsOf
 sum-rows f h isBelow same [] gs rs [] zs e z = z
@@ -154,34 +186,87 @@ sum-rows f h isBelow same [] gs rs (p ∷ ps) zs e z = absurd (omega arith)
 sum-rows f h isBelow same (l ∷ ls) gs rs [] zs e z = absurd (omega arith)
 sum-rows f h isBelow same (l ∷ ls) gs rs (p ∷ ps) zs e z = ap₂ _+ℤ_ (same l _ _ p) (sum-rows f h isBelow same ls _ _ ps zs (omega arith) z)
 
+-- the shares are the first sharing's
+shares-by : (ps : List Part) (us gs : List ℕ) → length us ≡ length ps → length gs ≡ length ps → sumℤ (map (λ q. q .share) (ceiledBy ps us gs)) ≡ sumℤ (map (λ q. q .share) ps)
+shares-by [] us gs h k = refl
+shares-by (p ∷ ps) [] gs h k = absurd (omega arith)
+shares-by (p ∷ ps) (u ∷ us) [] h k = absurd (omega arith)
+shares-by (p ∷ ps) (u ∷ us) (g ∷ gs) h k = ap (λ (z : ℤ). p .share +ℤ z) (shares-by ps us gs (omega arith) (omega arith))
+
 module _ (g : MonthGiven) (none : settling g .fault ≡ NoFault) where
-  column : (f : Row → ℤ) (h : Part → ℤ) → f blankRow ≡ pos 0 → ((l : Line) (x : Grains) (n : ℕ) (p : Part) → f (rowOf (below (linesIn g)) l x n p) ≡ h p)
-      → sumℤ (map f (settling g .rows)) ≡ sumℤ (map h (sharing (g .part) (linesIn g) .parts))
+  each : length (sharedIn g .parts) ≡ length (limitedIn g)
+  unfolding ceiling
+  each = each-given (g .part) _ (length (limitedIn g)) (limitedIn g) (taken-list (g .part) (limitedIn g) (passed g none .shared))
+
+  column : (f : Row → ℤ) (h : CeiledPart → ℤ) → f blankRow ≡ pos 0 → ((l : Line) (x : Grains) (n : ℕ) (p : CeiledPart) → f (rowOf (below (linesIn g)) l x n p) ≡ h p)
+      → sumℤ (map f (settling g .rows)) ≡ sumℤ (map h (sharedIn g .parts))
   unfolding filledRows
   column f h blank same =
       let p = passed g none in
-      let ls = linesIn g in
-      let each = each-given (g .part) _ (length ls) ls (taken-list (g .part) ls (p .shared)) in
       ap (λ (s : Statement). sumℤ (map f (s .rows))) (p .is)
-      ∙ sum-rows f h (below ls) same ls (grainsIn g) (g .ramped) (sharing (g .part) ls .parts) _ each (blank-none f blank (64 - length (rowsSettled g)))
+      ∙ sum-rows f h (below (linesIn g)) same (linesIn g) (grainsIn g) (g .ramped) (sharedIn g .parts) _ (each ∙ length-limited g ∙ sym (length-in g))
+      (blank-none f blank (64 - length (rowsSettled g)))
 
   -- The amounts of a statement and the user's add up to zero.
   pub amounts-zero : sumℤ (map (λ r. r .amount .0) (settling g .rows)) +ℤ settling g .user .0 ≡ pos 0
   unfolding blankRow rowOf
   amounts-zero =
       let p = passed g none in
-      let o = sharing (g .part) (linesIn g) in
+      let o = sharedIn g in
       ap₂ _+ℤ_ (column (λ r. r .amount .0) (λ q. q .amount) refl (λ l x n q. refl)) (ap (λ (s : Statement). s .user .0) (p .is))
-      ∙ sym (sum-last (map (λ q. q .amount) (o .parts)) (o .user)) ∙ adds-to-zero (g .part) (linesIn g) (p .shared)
+      ∙ sym (sum-last (map (λ q. q .amount) (o .parts)) (o .user)) ∙ adds-to-zero (g .part) (limitedIn g) (p .shared)
+
+  shares-kept : sumℤ (map (λ q. q .share) (sharedIn g .parts)) ≡ sumℤ (map (λ q. q .share) (sharing (g .part) (linesIn g) .parts))
+  unfolding ceiling ceiledParts givenUp
+  shares-kept =
+      let t = taken-list (g .part) (limitedIn g) (passed g none .shared) in
+      let ps = sharing (g .part) (linesIn g) .parts in
+      let long : length ps ≡ length (limitedIn g) = long-parts (g .part) (linesIn g) (t .first) ∙ length-in g ∙ sym (length-limited g) in
+      ap (λ (o : CeilingOutcome). sumℤ (map (λ q. q .share) (o .parts))) (t .is)
+      ∙ shares-by ps (uncollectedOf (limitedIn g) ps) (givenUp (limitedIn g) ps) (length-uncollected (limitedIn g) ps long ∙ sym long)
+      (each-one (uncollectedSum (limitedIn g) ps) (positives ps) ∙ length-map ps (λ (p : Part). positive (p .amount)))
 
   -- Its shares and the user's amount add up to R.
   pub shares-gap : sumℤ (map (λ r. r .share .0) (settling g .rows)) +ℤ settling g .user .0 ≡ settling g .gap .0
   unfolding blankRow rowOf
   shares-gap =
       let p = passed g none in
-      ap₂ _+ℤ_ (column (λ r. r .share .0) (λ q. q .share) refl (λ l x n q. refl)) (ap (λ (s : Statement). s .user .0) (p .is))
-      ∙ adds-to-gap (g .part) (linesIn g) (p .shared)
-      ∙ sym (ap (λ (s : Statement). s .gap .0) (p .is) ∙ gap-is (g .part) (linesIn g) (p .shared))
+      let first = taken-list (g .part) (limitedIn g) (p .shared) .first in
+      ap₂ _+ℤ_ (column (λ r. r .share .0) (λ q. q .share) refl (λ l x n q. refl) ∙ shares-kept)
+      (ap (λ (s : Statement). s .user .0) (p .is) ∙ user-kept (g .part) (limitedIn g) (p .shared))
+      ∙ adds-to-gap (g .part) (linesIn g) first
+      ∙ sym (ap (λ (s : Statement). s .gap .0) (p .is) ∙ gap-kept (g .part) (limitedIn g) (p .shared) ∙ gap-is (g .part) (linesIn g) first)
+
+-- A register without limits
+
+-- Where no entry has a limit the lines are shared as without limits: the same refusal, or the same R, user's amount, shares and amounts;
+pub shared-as-before : (g : MonthGiven) → NoneLimited g → sharedIn g ≡ asBefore (sharing (g .part) (linesIn g))
+unfolding entryLimited
+shared-as-before g free =
+    no-limits (g .part) (limitedIn g)
+    (λ k h. let l : k < length (g .entries) = omega (arith, length-limited g) in ap (λ (x : LimitedLine). x .limit .none) (limited-in g k l) ∙ free k l)
+
+-- and of each row all is collected, and nothing is given up.
+pub row-as-before : (g : MonthGiven) → settling g .fault ≡ NoFault → NoneLimited g → (i : ℕ) (p : Part) → i < length (g .entries)
+    → (rowOfLine g i .uncollected .0 ≡ 0)
+    × (rowOfLine g i .given .0 ≡ 0)
+    × (rowOfLine g i .share .0 ≡ getD (sharing (g .part) (linesIn g) .parts) i p .share)
+    × (rowOfLine g i .amount .0 ≡ getD (sharing (g .part) (linesIn g) .parts) i p .amount)
+unfolding rowOf
+row-as-before g none free i p h =
+    let ps = sharing (g .part) (linesIn g) .parts in
+    let first = taken-list (g .part) (limitedIn g) (passed g none .shared) .first in
+    let gets =
+    ap (λ (o : CeilingOutcome). getD (o .parts) i noPart) (shared-as-before g free)
+    ∙ getD-mapped (λ q. untouched q) (sharing (g .part) (linesIn g) .parts) i p noPart (omega (arith, long-parts (g .part) (linesIn g) first, length-in g)) in
+    let row =
+    settled-row g i (passed g none) h
+    ∙ ap (rowOf (below (linesIn g)) (getD (linesIn g) i blankLine) (getD (grainsIn g) i noGrains) (rampedOfLine g i .hours)) gets in (
+      ap (λ (r : Row). r .uncollected .0) row,
+      ap (λ (r : Row). r .given .0) row,
+      ap (λ (r : Row). r .share .0) row,
+      ap (λ (r : Row). r .amount .0) row,
+    )
 
 -- What the book decides
 

@@ -10,7 +10,7 @@ use borrow.Author.Tests.{eq-eqb, ne-eqb, lt-ltb, le-ltb}
 use lib.Dec.{ltb}
 use lib.IntN.{ℤ, pos, _-ℤ_}
 use lib.Signed.{ltZ}
-use lib.ListN.{length, getD, take, length-map, length-take}
+use lib.ListN.{length, getD, take, length-take}
 use lib.Seq.{length-take-le, take-all}
 use Rattle.units.specs.declared.Fen.{Fen}
 use Rattle.units.specs.declared.Grains.{Grains}
@@ -19,25 +19,26 @@ use Rattle.book.specs.declared.Verdict.{Verdict}
 use Rattle.book.specs.Book.{headerAt, countAt, callsFrom, callsOf}
 use Rattle.book.specs.Check.{check}
 use Rattle.share.specs.declared.Line.{Line}
-use Rattle.share.specs.declared.Shared.{Shared}
-use Rattle.share.specs.Sharing.{Part, below, gap, assessed, compensated, firstBadLine, sharing, mostNumber, mostPart}
-use Rattle.share.specs.Forms.{filled, fillIn, cleared, clear, arrayOf, sharedArray}
+use Rattle.share.specs.Sharing.{below, gap, assessed, compensated, sharing, mostPart}
 use Rattle.share.specs.Limits.{LineWithin, LinesWithin, CountedWithin}
-use Rattle.share.proofs.Lists.{getD-mapped}
-use Rattle.share.proofs.Lines.{fill-at, length-filled}
-use Rattle.share.proofs.Counted.{counted-few}
 use Rattle.share.proofs.Cases.{bad-of-64}
 use Rattle.share.proofs.Bounds.{all-within}
 use Rattle.share.proofs.Signs.{diff-up, diff-down}
-use Rattle.share.proofs.Outcomes.{Taken, taken-list, each-given}
+use Rattle.share.proofs.Outcomes.{taken-list as shared-list}
 use Rattle.share.proofs.Promises.{gap-is}
+use Rattle.ceiling.specs.declared.LimitedLine.{LimitedLine}
+use Rattle.ceiling.specs.declared.Ceiled.{Ceiled}
+use Rattle.ceiling.specs.Ceiling.{CeiledPart, plainLines, ceiling}
+use Rattle.ceiling.specs.Forms.{ceiledLine, ceiledLines, clearedLine, clearedLines, ceiledOf, ceiledArray}
+use Rattle.ceiling.proofs.Outcomes.{taken-list, each-given}
+use Rattle.ceiling.proofs.Promises.{gap-kept}
 use Rattle.month.specs.declared.Ramped.{Ramped}
 use Rattle.month.specs.declared.Row.{Row}
 use Rattle.month.specs.declared.Statement.{Statement}
 use Rattle.month.specs.declared.members.MemberEarned.{MemberEarned}
 use Rattle.month.specs.declared.members.MemberEarned.the-variants.{NotScored}
 use Rattle.register.specs.declared.Entry.{Entry}
-use Rattle.register.specs.Register.{firstBadEntry, linesFor}
+use Rattle.register.specs.Register.{firstBadEntry, limitedFor}
 use Rattle.register.proofs.Entries.{bad-le, take-lines}
 use Rattle.month.specs.declared.Fault.{Fault}
 use Rattle.month.specs.declared.Fault.the-variants.{NoFault, InPart, InRegister, InBook, Unlisted, InSharing}
@@ -57,114 +58,124 @@ below-is a c = go (decLt a c)
         let k : c ≤ a = omega arith in
         rw (diff-up a c k, le-ltb a c k) (le-ltb (a - c) 0 (omega arith))
 
--- the first lines of an array that is filled in
-take-clear : (n : ℕ) (ls : List Line) → take n (clear ls) ≡ clear (take n ls)
-take-clear zero ls = refl
-take-clear (suc n) [] = refl
-take-clear (suc n) (l ∷ ls) = ap (λ (x : List Line). cleared l ∷ x) (take-clear n ls)
-
-take-fill : (n : ℕ) (ps : List Part) (ls : List Line) → length ps ≤ n → take n (fillIn ps ls) ≡ fillIn ps (take n ls)
-take-fill n [] ls h = refl
-take-fill zero (p ∷ ps) ls h = absurd (omega arith)
-take-fill (suc n) (p ∷ ps) [] h = refl
-take-fill (suc n) (p ∷ ps) (l ∷ ls) h = ap (λ (x : List Line). filled l p ∷ x) (take-fill n ps ls (omega arith))
-
--- filling a line leaves its limits
-within-filled : (ps : List Part) (ls : List Line) → length ps ≡ length ls → LinesWithin ls → LinesWithin (fillIn ps (clear ls))
-within-filled ps ls e w i d h =
-    let long = length-filled ps ls in
-    let l = getD ls i d in
-    let p : Part = record { share = pos 0; amount = pos 0 } in
-    let c : getD (clear ls) i d ≡ cleared l = getD-mapped (λ x. cleared x) ls i d d (omega arith) in
-    let long₂ = length-map ls (λ x. cleared x) in
-    let is : getD (fillIn ps (clear ls)) i d ≡ filled l (getD ps i p) = fill-at ps (clear ls) i d p (omega arith) (omega arith) ∙ ap (λ (x : Line). filled x (getD ps i p)) c in
-    let k = w i d (omega arith) in
-    subst LineWithin (sym is) (record { energy = k .energy; compensation = k .compensation; assessment = k .assessment })
-
--- The sharing of the first lines of an array
-module _ (part : ℕ) (book : List ℕ) (lines : List Line) (grains : List Grains) (ramped : List Ramped) (count : ℕ) (h : count ≤ 64) (long : length lines ≡ 64)
-    (s : Shared) (is : s ≡ sharedArray part lines count) where
-  abbrev ls : List Line
-  ls = take count lines
-
-  array-is : s ≡ arrayOf lines (sharing part ls)
-  unfolding sharedArray
-  array-is = is ∙ ap (arrayOf lines) (counted-few part lines count (omega arith))
-
-  length-ls : length ls ≡ count
-  length-ls = length-take-le count lines (omega arith)
-
-  number-is : s .number ≡ sharing part ls .number
-  number-is = ap (λ (x : Shared). x .number) array-is
-
-  pub shared-refused : (s .number ≡ 0 → ⊥) → monthRefused (InSharing (s .number) (s .place)) ≡ sharedMonth part book ls (take count grains) ramped (sharing part ls)
-  unfolding sharedMonth
-  shared-refused some =
-      rw (number-is, ap (λ (x : Shared). x .place) array-is, ne-eqb (sharing part ls .number) 0 (λ e. some (number-is ∙ e))) refl
-
-  module _ (none : s .number ≡ 0) where
-    none-told : sharing part ls .number ≡ 0
-    none-told = sym number-is ∙ none
-
-    taken : Taken part (firstBadLine 0 (take mostNumber ls)) (length ls) ls
-    taken = taken-list part ls none-told
-
-    each : length (sharing part ls .parts) ≡ length ls
-    each = each-given part _ (length ls) ls taken
-
-    lines-are : take count (s .lines) ≡ fillIn (sharing part ls .parts) (clear ls)
-    lines-are =
-        ap (λ (x : Shared). take count (x .lines)) array-is
-        ∙ take-fill count (sharing part ls .parts) (clear lines) (omega (arith, each, length-ls))
-        ∙ ap (fillIn (sharing part ls .parts)) (take-clear count lines)
-
-    pub shared-within : CountedWithin (s .lines) count
-    shared-within =
-        let bad = bad-of-64 ls in
-        (h, subst LinesWithin (sym lines-are) (within-filled (sharing part ls .parts) ls each (all-within 0 ls (omega (arith, taken .sound, bad .0)))))
-
-    gap-told : s .gap .0 ≡ gap ls
-    gap-told = ap (λ (x : Shared). x .gap .0) array-is ∙ gap-is part ls none-told
-
-    below-told : ltZ (s .gap .0) (pos 0) ≡ below ls
-    unfolding gap
-    below-told = ap (λ (z : ℤ). ltZ z (pos 0)) gap-told ∙ below-is (assessed ls) (compensated ls)
-
-    pub shared-is : (header : Header) (calls : ℕ) (negative : Bool) (rows : List Row) → header ≡ headerAt book → calls ≡ countAt book
-        → negative ≡ ltZ (s .gap .0) (pos 0) → rows ≡ filledRows (rowsIn negative (take count (s .lines)) (take count grains) ramped)
-        → _≡_ {A = Statement}
-        (record { fault = NoFault; header = header; calls = calls; part = part; gap = s .gap; user = s .user; count = count; rows = rows })
-        (sharedMonth part book ls (take count grains) ramped (sharing part ls))
-    unfolding sharedMonth
-    shared-is header calls negative rows eh ec en er =
-        let all : rows ≡ filledRows (rowsOf (below ls) ls (take count grains) ramped (sharing part ls .parts)) =
-        er ∙ rw (en, below-told, lines-are) (ap filledRows (rows-filled (below ls) ls (take count grains) ramped (sharing part ls .parts) each)) in
-        let g : s .gap .0 ≡ sharing part ls .gap = ap (λ (x : Shared). x .gap .0) array-is in
-        let u : s .user .0 ≡ sharing part ls .user = ap (λ (x : Shared). x .user .0) array-is in
-        rw (eq-eqb (sharing part ls .number) 0 none-told)
-        (λ i. record { fault = NoFault; header = eh i; calls = ec i; part = part; gap = record { 0 = g i }; user = record { 0 = u i }; count = sym length-ls i; rows = all i })
-
--- The members
-
+-- the first lines of an array
 module _ {A B : Type 0} (f : A → B) where
   pub take-map : (n : ℕ) (xs : List A) → take n (map f xs) ≡ map f (take n xs)
   take-map zero xs = refl
   take-map (suc n) [] = refl
   take-map (suc n) (x ∷ xs) = ap (λ (ys : List B). f x ∷ ys) (take-map n xs)
 
+take-ceiled : (n : ℕ) (ps : List CeiledPart) (ls : List LimitedLine) → length ps ≤ n → take n (ceiledLines ps ls) ≡ ceiledLines ps (take n ls)
+take-ceiled n [] ls h = refl
+take-ceiled zero (p ∷ ps) ls h = absurd (omega arith)
+take-ceiled (suc n) (p ∷ ps) [] h = refl
+take-ceiled (suc n) (p ∷ ps) (l ∷ ls) h = ap (λ (x : List LimitedLine). ceiledLine l p ∷ x) (take-ceiled n ps ls (omega arith))
+
+-- filling a line in leaves it within its bounds
+within-cleared : (ls : List LimitedLine) → LinesWithin (plainLines ls) → (i : ℕ) (d : Line) → i < length (plainLines (clearedLines ls))
+    → LineWithin (getD (plainLines (clearedLines ls)) i d)
+within-cleared [] w i d h = absurd (omega arith)
+within-cleared (l ∷ ls) w zero d h =
+    let k = w 0 d (omega arith) in
+    record { energy = k .energy; compensation = k .compensation; assessment = k .assessment }
+within-cleared (l ∷ ls) w (suc i) d h = within-cleared ls (λ j e m. w (suc j) e (omega arith)) i d (omega arith)
+
+within-ceiled : (ps : List CeiledPart) (ls : List LimitedLine) → LinesWithin (plainLines ls) → (i : ℕ) (d : Line) → i < length (plainLines (ceiledLines ps ls))
+    → LineWithin (getD (plainLines (ceiledLines ps ls)) i d)
+within-ceiled [] ls w i d h = w i d h
+within-ceiled (p ∷ ps) [] w i d h = w i d h
+within-ceiled (p ∷ ps) (l ∷ ls) w zero d h =
+    let k = w 0 d (omega arith) in
+    record { energy = k .energy; compensation = k .compensation; assessment = k .assessment }
+within-ceiled (p ∷ ps) (l ∷ ls) w (suc i) d h = within-ceiled ps ls (λ j e m. w (suc j) e (omega arith)) i d (omega arith)
+
+-- The sharing of the first lines of an array
+module _ (part : ℕ) (book : List ℕ) (lines : List LimitedLine) (grains : List Grains) (ramped : List Ramped) (count : ℕ) (h : count ≤ 64) (long : length lines ≡ 64)
+    (s : Ceiled) (is : s ≡ ceiledArray part lines count) where
+  abbrev ls : List LimitedLine
+  ls = take count lines
+
+  length-ls : length ls ≡ count
+  length-ls = length-take-le count lines (omega arith)
+
+  array-is : s ≡ ceiledOf lines (ceiling part ls)
+  unfolding ceiledArray ceiling
+  array-is = is ∙ rw (length-ls, take-all 64 ls (omega (arith, length-ls))) refl
+
+  number-is : s .number ≡ ceiling part ls .number
+  number-is = ap (λ (x : Ceiled). x .number) array-is
+
+  pub shared-refused : (s .number ≡ 0 → ⊥) → monthRefused (InSharing (s .number) (s .place)) ≡ sharedMonth part book ls (take count grains) ramped (ceiling part ls)
+  unfolding sharedMonth
+  shared-refused some =
+      rw (number-is, ap (λ (x : Ceiled). x .place) array-is, ne-eqb (ceiling part ls .number) 0 (λ e. some (number-is ∙ e))) refl
+
+  module _ (none : s .number ≡ 0) where
+    none-told : ceiling part ls .number ≡ 0
+    none-told = sym number-is ∙ none
+
+    -- the first sharing was accepted
+    first-told : sharing part (plainLines ls) .number ≡ 0
+    first-told = taken-list part ls none-told .first
+
+    each : length (ceiling part ls .parts) ≡ length ls
+    unfolding ceiling
+    each = each-given part _ (length ls) ls (taken-list part ls none-told)
+
+    lines-are : take count (s .lines) ≡ ceiledLines (ceiling part ls .parts) (clearedLines ls)
+    lines-are =
+        ap (λ (x : Ceiled). take count (x .lines)) array-is
+        ∙ take-ceiled count (ceiling part ls .parts) (clearedLines lines) (omega (arith, each, length-ls))
+        ∙ ap (ceiledLines (ceiling part ls .parts)) (take-map (λ l. clearedLine l) count lines)
+
+    sound-within : LinesWithin (plainLines ls)
+    sound-within =
+        let bad = bad-of-64 (plainLines ls) in
+        all-within 0 (plainLines ls) (omega (arith, shared-list part (plainLines ls) first-told .sound, bad .0))
+
+    pub shared-within : CountedWithin (plainLines (s .lines)) count
+    shared-within = (
+      h,
+      subst LinesWithin (sym (take-map (λ l. l .line) count (s .lines) ∙ ap (λ (x : List LimitedLine). plainLines x) lines-are))
+          (within-ceiled (ceiling part ls .parts) (clearedLines ls) (within-cleared ls sound-within)),
+    )
+
+    gap-told : s .gap .0 ≡ gap (plainLines ls)
+    gap-told = ap (λ (x : Ceiled). x .gap .0) array-is ∙ gap-kept part ls none-told ∙ gap-is part (plainLines ls) first-told
+
+    below-told : ltZ (s .gap .0) (pos 0) ≡ below (plainLines ls)
+    unfolding gap
+    below-told = ap (λ (z : ℤ). ltZ z (pos 0)) gap-told ∙ below-is (assessed (plainLines ls)) (compensated (plainLines ls))
+
+    pub shared-is : (header : Header) (calls : ℕ) (negative : Bool) (rows : List Row) → header ≡ headerAt book → calls ≡ countAt book
+        → negative ≡ ltZ (s .gap .0) (pos 0) → rows ≡ filledRows (rowsIn negative (take count (s .lines)) (take count grains) ramped)
+        → _≡_ {A = Statement}
+        (record { fault = NoFault; header = header; calls = calls; part = part; gap = s .gap; user = s .user; count = count; rows = rows })
+        (sharedMonth part book ls (take count grains) ramped (ceiling part ls))
+    unfolding sharedMonth
+    shared-is header calls negative rows eh ec en er =
+        let all : rows ≡ filledRows (rowsOf (below (plainLines ls)) (plainLines ls) (take count grains) ramped (ceiling part ls .parts)) =
+        er ∙ rw (en, below-told, lines-are) (ap filledRows (rows-filled (below (plainLines ls)) ls (take count grains) ramped (ceiling part ls .parts) each)) in
+        let g : s .gap .0 ≡ ceiling part ls .gap = ap (λ (x : Ceiled). x .gap .0) array-is in
+        let u : s .user .0 ≡ ceiling part ls .user = ap (λ (x : Ceiled). x .user .0) array-is in
+        rw (eq-eqb (ceiling part ls .number) 0 none-told)
+        (λ i. record { fault = NoFault; header = eh i; calls = ec i; part = part; gap = record { 0 = g i }; user = record { 0 = u i }; count = sym length-ls i; rows = all i })
+
+-- The members
+
 pub earned-refused : (part : ℕ) (es : List Entry) (book : List ℕ) (ramped : List Ramped) (earned : List MemberEarned) (fault : Fault) → firstRefusedMember earned < length earned
     → fault ≡ memberFault (firstRefusedMember earned) (getD earned (firstRefusedMember earned) (NotScored 0 0)) → monthRefused fault ≡ earnedMonth part es book ramped earned
 unfolding earnedMonth
 earned-refused part es book ramped earned fault h e = rw (lt-ltb _ _ h, e) refl
 
-pub earned-shared : (part : ℕ) (entries : List Entry) (book : List ℕ) (ramped : List Ramped) (earned : List MemberEarned) (count : ℕ) (grains : List Grains) (fens : List Fen) (lines : List Line)
-    → firstRefusedMember earned ≡ length earned → take count grains ≡ map earnedGrains earned → fens ≡ compensations grains → lines ≡ linesFor entries fens
-    → sharedMonth part book (take count lines) (take count grains) ramped (sharing part (take count lines)) ≡ earnedMonth part (take count entries) book ramped earned
+pub earned-shared : (part : ℕ) (entries : List Entry) (book : List ℕ) (ramped : List Ramped) (earned : List MemberEarned) (count : ℕ)
+    → (grains : List Grains) (fens : List Fen) (lines : List LimitedLine) → firstRefusedMember earned ≡ length earned → take count grains ≡ map earnedGrains earned → fens ≡ compensations grains → lines ≡ limitedFor entries fens
+    → sharedMonth part book (take count lines) (take count grains) ramped (ceiling part (take count lines)) ≡ earnedMonth part (take count entries) book ramped earned
 unfolding earnedMonth monthLines
 earned-shared part entries book ramped earned count grains fens lines none eg ef el =
-    let all : take count lines ≡ linesFor (take count entries) (compensations (map earnedGrains earned)) =
+    let all : take count lines ≡ limitedFor (take count entries) (compensations (map earnedGrains earned)) =
     ap (take count) el ∙ take-lines count entries fens
-    ∙ ap (linesFor (take count entries)) (ap (take count) ef ∙ take-map fenOf count grains ∙ ap compensations eg) in
+    ∙ ap (limitedFor (take count entries)) (ap (take count) ef ∙ take-map fenOf count grains ∙ ap compensations eg) in
     rw (le-ltb (firstRefusedMember earned) (length earned) (omega arith), eg, all) refl
 
 -- The month

@@ -8,9 +8,10 @@ use lib.IntN.{pos}
 use lib.ListN.{length, getD, take, drop, replicate}
 use lib.Seq.{getD-drop, getD-take, length-take-le, take-all}
 use Rattle.units.specs.declared.Grains.{Grains}
-use Rattle.share.specs.declared.Line.{Line}
-use Rattle.share.specs.Sharing.{Part}
-use Rattle.share.specs.Forms.{blankLine, fillIn, clear}
+use Rattle.ceiling.specs.declared.LimitedLine.{LimitedLine}
+use Rattle.ceiling.specs.Ceiling.{CeiledPart, plainLines}
+use Rattle.ceiling.specs.Forms.{ceiledLines, clearedLines}
+use Rattle.ceiling.specs.Inner.{blankLimited}
 use Rattle.apportion.proofs.Loops.{over}
 use Rattle.month.specs.declared.Ramped.{Ramped}
 use Rattle.month.specs.declared.Row.{Row}
@@ -20,7 +21,7 @@ use Rattle.month.specs.Settling.{noRamping, rowOf, rowsOf, blankRow, fil
 use Rattle.month.specs.Inner.{rowIn, rowsIn}
 use Rattle.month.proofs.Walking.{noGrains}
 
-pub length-rows : (isBelow : Bool) (ls : List Line) (gs : List Grains) (rs : List Ramped) → length (rowsIn isBelow ls gs rs) ≡ length ls
+pub length-rows : (isBelow : Bool) (ls : List LimitedLine) (gs : List Grains) (rs : List Ramped) → length (rowsIn isBelow ls gs rs) ≡ length ls
 unfolding rowsIn
 length-rows isBelow [] gs rs = refl
 length-rows isBelow (l ∷ ls) gs rs = ap suc (length-rows isBelow ls (drop 1 gs) (drop 1 rs))
@@ -30,8 +31,8 @@ pub next-of : {A : Type 0} (xs : List A) (i : ℕ) (z : A) → getD (drop 1 xs) 
 next-of [] i z = refl
 next-of (x ∷ xs) i z = refl
 
-pub row-at : (isBelow : Bool) (ls : List Line) (gs : List Grains) (rs : List Ramped) (i : ℕ) (d : Row) → i < length ls
-    → getD (rowsIn isBelow ls gs rs) i d ≡ rowIn isBelow (getD ls i blankLine) (getD gs i noGrains) (getD rs i noRamping .hours)
+pub row-at : (isBelow : Bool) (ls : List LimitedLine) (gs : List Grains) (rs : List Ramped) (i : ℕ) (d : Row) → i < length ls
+    → getD (rowsIn isBelow ls gs rs) i d ≡ rowIn isBelow (getD ls i blankLimited) (getD gs i noGrains) (getD rs i noRamping .hours)
 unfolding rowsIn
 row-at isBelow [] gs rs i d h = absurd (omega arith)
 row-at isBelow (l ∷ ls) gs rs zero d h = refl
@@ -48,17 +49,17 @@ drop-blank (suc i) (suc n) r =
     let e : suc n - suc i ≡ n - i = omega arith in
     rw e (drop-blank i n r)
 
-module _ (isBelow : Bool) (lines : List Line) (grains : List Grains) (ramped : List Ramped) (count : ℕ) (h : count ≤ length lines) where
+module _ (isBelow : Bool) (lines : List LimitedLine) (grains : List Grains) (ramped : List Ramped) (count : ℕ) (h : count ≤ length lines) where
   abbrev rows : List Row
   rows = rowsIn isBelow (take count lines) (take count grains) ramped
 
   pub length-counted : length rows ≡ count
   length-counted = length-rows isBelow (take count lines) (take count grains) ramped ∙ length-take-le count lines h
 
-  pub row-counted : (i : ℕ) (d : Row) → i < count → getD rows i d ≡ rowIn isBelow (getD lines i blankLine) (getD grains i noGrains) (getD ramped i noRamping .hours)
+  pub row-counted : (i : ℕ) (d : Row) → i < count → getD rows i d ≡ rowIn isBelow (getD lines i blankLimited) (getD grains i noGrains) (getD ramped i noRamping .hours)
   row-counted i d l =
       let long = length-take-le count lines h in
-      row-at isBelow (take count lines) (take count grains) ramped i d (omega arith) ∙ rw (getD-take count lines i blankLine l, getD-take count grains i noGrains l) refl
+      row-at isBelow (take count lines) (take count grains) ramped i d (omega arith) ∙ rw (getD-take count lines i blankLimited l, getD-take count grains i noGrains l) refl
 
   -- all are written over blank ones
   pub rows-done : (out : List Row) (i : ℕ) → i ≡ count → out ≡ over (replicate 64 blankRow) rows i → out ≡ filledRows rows
@@ -85,11 +86,11 @@ unfolding monthRefused filledRows
 refused-is fault rows e = rw e refl
 
 -- the rows of lines and their parts are those of the lines filled in
-pub rows-filled : (isBelow : Bool) (ls : List Line) (gs : List Grains) (rs : List Ramped) (ps : List Part) → length ps ≡ length ls
-    → rowsIn isBelow (fillIn ps (clear ls)) gs rs ≡ rowsOf isBelow ls gs rs ps
+pub rows-filled : (isBelow : Bool) (ls : List LimitedLine) (gs : List Grains) (rs : List Ramped) (ps : List CeiledPart) → length ps ≡ length ls
+    → rowsIn isBelow (ceiledLines ps (clearedLines ls)) gs rs ≡ rowsOf isBelow (plainLines ls) gs rs ps
 unfolding rowsIn rowsOf rowIn rowOf
 rows-filled isBelow [] gs rs [] h = refl
 rows-filled isBelow [] gs rs (p ∷ ps) h = absurd (omega arith)
 rows-filled isBelow (l ∷ ls) gs rs [] h = absurd (omega arith)
 rows-filled isBelow (l ∷ ls) gs rs (p ∷ ps) h =
-    ap (λ (xs : List Row). rowOf isBelow l (getD gs 0 noGrains) (getD rs 0 noRamping .hours) p ∷ xs) (rows-filled isBelow ls (drop 1 gs) (drop 1 rs) ps (omega arith))
+    ap (λ (xs : List Row). rowOf isBelow (l .line) (getD gs 0 noGrains) (getD rs 0 noRamping .hours) p ∷ xs) (rows-filled isBelow ls (drop 1 gs) (drop 1 rs) ps (omega arith))

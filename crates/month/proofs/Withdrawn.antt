@@ -27,8 +27,9 @@ use Rattle.score.specs.declared.answer.Earned.the-variants.{Accepted, Refused}
 use Rattle.score.specs.Scoring.{grainsEarned}
 use Rattle.score.specs.Lowered.{lowerPlace, isOfRecord, loweredEarned}
 use Rattle.score.proofs.Withdrawn.{withdrawn-nobody}
-use Rattle.share.specs.declared.Line.{Line}
-use Rattle.share.specs.Sharing.{SharingOutcome, sharing, mostPart}
+use Rattle.share.specs.Sharing.{mostPart}
+use Rattle.ceiling.specs.declared.LimitedLine.{LimitedLine}
+use Rattle.ceiling.specs.Ceiling.{CeilingOutcome, ceiling}
 use Rattle.register.specs.declared.Entry.{Entry}
 use Rattle.register.specs.Register.{firstBadEntry}
 use Rattle.month.specs.declared.Ramped.{Ramped}
@@ -192,7 +193,7 @@ module _ (j : ℕ) where
   refused-lowered f = refl
 
   module _ (part : ℕ) (b b′ : List ℕ) (header : headerAt b′ ≡ headerAt b) (count : countAt b′ ≡ countAt b - 1) where
-    shared-lowered : (ls : List Line) (gs : List Grains) (rs : List Ramped) (o : SharingOutcome) → sharedMonth part b′ ls gs rs o ≡ loweredStatement j (sharedMonth part b ls gs rs o)
+    shared-lowered : (ls : List LimitedLine) (gs : List Grains) (rs : List Ramped) (o : CeilingOutcome) → sharedMonth part b′ ls gs rs o ≡ loweredStatement j (sharedMonth part b ls gs rs o)
     unfolding sharedMonth loweredStatement loweredFault monthRefused
     shared-lowered ls gs rs o = go (ℕ-discrete (o .number) 0)
       where
@@ -213,7 +214,7 @@ module _ (j : ℕ) where
             (ap monthRefused (fault-lowered f (getD earned f (NotScored 0 0))) ∙ refused-lowered (memberFault f (getD earned f (NotScored 0 0))))
         go (no l) =
             rw (first-same earned, length-map earned (loweredTurn j), grains-same earned, le-ltb f (length earned) (omega arith))
-            (shared-lowered (monthLines es earned) (map earnedGrains earned) rs (sharing part (monthLines es earned)))
+            (shared-lowered (monthLines es earned) (map earnedGrains earned) rs (ceiling part (monthLines es earned)))
 
 -- The month
 

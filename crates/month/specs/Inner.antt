@@ -5,7 +5,8 @@ use mathlib.Core.List.{List, [], _∷_, map}
 use Prim.Native.Nat.{ℕ, _<_}
 use lib.ListN.{length, getD, take, drop}
 use Rattle.units.specs.declared.Grains.{Grains}
-use Rattle.share.specs.declared.Line.{Line}
+use Rattle.ceiling.specs.declared.LimitedLine.{LimitedLine}
+use Rattle.ceiling.specs.Ceiling.{CeiledPart}
 use Rattle.month.specs.declared.Ramped.{Ramped}
 use Rattle.month.specs.declared.Row.{Row}
 use Rattle.month.specs.declared.members.MemberEarned.{MemberEarned}
@@ -19,11 +20,15 @@ pub record MembersEarned (earned : List MemberEarned) (count : ℕ) (r : Members
       → (firstRefusedMember earned < length earned) × (r .fault ≡ memberFault (firstRefusedMember earned) (getD earned (firstRefusedMember earned) (NotScored 0 0)))
   pub each : r .refused ≡ false → (firstRefusedMember earned ≡ length earned) × (take count (r .grains) ≡ map earnedGrains earned)
 
--- the row of a line that is filled in
-unfoldable pub rowIn : Bool → Line → Grains → ℕ → Row
-rowIn isBelow l grains hours = rowOf isBelow l grains hours (record { share = l .share .0; amount = l .amount .0 })
+-- what a line got that is filled in
+abbrev pub gotIn : LimitedLine → CeiledPart
+gotIn l = record { share = l .line .share .0; amount = l .line .amount .0; uncollected = l .uncollected .0; given = l .given .0 }
+
+-- the row of such a line
+unfoldable pub rowIn : Bool → LimitedLine → Grains → ℕ → Row
+rowIn isBelow l grains hours = rowOf isBelow (l .line) grains hours (gotIn l)
 
 -- the rows of such lines
-unfoldable pub rowsIn : Bool → List Line → List Grains → List Ramped → List Row
+unfoldable pub rowsIn : Bool → List LimitedLine → List Grains → List Ramped → List Row
 rowsIn isBelow [] gs rs = []
 rowsIn isBelow (l ∷ ls) gs rs = rowIn isBelow l (getD gs 0 (record { 0 = 0 })) (getD rs 0 noRamping .hours) ∷ rowsIn isBelow ls (drop 1 gs) (drop 1 rs)

@@ -1,5 +1,6 @@
 -- What settling a month answers exactly when: a row for each fault and one for a statement, with its condition and those before it not met. Assumes nothing.
 use mathlib.Core.Path.{_≡_}
+use mathlib.Core.Bool.{true}
 use mathlib.Core.List.{List, [], _∷_, map}
 use Prim.Native.Nat.{ℕ, zero, suc, _≤_, _<_}
 use lib.ListN.{length, getD, take, drop}
@@ -12,8 +13,11 @@ use Rattle.score.specs.Scoring.{scoring}
 use Rattle.pay.specs.Member.{MemberWithin}
 use Rattle.apportion.specs.Apportion.{total}
 use Rattle.share.specs.declared.Line.{Line}
-use Rattle.share.specs.Sharing.{below, mostPart, SharingOutcome, sharing}
+use Rattle.share.specs.Sharing.{below, mostPart}
 use Rattle.share.specs.Verdict.{SoundLine}
+use Rattle.ceiling.specs.declared.LimitedLine.{LimitedLine}
+use Rattle.ceiling.specs.Ceiling.{plainLines, CeilingOutcome, ceiling}
+use Rattle.ceiling.specs.Verdict.{SoundLimit}
 use Rattle.register.specs.declared.Entry.{Entry}
 use Rattle.register.specs.Register.{blankEntry, entryLine}
 use Rattle.month.specs.declared.Fault.the-variants.{NoFault, InPart, InRegister, InBook, Unlisted, OfMember, OfRamping, InSharing}
@@ -36,18 +40,21 @@ scoreOfLine g i = scoring (getD (g .entries) i blankEntry .member) (g .book) (ow
 abbrev pub rampedOfLine : MonthGiven → ℕ → Ramped
 rampedOfLine g i = getD (g .ramped) i noRamping
 
--- what the members earn, and the lines that are shared
+-- what the members earn, and the lines that are shared, with their limits and without
 abbrev pub earnedIn : MonthGiven → List MemberEarned
 earnedIn g = earnings (g .entries) (g .book) (g .series) (g .lengths) (g .ramped)
 
+abbrev pub limitedIn : MonthGiven → List LimitedLine
+limitedIn g = monthLines (g .entries) (earnedIn g)
+
 abbrev pub linesIn : MonthGiven → List Line
-linesIn g = monthLines (g .entries) (earnedIn g)
+linesIn g = plainLines (limitedIn g)
 
 abbrev pub grainsIn : MonthGiven → List Grains
 grainsIn g = map earnedGrains (earnedIn g)
 
-abbrev pub sharedIn : MonthGiven → SharingOutcome
-sharedIn g = sharing (g .part) (linesIn g)
+abbrev pub sharedIn : MonthGiven → CeilingOutcome
+sharedIn g = ceiling (g .part) (limitedIn g)
 
 -- the statement of a month that is settled
 abbrev pub statementOf : MonthGiven → Statement
@@ -59,16 +66,17 @@ statementOf g =
       part = g .part;
       gap = record { 0 = sharedIn g .gap };
       user = record { 0 = sharedIn g .user };
-      count = length (linesIn g);
+      count = length (limitedIn g);
       rows = filledRows (rowsOf (below (linesIn g)) (linesIn g) (grainsIn g) (g .ramped) (sharedIn g .parts));
     }
 
 -- Conditions
 
--- an entry within the limits after the number `before`: as a register line, and as a sharing line
+-- an entry within the limits after the number `before`: as a register line, as a sharing line, and by its own limit
 pub record EntryWithin (before : ℕ) (e : Entry) : Type 0 where
   pub member : MemberWithin (e .member)
   pub line : SoundLine before (entryLine e (record { 0 = 0 }))
+  pub limit : SoundLimit (e .limit)
 
 -- every entry is, the numbers rising
 abbrev pub AllWithin : ℕ → List Entry → Type 0
@@ -80,6 +88,10 @@ abbrev pub FirstBadAt : ℕ → List Entry → ℕ → Type 0
 FirstBadAt before [] p = ⊥
 FirstBadAt before (e ∷ es) zero = EntryWithin before e → ⊥
 FirstBadAt before (e ∷ es) (suc p) = EntryWithin before e × FirstBadAt (e .member .number) es p
+
+-- no entry has a limit
+abbrev pub NoneLimited : MonthGiven → Type 0
+NoneLimited g = (i : ℕ) → i < length (g .entries) → getD (g .entries) i blankEntry .limit .none ≡ true
 
 -- the part is within its limit; the register has all its lines, and they are within theirs
 pub record RegisterWithin (g : MonthGiven) : Type 0 where

@@ -1,5 +1,5 @@
 -- The month: each register line's member is scored over the joined book and its own series; what its ramping hours pay is added; the fen of both is
--- its compensation; the lines are shared. Assumes nothing.
+-- its compensation; the lines are shared, each within its limit. Assumes nothing.
 use mathlib.Core.Bool.{Bool, false, cond, not, _&&_, _||_}
 use mathlib.Core.List.{List, [], _∷_, _++_, map}
 use Prim.Native.Nat.{ℕ, suc, _-_}
@@ -17,9 +17,11 @@ use Rattle.score.specs.declared.answer.Earned.{Earned}
 use Rattle.score.specs.declared.answer.Earned.the-variants.{Accepted, Refused}
 use Rattle.score.specs.Scoring.{grainsEarned}
 use Rattle.share.specs.declared.Line.{Line}
-use Rattle.share.specs.Sharing.{Part, weightOf, below, mostNumber, mostPart, SharingOutcome, sharing}
+use Rattle.share.specs.Sharing.{weightOf, below, mostNumber, mostPart}
+use Rattle.ceiling.specs.declared.LimitedLine.{LimitedLine}
+use Rattle.ceiling.specs.Ceiling.{plainLines, CeiledPart, CeilingOutcome, ceiling}
 use Rattle.register.specs.declared.Entry.{Entry}
-use Rattle.register.specs.Register.{firstBadEntry, linesFor}
+use Rattle.register.specs.Register.{firstBadEntry, limitedFor}
 use Rattle.month.specs.declared.Fault.{Fault}
 use Rattle.month.specs.declared.Fault.the-variants.{NoFault, InPart, InRegister, InBook, Unlisted, OfMember, OfRamping, InSharing}
 use Rattle.month.specs.declared.Ramped.{Ramped}
@@ -104,7 +106,7 @@ compensations gs = map (λ g. record { 0 = grainsToFen (g .0) }) gs
 -- The statement
 
 -- a member's line: how many ramping hours it has, what it earned, what its amount is made of, and its weight
-unfoldable pub rowOf : Bool → Line → Grains → ℕ → Part → Row
+unfoldable pub rowOf : Bool → Line → Grains → ℕ → CeiledPart → Row
 rowOf isBelow l grains hours part =
     record {
       number = l .number;
@@ -115,14 +117,20 @@ rowOf isBelow l grains hours part =
       energy = l .energy;
       weight = weightOf isBelow l;
       share = record { 0 = part .share };
+      uncollected = record { 0 = part .uncollected };
+      given = record { 0 = part .given };
       amount = record { 0 = part .amount };
     }
 
+-- a line that gets nothing
+abbrev pub noPart : CeiledPart
+noPart = record { share = pos 0; amount = pos 0; uncollected = 0; given = 0 }
+
 -- the members' lines, in the register's order
-unfoldable pub rowsOf : Bool → List Line → List Grains → List Ramped → List Part → List Row
+unfoldable pub rowsOf : Bool → List Line → List Grains → List Ramped → List CeiledPart → List Row
 rowsOf isBelow [] gs rs ps = []
 rowsOf isBelow (l ∷ ls) gs rs ps =
-    rowOf isBelow l (getD gs 0 (record { 0 = 0 })) (getD rs 0 noRamping .hours) (getD ps 0 (record { share = pos 0; amount = pos 0 }))
+    rowOf isBelow l (getD gs 0 (record { 0 = 0 })) (getD rs 0 noRamping .hours) (getD ps 0 noPart)
     ∷ rowsOf isBelow ls (drop 1 gs) (drop 1 rs) (drop 1 ps)
 
 -- a line of zeros stands behind the members' lines
@@ -137,6 +145,8 @@ blankRow =
       energy = record { 0 = 0 };
       weight = 0;
       share = record { 0 = pos 0 };
+      uncollected = record { 0 = 0 };
+      given = record { 0 = 0 };
       amount = record { 0 = pos 0 };
     }
 
@@ -157,8 +167,8 @@ monthRefused fault =
       rows = filledRows [];
     }
 
--- the lines shared, or sharing's refusal: 10 (a compensation above its limit), 15, 16
-unfoldable pub sharedMonth : ℕ → List ℕ → List Line → List Grains → List Ramped → SharingOutcome → Statement
+-- the lines shared, or sharing's refusal: 10 (a compensation above its limit), 15, 16, 17
+unfoldable pub sharedMonth : ℕ → List ℕ → List LimitedLine → List Grains → List Ramped → CeilingOutcome → Statement
 sharedMonth part book ls gs rs o =
     cond (eqb (o .number) 0)
     (record {
@@ -169,20 +179,20 @@ sharedMonth part book ls gs rs o =
       gap = record { 0 = o .gap };
       user = record { 0 = o .user };
       count = length ls;
-      rows = filledRows (rowsOf (below ls) ls gs rs (o .parts));
+      rows = filledRows (rowsOf (below (plainLines ls)) (plainLines ls) gs rs (o .parts));
     })
     (monthRefused (InSharing (o .number) (o .place)))
 
--- the lines that are shared
-unfoldable pub monthLines : List Entry → List MemberEarned → List Line
-monthLines es earned = linesFor es (compensations (map earnedGrains earned))
+-- the lines that are shared, with their limits
+unfoldable pub monthLines : List Entry → List MemberEarned → List LimitedLine
+monthLines es earned = limitedFor es (compensations (map earnedGrains earned))
 
 -- the members in turn, then sharing
 unfoldable pub earnedMonth : ℕ → List Entry → List ℕ → List Ramped → List MemberEarned → Statement
 earnedMonth part es book rs earned =
     cond (ltb (firstRefusedMember earned) (length earned))
     (monthRefused (memberFault (firstRefusedMember earned) (getD earned (firstRefusedMember earned) (NotScored 0 0))))
-    (sharedMonth part book (monthLines es earned) (map earnedGrains earned) rs (sharing part (monthLines es earned)))
+    (sharedMonth part book (monthLines es earned) (map earnedGrains earned) rs (ceiling part (monthLines es earned)))
 
 -- THE MONTH IS SETTLED: the part (10 at 65), the register (10, a 65th line included), the book, a call of a member without a line, the members in turn, sharing
 unfoldable pub settling : MonthGiven → Statement

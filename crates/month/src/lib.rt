@@ -3,13 +3,13 @@ use book::Header;
 use book::check;
 use book::count_at;
 use book::header_at;
+use ceiling::LimitedLine;
+use ceiling::ceiled_array;
 use register::Entry;
 use register::MOST_ENTRIES;
 use register::first_bad_entry;
-use register::lines_for;
-use share::Line;
+use register::limited_for;
 use share::array::seen;
-use share::lent::share_front;
 use share::limits::MOST_PART;
 use units::Fen;
 use units::Grains;
@@ -20,7 +20,7 @@ ghost use mathlib.Core.Path.{_≡_};
 ghost use Prim.Native.Nat.{_≤_};
 ghost use lib.ListN.{take};
 ghost use Rattle.book.specs.Book.{HasHeader};
-ghost use Rattle.share.specs.Sharing.{sharing};
+ghost use Rattle.ceiling.specs.Ceiling.{ceiling};
 ghost use Rattle.register.specs.Register.{mostEntries};
 ghost use Rattle.month.specs.Settling.{monthRefused, earnings, earnedMonth, sharedMonth, settling};
 
@@ -57,12 +57,14 @@ pub struct Ramped {
     pub hours: u16,
 }
 
-// A member's line of the statement. The short fields come last, so that no gap stands between the others.
+// A member's line of the statement: its share is the first sharing's; what is not collected of it, and what it gives up. The short fields come last, so that no gap stands between the others.
 pub struct Row {
     pub grains: Grains,
     pub compensation: Fen,
     pub weight: u64,
     pub share: SignedFen,
+    pub uncollected: Fen,
+    pub given: Fen,
     pub amount: SignedFen,
     pub assessment: Thousandths,
     pub energy: Mwh,
@@ -104,20 +106,20 @@ fn month_refused(fault: Fault) -> Statement
     }
 }
 
-// The lines shared, with what each member earned; or sharing's refusal.
+// The lines shared within their limits, with what each member earned; or sharing's refusal.
 fn shared_month(
     part: u32,
     book: &[u8],
-    lines: [Line; MOST_ENTRIES],
+    lines: [LimitedLine; MOST_ENTRIES],
     grains: [Grains; MOST_ENTRIES],
     ramped: [Ramped; MOST_ENTRIES],
     count: usize,
 ) -> Statement
     requires { ⌜ HasHeader (now book) ⌝ }
     requires { ⌜ count ≤ mostEntries ⌝ }
-    ensures { λ r. ⌜ r ≡ sharedMonth part (now (book .entry)) (take count lines) (take count grains) ramped (sharing part (take count lines)) ⌝ }
+    ensures { λ r. ⌜ r ≡ sharedMonth part (now (book .entry)) (take count lines) (take count grains) ramped (ceiling part (take count lines)) ⌝ }
 {
-    let shared = share_front(part, lines, count);
+    let shared = ceiled_array(part, lines, count);
     let number = shared.number;
     if number != 0 {
         return month_refused(Fault::InSharing(number, shared.place));
@@ -162,7 +164,7 @@ fn earned_month(
     }
     let grains = earned.grains;
     let fens = compensations(grains);
-    let lines = lines_for(entries, fens);
+    let lines = limited_for(entries, fens);
     shared_month(part, book, lines, grains, ramped, count)
 }
 

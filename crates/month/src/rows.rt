@@ -1,8 +1,8 @@
 // The members' lines of the statement.
 use crate::Ramped;
 use crate::Row;
+use ceiling::LimitedLine;
 use register::MOST_ENTRIES;
-use share::Line;
 use share::settle::weight_of;
 use units::Fen;
 use units::Grains;
@@ -17,6 +17,7 @@ ghost use lib.Signed.{ltZ};
 ghost use Rattle.share.specs.Sharing.{mostEnergy};
 ghost use Rattle.register.specs.Register.{mostEntries};
 ghost use Rattle.share.specs.Limits.{CountedWithin};
+ghost use Rattle.ceiling.specs.Ceiling.{plainLines};
 ghost use Rattle.month.specs.Settling.{blankRow, filledRows};
 ghost use Rattle.month.specs.Inner.{rowIn, rowsIn};
 
@@ -28,6 +29,8 @@ fn blank_row() -> Row
         compensation: Fen(0),
         weight: 0,
         share: SignedFen(0),
+        uncollected: Fen(0),
+        given: Fen(0),
         amount: SignedFen(0),
         assessment: Thousandths(0),
         energy: Mwh(0),
@@ -51,13 +54,16 @@ pub fn is_below(gap: SignedFen) -> bool
 }
 
 // The row of a line that is filled in; `negative` says that R is below zero.
-fn row_in(negative: bool, l: Line, grains: Grains, hours: u16) -> Row
-    requires { ⌜ l .energy .0 ≤ mostEnergy ⌝ }
-    ensures { λ r. ⌜ r ≡ rowIn negative l grains hours ⌝ }
+fn row_in(negative: bool, limited: LimitedLine, grains: Grains, hours: u16) -> Row
+    requires { ⌜ limited .line .energy .0 ≤ mostEnergy ⌝ }
+    ensures { λ r. ⌜ r ≡ rowIn negative limited grains hours ⌝ }
 {
+    let l = limited.line;
     let weight = weight_of(l, negative);
     let compensation = l.compensation;
     let share = l.share;
+    let uncollected = limited.uncollected;
+    let given = limited.given;
     let amount = l.amount;
     let assessment = l.assessment;
     let energy = l.energy;
@@ -66,6 +72,8 @@ fn row_in(negative: bool, l: Line, grains: Grains, hours: u16) -> Row
         compensation,
         weight,
         share,
+        uncollected,
+        given,
         amount,
         assessment,
         energy,
@@ -76,13 +84,13 @@ fn row_in(negative: bool, l: Line, grains: Grains, hours: u16) -> Row
 
 // The rows of the first lines, and blank ones behind them.
 pub fn filled_rows(
-    lines: [Line; MOST_ENTRIES],
+    lines: [LimitedLine; MOST_ENTRIES],
     grains: [Grains; MOST_ENTRIES],
     ramped: [Ramped; MOST_ENTRIES],
     count: usize,
     negative: bool,
 ) -> [Row; MOST_ENTRIES]
-    requires { ⌜ CountedWithin lines count ⌝ }
+    requires { ⌜ CountedWithin (plainLines lines) count ⌝ }
     ensures { λ r. ⌜ r ≡ filledRows (rowsIn negative (take count lines) (take count grains) ramped) ⌝ }
 {
     let mut rows = blank_rows();

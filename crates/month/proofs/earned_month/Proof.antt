@@ -23,8 +23,8 @@ returns c =
 compensations-requires : tie.Need-compensations-requires
 compensations-requires c κs = search needs
 
-lines-for-requires : tie.Need-lines-for-requires
-lines-for-requires c κs = search needs
+limited-for-requires : tie.Need-limited-for-requires
+limited-for-requires c κs = search needs
 
 shared-month-requires : tie.Need-shared-month-requires
 shared-month-requires c κs = search needs
@@ -37,7 +37,7 @@ returns-2 c =
     let e = m .ensures .each (c .before .before .before .before .if1 .left) in
     c .shared-month .ensures
     ∙ earned-shared (a .part) (a .entries) (a .book .now) (a .ramped) (earnings es (a .book .now) (a .series .now) (a .lengths) (a .ramped)) (a .count) (m .result .grains)
-    (c .before .before .compensations .result) (c .before .lines-for .result) (e .0) (e .1) (c .before .before .compensations .ensures) (c .before .lines-for .ensures)
+    (c .before .before .compensations .result) (c .before .limited-for .result) (e .0) (e .1) (c .before .before .compensations .ensures) (c .before .limited-for .ensures)
 
 pub earned-month-spec : {M : Type 1} → statement M
 earned-month-spec =
@@ -47,6 +47,6 @@ earned-month-spec =
     month-refused-requires
     returns
     compensations-requires
-    lines-for-requires
+    limited-for-requires
     shared-month-requires
     returns-2)

@@ -5,8 +5,8 @@ use borrow.Author.Needs.{needs}
 use Rattle.month.proofs.shared_month.Statement.{statement}
 use Rattle.month.proofs.shared_month.Tie as tie
 
-share-front-requires : tie.Need-share-front-requires
-share-front-requires c κs = search needs
+ceiled-array-requires : tie.Need-ceiled-array-requires
+ceiled-array-requires c κs = search needs
 
 month-refused-requires : tie.Need-month-refused-requires
 month-refused-requires c κs = search needs
@@ -15,7 +15,7 @@ returns : tie.Need-returns
 returns c =
     let a = c .before .before .before .before .args in
     let long : length (a .lines) ≡ 64 = search needs in
-    let s = c .before .before .share-front in
+    let s = c .before .before .ceiled-array in
     c .month-refused .ensures
     ∙ shared-refused (a .part) (a .book .now) (a .lines) (a .grains) (a .ramped) (a .count) (c .before .before .before .before .pre .1) long (s .result) (s .ensures) (c .before .if1 .taken)
 
@@ -27,7 +27,7 @@ filled-rows-requires c κs =
     let a = c .before .before .before .before .before .before .before .args in
     let long : length (a .lines) ≡ 64 = search needs in
     let e = c .before .before .before .before in
-    let s = e .before .share-front in
+    let s = e .before .ceiled-array in
     shared-within (a .part) (a .book .now) (a .lines) (a .grains) (a .ramped) (a .count) (c .before .before .before .before .before .before .before .pre .1) long
     (s .result) (s .ensures) (e .if1 .left)
 
@@ -42,7 +42,7 @@ returns-2 c =
     let a = c .before .before .before .before .before .before .before .before .before .before .args in
     let long : length (a .lines) ≡ 64 = search needs in
     let e = c .before .before .before .before .before .before .before in
-    let s = e .before .share-front in
+    let s = e .before .ceiled-array in
     shared-is (a .part) (a .book .now) (a .lines) (a .grains) (a .ramped) (a .count) (c .before .before .before .before .before .before .before .before .before .before .pre .1) long
     (s .result) (s .ensures) (e .if1 .left)
     _ _ _ _ (c .before .header-at .ensures) (c .count-at .ensures .0) (c .before .before .before .is-below .ensures) (c .before .before .filled-rows .ensures)
@@ -51,7 +51,7 @@ pub shared-month-spec : {M : Type 1} → statement M
 shared-month-spec =
     tie.close
     (tie.spec
-    share-front-requires
+    ceiled-array-requires
     month-refused-requires
     returns
     is-below-requires

@@ -1,10 +1,15 @@
-use mathlib.Core.Path.{_≡_, refl, sym, _∙_}
+use mathlib.Core.Path.{_≡_, refl, sym, ap, _∙_}
 use Prim.Native.Nat.{_-_, _≤_}
 use native.Mathlib.Omega.{arith}
-use lib.ListN.{length, take, length-set, length-replicate}
+use lib.ListN.{length, take, length-map, length-set, length-replicate}
 use Rattle.apportion.proofs.Loops.{over, over-step}
+use Rattle.share.specs.declared.Line.{Line}
 use Rattle.share.specs.Forms.{blankLine}
+use Rattle.share.proofs.Lists.{getD-mapped}
 use Rattle.share.proofs.Lines.{within-at}
+use Rattle.ceiling.specs.declared.LimitedLine.{LimitedLine}
+use Rattle.ceiling.specs.Ceiling.{plainLines}
+use Rattle.ceiling.specs.Inner.{blankLimited}
 use Rattle.month.specs.Settling.{blankRow}
 use Rattle.month.specs.Inner.{rowsIn}
 use Rattle.month.proofs.Statements.{length-counted, row-counted, rows-done}
@@ -48,7 +53,9 @@ row-in-requires c κs =
     let s = c .before .before .before .before .before .before in
     let l = c .before .before .before .before .loop in
     let long : length (s .args .t1) ≡ 64 = search needs in
-    within-at (s .args .t1) (s .args .count) (l .i) blankLine (s .pre .1) (omega arith) (omega arith) .energy
+    let plain = within-at (plainLines (s .args .t1)) (s .args .count) (l .i) blankLine (s .pre .1) (omega arith) (rw (length-map (s .args .t1) (λ (x : LimitedLine). x .line)) (omega arith)) in
+    let own = getD-mapped (λ (x : LimitedLine). x .line) (s .args .t1) (l .i) blankLimited blankLine (omega arith) in
+    omega (arith, plain .energy, ap (λ (x : Line). x .energy .0) own)
 
 mul-rows : tie.Need-mul-rows Inv-loop μ-loop
 mul-rows c = omega arith

@@ -10,7 +10,7 @@ weight-of-requires c κs = search needs
 
 returns : tie.Need-returns
 unfolding rowIn rowOf
-returns c = rw (c .before .before .before .before .before .weight-of .ensures) refl
+returns c = rw (c .before .before .before .before .before .before .before .weight-of .ensures) refl
 
 pub row-in-spec : {M : Type 1} → statement M
 row-in-spec = tie.close (tie.spec weight-of-requires returns)
