@@ -9,3 +9,4 @@ pub mod Withdrawn
 pub mod Drawer
 pub mod DrawerStory
 pub mod Weights
+pub mod Limited
