@@ -40,6 +40,7 @@ use share::limits::PART_PLACE;
 use tables::Told;
 use tables::roll::Register;
 use tables::roll::read_register;
+use text::told::shown_text;
 
 // The arguments that name the statement's file, and give the part.
 const STATEMENT: usize = 2;
@@ -97,8 +98,10 @@ pub fn tell_ramping(e: Entry, number: u32, place: usize) {
 pub fn tell_no_line(member: u16) {
     let mut name = io::buffer();
     let k = os::arg(register_at(), &mut name);
+    let mut shown = io::buffer();
+    let m = shown_text(&name[..k], &mut shown);
     let mut out = io::large_buffer();
-    let n = no_line_text(&name[..k], member, &mut out);
+    let n = no_line_text(&shown[..m], member, &mut out);
     say::text(&out[..n]);
 }
 
