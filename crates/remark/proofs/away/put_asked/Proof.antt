@@ -1,0 +1,47 @@
+use Rattle.render.proofs.Placed.{and-then}
+use Rattle.remark.specs.Remarks.{askedText}
+use borrow.Author.Needs.{needs}
+use Rattle.remark.proofs.away.put_asked.Statement.{statement}
+use Rattle.remark.proofs.away.put_asked.Tie as tie
+
+slice-aggregate-put-field : tie.Need-slice-aggregate-put-field
+slice-aggregate-put-field c = search needs
+
+cast-put-field : tie.Need-cast-put-field
+cast-put-field c = search needs
+
+put-field-requires : tie.Need-put-field-requires
+put-field-requires c κs = search needs
+
+slice-aggregate-put-word : tie.Need-slice-aggregate-put-word
+slice-aggregate-put-word c = search needs
+
+put-word-requires : tie.Need-put-word-requires
+put-word-requires c κs = search needs
+
+put-service-requires : tie.Need-put-service-requires
+put-service-requires c κs = search needs
+
+put-with-requires : tie.Need-put-with-requires
+put-with-requires c κs = search needs
+
+same-length : tie.Need-same-length
+same-length c = search needs
+
+returns : tie.Need-returns
+unfolding askedText
+returns c = and-then (and-then (and-then (c .before .before .before .before .before .before .before .before .before .before .before .before .before .before .before .put-field .ensures) (c .before .before .before .before .before .before .before .before .before .before .put-word .ensures)) (c .before .before .before .before .before .before .put-service .ensures)) (c .before .before .put-with .ensures)
+
+pub put-asked-spec : {M : Type 1} → statement M
+put-asked-spec =
+    tie.close
+    (tie.spec
+    slice-aggregate-put-field
+    cast-put-field
+    put-field-requires
+    slice-aggregate-put-word
+    put-word-requires
+    put-service-requires
+    put-with-requires
+    same-length
+    returns)

@@ -1,0 +1,75 @@
+use Rattle.remark.proofs.Cases.{with-a, with-none, with-both}
+use Rattle.remark.specs.Remarks.{mostWith}
+use Rattle.render.proofs.Placed.{and-then, looser, same-put, none-put}
+use mir.ValLaws.{toZ-ofZ}
+use mir.Val.{SFits}
+use mir.Syntax.{w32}
+use native.Mathlib.Omega.{arith}
+use borrow.Author.Needs.{needs}
+use Rattle.remark.proofs.away.put_with.Statement.{statement}
+use Rattle.remark.proofs.away.put_with.Tie as tie
+
+slice-aggregate-put-signed-field32 : tie.Need-slice-aggregate-put-signed-field32
+slice-aggregate-put-signed-field32 c = search needs
+
+put-signed-field32-requires : tie.Need-put-signed-field32-requires
+put-signed-field32-requires c κs = search needs
+
+same-length : tie.Need-same-length
+same-length c = search needs
+
+a-fits : (c : tie.After-struct-told) → SFits w32 (c .before .before .before .before .before .before .args .x .a)
+a-fits c = search needs
+
+a-fits-2 : (c : tie.After-struct-told2) → SFits w32 (c .before .before .before .before .before .before .before .before .args .x .a)
+a-fits-2 c = search needs
+
+returns : tie.Need-returns
+returns c =
+    let p = rw (toZ-ofZ w32 _ (a-fits (c .before .before .before))) at (c .before .before .put-signed-field32 .ensures) in
+    same-put (with-a _ (c .before .before .before .before .before .before .if1 .taken)) (looser mostWith (omega arith) p)
+
+returns-2 : tie.Need-returns-2
+returns-2 c =
+    let a = c .before .before .before .before .before .args in
+    same-put (with-none _ (c .before .before .if1 .left) (c .if2 .taken)) (looser mostWith (omega arith) (none-put (a .out .now) (a .at)))
+
+slice-aggregate-put-signed-field32-2 : tie.Need-slice-aggregate-put-signed-field32-2
+slice-aggregate-put-signed-field32-2 c = search needs
+
+put-signed-field32-requires-2 : tie.Need-put-signed-field32-requires-2
+put-signed-field32-requires-2 c κs = search needs
+
+slice-aggregate-put-field : tie.Need-slice-aggregate-put-field
+slice-aggregate-put-field c = search needs
+
+cast-put-field : tie.Need-cast-put-field
+cast-put-field c = search needs
+
+put-field-requires : tie.Need-put-field-requires
+put-field-requires c κs = search needs
+
+same-length-2 : tie.Need-same-length-2
+same-length-2 c = search needs
+
+returns-3 : tie.Need-returns-3
+returns-3 c =
+    let p = rw (toZ-ofZ w32 _ (a-fits-2 (c .before .before .before .before .before .before .before .before .before))) at (c .before .before .before .before .before .before .before .before .put-signed-field322 .ensures) in
+    same-put (with-both _ (c .before .before .before .before .before .before .before .before .before .before .before .before .before .before .if1 .left) (c .before .before .before .before .before .before .before .before .before .before .before .before .if2 .left)) (and-then p (c .before .before .put-field .ensures))
+
+pub put-with-spec : {M : Type 1} → statement M
+put-with-spec =
+    tie.close
+    (tie.spec
+    slice-aggregate-put-signed-field32
+    put-signed-field32-requires
+    same-length
+    returns
+    returns-2
+    slice-aggregate-put-signed-field32-2
+    put-signed-field32-requires-2
+    slice-aggregate-put-field
+    cast-put-field
+    put-field-requires
+    same-length-2
+    returns-3)

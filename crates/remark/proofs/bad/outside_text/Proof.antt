@@ -1,0 +1,28 @@
+use Rattle.render.proofs.Placed.{no-room, rendered}
+use Rattle.remark.specs.Remarks.{mostOutside}
+use native.Mathlib.Omega.{arith}
+use borrow.Author.Needs.{needs}
+use Rattle.remark.proofs.bad.outside_text.Statement.{statement}
+use Rattle.remark.proofs.bad.outside_text.Tie as tie
+
+returns : tie.Need-returns
+returns c = let a = c .before .before .before .args in no-room (mostOutside (a .name .now)) _ (a .out .now) (omega (arith, c .if1 .taken))
+
+sub-if2 : tie.Need-sub-if2
+sub-if2 c = search needs
+
+returns-2 : tie.Need-returns-2
+returns-2 c = let a = c .before .before .before .before .args in no-room (mostOutside (a .name .now)) _ (a .out .now) (omega (arith, c .if2 .taken, c .before .if1 .left))
+
+put-outside-requires : tie.Need-put-outside-requires
+put-outside-requires c κs = search needs
+
+same-length : tie.Need-same-length
+same-length c = search needs
+
+returns-3 : tie.Need-returns-3
+returns-3 c = let a = c .before .before .before .before .before .before .before .before .args in rendered (mostOutside (a .name .now)) (omega (arith, c .before .before .before .before .if2 .left, c .before .before .before .before .before .if1 .left)) (c .before .before .put-outside .ensures)
+
+pub outside-text-spec : {M : Type 1} → statement M
+outside-text-spec =
+    tie.close (tie.spec returns sub-if2 returns-2 put-outside-requires same-length returns-3)

@@ -1,0 +1,63 @@
+use Rattle.remark.proofs.Cases.{a-beyond, a-unnamed}
+use Rattle.remark.specs.Remarks.{mostWhy}
+use Rattle.render.proofs.Placed.{and-then, looser, same-put}
+use mir.ValLaws.{toZ-ofZ}
+use mir.Val.{SFits}
+use mir.Syntax.{w32}
+use native.Mathlib.Omega.{arith}
+use borrow.Author.Needs.{needs}
+use Rattle.remark.proofs.bad.put_a_why.Statement.{statement}
+use Rattle.remark.proofs.bad.put_a_why.Tie as tie
+
+slice-aggregate-put-signed-field32 : tie.Need-slice-aggregate-put-signed-field32
+slice-aggregate-put-signed-field32 c = search needs
+
+put-signed-field32-requires : tie.Need-put-signed-field32-requires
+put-signed-field32-requires c κs = search needs
+
+slice-aggregate-put-signed-field32-2 : tie.Need-slice-aggregate-put-signed-field32-2
+slice-aggregate-put-signed-field32-2 c = search needs
+
+put-signed-field32-requires-2 : tie.Need-put-signed-field32-requires-2
+put-signed-field32-requires-2 c κs = search needs
+
+same-length : tie.Need-same-length
+same-length c = search needs
+
+test-fits : (c : tie.After-struct-told) → SFits w32 (c .before .before .before .args .l .high)
+test-fits c = search needs
+
+low-fits : (c : tie.After-struct-told2) → SFits w32 (c .before .before .before .before .before .before .before .args .l .low)
+low-fits c = search needs
+
+high-fits : (c : tie.After-struct-told3) → SFits w32 (c .before .before .before .before .before .before .before .before .before .before .before .before .before .args .l .high)
+high-fits c = search needs
+
+returns : tie.Need-returns
+returns c =
+    let low = rw (toZ-ofZ w32 _ (low-fits (c .before .before .before .before .before .before .before .before .before))) at (c .before .before .before .before .before .before .before .before .put-signed-field32 .ensures) in
+    let high = rw (toZ-ofZ w32 _ (high-fits (c .before .before .before))) at (c .before .before .put-signed-field322 .ensures) in
+    same-put (a-beyond _ _ (rw (toZ-ofZ w32 _ (test-fits (c .before .before .before .before .before .before .before .before .before .before .before .before .before))) at (c .before .before .before .before .before .before .before .before .before .before .before .before .if1 .taken))) (looser mostWhy (omega arith) (and-then low high))
+
+put-not-named-requires : tie.Need-put-not-named-requires
+put-not-named-requires c κs = search needs
+
+same-length-2 : tie.Need-same-length-2
+same-length-2 c = search needs
+
+returns-2 : tie.Need-returns-2
+returns-2 c = same-put (a-unnamed _ _ (rw (toZ-ofZ w32 _ (test-fits (c .before .before .before .before .before))) at (c .before .before .before .before .if1 .left))) (looser mostWhy (omega arith) (c .before .before .put-not-named .ensures))
+
+pub put-a-why-spec : {M : Type 1} → statement M
+put-a-why-spec =
+    tie.close
+    (tie.spec
+    slice-aggregate-put-signed-field32
+    put-signed-field32-requires
+    slice-aggregate-put-signed-field32-2
+    put-signed-field32-requires-2
+    same-length
+    returns
+    put-not-named-requires
+    same-length-2
+    returns-2)

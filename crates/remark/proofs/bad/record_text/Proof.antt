@@ -1,0 +1,47 @@
+use Rattle.render.proofs.Placed.{no-room, rendered}
+use Rattle.remark.specs.Remarks.{mostRecord}
+use native.Mathlib.Omega.{arith}
+use borrow.Author.Needs.{needs}
+use Rattle.remark.proofs.bad.record_text.Statement.{statement}
+use Rattle.remark.proofs.bad.record_text.Tie as tie
+
+returns : tie.Need-returns
+returns c = let a = c .before .before .before .before .args in no-room (mostRecord (a .what .now) (a .why .now)) _ (a .out .now) (omega (arith, c .if1 .taken))
+
+sub-if2 : tie.Need-sub-if2
+sub-if2 c = search needs
+
+returns-2 : tie.Need-returns-2
+returns-2 c = let a = c .before .before .before .before .before .args in no-room (mostRecord (a .what .now) (a .why .now)) _ (a .out .now) (omega (arith, c .if2 .taken, c .before .if1 .left))
+
+sub-if3 : tie.Need-sub-if3
+sub-if3 c = search needs
+
+sub-if3-2 : tie.Need-sub-if3-2
+sub-if3-2 c = search needs
+
+returns-3 : tie.Need-returns-3
+returns-3 c = let a = c .before .before .before .before .before .before .args in no-room (mostRecord (a .what .now) (a .why .now)) _ (a .out .now) (omega (arith, c .if3 .taken, c .before .if2 .left, c .before .before .if1 .left))
+
+put-record-requires : tie.Need-put-record-requires
+put-record-requires c κs = search needs
+
+same-length : tie.Need-same-length
+same-length c = search needs
+
+returns-4 : tie.Need-returns-4
+returns-4 c = let a = c .before .before .before .before .before .before .before .before .before .before .args in rendered (mostRecord (a .what .now) (a .why .now)) (omega (arith, c .before .before .before .before .if3 .left, c .before .before .before .before .before .if2 .left, c .before .before .before .before .before .before .if1 .left)) (c .before .before .put-record .ensures)
+
+pub record-text-spec : {M : Type 1} → statement M
+record-text-spec =
+    tie.close
+    (tie.spec
+    returns
+    sub-if2
+    returns-2
+    sub-if3
+    sub-if3-2
+    returns-3
+    put-record-requires
+    same-length
+    returns-4)
