@@ -22,7 +22,7 @@ ghost use Rattle.report.specs.Texts.{whoText, earnedText, carriedText, a
 ghost use Rattle.report.specs.Texts.{mostWho, mostEarned, mostCarried, mostAmount, mostRow, mostUser, mostSums, mostTotals, mostMonth, mostNoLine, mostAbove};
 
 pub mod hourly;
-mod totals;
+pub mod totals;
 pub mod why;
 
 use totals::Totals;
@@ -104,7 +104,8 @@ fn put_rows(out: &mut [u8], rows: [Row; MOST_ENTRIES], count: usize) -> usize
     next
 }
 
-fn put_user(out: &mut [u8], at: usize, user: SignedFen) -> usize
+// The user's line.
+pub fn put_user(out: &mut [u8], at: usize, user: SignedFen) -> usize
     requires { ⌜ at + mostUser ≤ length (now out) ⌝ }
     ensures { λ r. ⌜ Puts mostUser (now (out .entry)) at (userText (user .0)) (now (out .exit)) r ⌝ }
 {
@@ -112,7 +113,8 @@ fn put_user(out: &mut [u8], at: usize, user: SignedFen) -> usize
     put_word(out, a, b"\n")
 }
 
-fn put_balance(out: &mut [u8], at: usize, due: u64, owed: u64) -> usize
+// What is due less what is owed.
+pub fn put_balance(out: &mut [u8], at: usize, due: u64, owed: u64) -> usize
     requires { ⌜ at + mostSignedYuan ≤ length (now out) ⌝ }
     ensures { λ r. ⌜ Puts mostSignedYuan (now (out .entry)) at (balanceText due owed) (now (out .exit)) r ⌝ }
 {

@@ -18,7 +18,8 @@ pub struct Totals {
 // The top of 64 bits: a sum past it is told as the top, so that none wraps.
 const MOST_FEN: u64 = 0xffff_ffff_ffff_ffff;
 
-fn plus(a: u64, b: u64) -> u64
+// Fen, and more of them.
+pub fn plus(a: u64, b: u64) -> u64
     ensures { λ r. ⌜ r ≡ fenPlus a b ⌝ }
 {
     let room = MOST_FEN - a;
@@ -28,13 +29,14 @@ fn plus(a: u64, b: u64) -> u64
     a + b
 }
 
-fn due_of(n: i64) -> u64
+// What an amount above zero gives, and what one below zero takes.
+pub fn due_of(n: i64) -> u64
     ensures { λ r. ⌜ r ≡ dueOf n ⌝ }
 {
     if n < 0 { 0 } else { size(n) }
 }
 
-fn owed_of(n: i64) -> u64
+pub fn owed_of(n: i64) -> u64
     ensures { λ r. ⌜ r ≡ owedOf n ⌝ }
 {
     if n < 0 { size(n) } else { 0 }

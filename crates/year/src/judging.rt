@@ -21,7 +21,8 @@ const MOST_EITHER_WAY: i64 = 200_000_000_000;
 
 const LEAST_EITHER_WAY: i64 = -200_000_000_000;
 
-fn is_within(fen: SignedFen) -> bool
+// Whether a share or an amount is within its limit.
+pub fn is_within(fen: SignedFen) -> bool
     ensures { λ r. ⌜ r ≡ isWithin (fen .0) ⌝ }
 {
     let n = fen.0;

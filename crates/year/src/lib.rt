@@ -9,7 +9,7 @@ ghost use Rattle.year.specs.declared.MonthStatement.{MonthStatement};
 ghost use Rattle.year.specs.Year.{yearRefused, HasTaken};
 ghost use Rattle.year.specs.Every.{yearTakes, yearTaking, yearWith};
 
-mod judging;
+pub mod judging;
 mod member;
 
 use judging::statement_is_sound;
