@@ -1,0 +1,35 @@
+use Rattle.intake.proofs.Texts.{read-few, goes-on-so}
+use borrow.Author.Needs.{needs}
+use Rattle.intake.proofs.Intake.with.Statement.{statement}
+use Rattle.intake.proofs.Intake.with.Tie as tie
+
+read-posted-requires : tie.Need-read-posted-requires
+read-posted-requires c κs = search needs
+
+area-after-requires : tie.Need-area-after-requires
+area-after-requires c κs = search needs
+
+as-statement-requires : tie.Need-as-statement-requires
+as-statement-requires c κs = read-few (c .before .read-posted .ensures)
+
+with-requires : tie.Need-with-requires
+with-requires c κs = search needs
+
+returns : tie.Need-returns
+returns c =
+    let p = c .before .before .before .before .read-posted in
+    record {
+      posted = p .result;
+      read = p .ensures;
+      is = goes-on-so (c .before .before .before .before .before .before .args .self) (p .result) _ (c .before .before .as-statement .result) _ (c .before .before .before .area-after .ensures) (c .before .before .as-statement .ensures) (c .with .ensures .1);
+    }
+
+pub with-spec : {M : Type 1} → statement M
+with-spec =
+    tie.close
+    (tie.spec
+    read-posted-requires
+    area-after-requires
+    as-statement-requires
+    with-requires
+    returns)

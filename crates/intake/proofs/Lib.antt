@@ -1,0 +1,4 @@
+pub mod Walks
+pub mod Texts
+pub mod Sound
+pub mod Why

@@ -1,0 +1,4 @@
+pub mod Limits
+pub mod Intake
+pub mod Reasons
+pub mod Told
