@@ -31,7 +31,7 @@ use Rattle.day_runs.proofs.Few.{sound-quartered, day-few}
 
 -- What an accepted month gives
 
-fen-number : (e : Earned) (v p : ℕ) → e ≡ Refused v p → inFen e .number ≡ v
+pub fen-number : (e : Earned) (v p : ℕ) → e ≡ Refused v p → inFen e .number ≡ v
 unfolding inFen
 fen-number e v p h = rw h refl
 

@@ -5,4 +5,6 @@ pub mod Few
 pub mod Filling
 pub mod Days
 pub mod Promises
+pub mod Months
 pub mod Story
+pub mod Night

@@ -36,11 +36,11 @@ module _ (d : Day) where
   unfolding begunAt
   begun-no place h = rw h refl
 
-  from-yes : (n place sum : ℕ) → beginsAt d place ≡ true → runsFrom d place (suc n) sum ≡ runAt d place sum ∷ runsFrom d (suc place) n (sum + lengthAt d place * payAt d place)
+  pub from-yes : (n place sum : ℕ) → beginsAt d place ≡ true → runsFrom d place (suc n) sum ≡ runAt d place sum ∷ runsFrom d (suc place) n (sum + lengthAt d place * payAt d place)
   unfolding runsFrom
   from-yes n place sum h = rw h refl
 
-  from-no : (n place sum : ℕ) → beginsAt d place ≡ false → runsFrom d place (suc n) sum ≡ runsFrom d (suc place) n sum
+  pub from-no : (n place sum : ℕ) → beginsAt d place ≡ false → runsFrom d place (suc n) sum ≡ runsFrom d (suc place) n sum
   unfolding runsFrom
   from-no n place sum h = rw h refl
 

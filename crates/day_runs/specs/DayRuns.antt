@@ -64,9 +64,11 @@ placesPerDay = 2 * minutesPerDay
 unfoldable pub minuteOf : Day → ℕ → ℕ
 minuteOf d place = d .first + place / 2
 
+-- an even place is one of service 1
 unfoldable pub isDeep : ℕ → Bool
 isDeep place = eqb (place % 2) 0
 
+-- the windows of the place's service
 unfoldable pub windowsAt : Day → ℕ → List Call
 windowsAt d place = cond (isDeep place) (d .deep) (d .reserves)
 
@@ -74,10 +76,11 @@ windowsAt d place = cond (isDeep place) (d .deep) (d .reserves)
 unfoldable pub beginsAt : Day → ℕ → Bool
 beginsAt d place = runBegins (d .series) (windowsAt d place) (d .first) (minuteOf d place)
 
--- the minutes of the run that begins there, within the day, and what each pays
+-- the minutes of the run that begins there, within the day
 unfoldable pub lengthAt : Day → ℕ → ℕ
 lengthAt d place = runLength (d .series) (windowsAt d place) (minuteOf d place) (minutesPerDay - place / 2)
 
+-- what each of them pays
 unfoldable pub payAt : Day → ℕ → ℕ
 payAt d place = minuteAt (d .member) (d .series) (windowsAt d place) (minuteOf d place)
 
@@ -169,3 +172,11 @@ lastSum sum (r ∷ runs) = lastSum (r .sum .0) runs
 -- what the minutes of a day pay, in both services
 unfoldable pub dayMinutes : Day → ℕ
 dayMinutes d = total (minuteAt (d .member) (d .series) (d .deep)) (d .first) minutesPerDay + total (minuteAt (d .member) (d .series) (d .reserves)) (d .first) minutesPerDay
+
+-- what the runs of a day pay that are told
+unfoldable pub dayPay : Member → List ℕ → List ℕ → ℕ → ℕ
+dayPay m b series day = runsPay (runsTold m b series day)
+
+-- the same of all days of the month, from day 1 on
+unfoldable pub daysPay : Member → List ℕ → List ℕ → ℕ
+daysPay m b series = total (dayPay m b series) 1 (daysOf (headerAt b .year) (headerAt b .month))

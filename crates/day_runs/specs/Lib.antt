@@ -1,2 +1,3 @@
 pub mod DayRuns
 pub mod Inner
+pub mod Cases

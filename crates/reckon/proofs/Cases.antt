@@ -34,7 +34,7 @@ use Rattle.score.specs.Scoring.{isOwnLive, payOf, whOf, payAt, whAt, monthGrain
 use Rattle.score.specs.Outcomes.{Ready}
 use Rattle.score.proofs.Listed.{over-calls}
 use Rattle.reckon.specs.Reckoning.{covers, windowMinute, minuteAt, reckoning}
-use Rattle.reckon.specs.Cases.{february, coalOf, twoHours, bookOf, seriesOf, paid, rising, odd}
+use Rattle.reckon.specs.Cases.{february, coalOf, twoHours, bookOf, seriesOf, paid, rising, odd, overMidnight, even}
 use Rattle.reckon.proofs.BothWays.{both-ways}
 
 -- The month of one call
@@ -68,25 +68,30 @@ module _ (x : Call) (within : CallWithin (headerMinutes february) x) where
   unfolding bookOf
   reads = reads-back february (x ∷ []) heads (lit≤ tt) (within, tt)
 
-module _ (m : Member) (line : memberIsSound m ≡ true) (x : Call) (within : CallWithin (headerMinutes february) x) (outputs : List ℕ) (eight : length outputs ≡ 8) (low : small outputs ≡ true) where
-  long : length (seriesOf outputs) ≡ 2688
-  unfolding seriesOf
-  long = length-append {A = ℕ} outputs (replicate 2680 0) ∙ omega (arith, length-replicate {A = ℕ} 2680 0)
+-- of 2,688 quarter hours, each within the limit
+record Outputs (series : List ℕ) : Type 0 where
+  many : length series ≡ 2688
+  low : (i : ℕ) → getD series i 0 ≤ mostOutput
 
-  ready : Ready m (bookOf x) (seriesOf outputs)
+of-eight : (outputs : List ℕ) → length outputs ≡ 8 → small outputs ≡ true → Outputs (seriesOf outputs)
+unfolding seriesOf
+of-eight outputs eight h = record { many = length-append {A = ℕ} outputs (replicate 2680 0) ∙ omega (arith, length-replicate {A = ℕ} 2680 0, eight); low = low-of outputs h }
+
+module _ (m : Member) (line : memberIsSound m ≡ true) (x : Call) (within : CallWithin (headerMinutes february) x) (series : List ℕ) (outputs : Outputs series) where
+  ready : Ready m (bookOf x) series
   unfolding february quartersOf daysOf isLeap
   ready =
       record {
         front = record { line = line-of m line; book = sound-accepted (bookOf x) (is-sound x within) };
-        spans = long ∙ sym (ap (λ (h : Header). quartersOf (h .year) (h .month)) (reads x within .0));
-        within = λ j l. low-of outputs low j;
+        spans = outputs .many ∙ sym (ap (λ (h : Header). quartersOf (h .year) (h .month)) (reads x within .0));
+        within = λ j l. outputs .low j;
       }
 
   -- the first way's answer, over the call
-  one-call : scoring m (bookOf x) (seriesOf outputs) ≡ inFen (recordsEarned (monthAt (bookOf x)) m (seriesOf outputs) (λ (i : ℕ). getD (x ∷ []) i x) 1)
+  one-call : scoring m (bookOf x) series ≡ inFen (recordsEarned (monthAt (bookOf x)) m series (λ (i : ℕ). getD (x ∷ []) i x) 1)
   one-call =
-      over-calls m (bookOf x) (seriesOf outputs) x ready
-      ∙ ap (λ (xs : List Call). inFen (recordsEarned (monthAt (bookOf x)) m (seriesOf outputs) (λ (i : ℕ). getD xs i x) (length xs))) (reads x within .1)
+      over-calls m (bookOf x) series x ready
+      ∙ ap (λ (xs : List Call). inFen (recordsEarned (monthAt (bookOf x)) m series (λ (i : ℕ). getD xs i x) (length xs))) (reads x within .1)
 
 is-within : (x : Call) → x .number < 4294967296 → x .revision < 4294967296 → callIsSound (headerMinutes february) x ≡ true → CallWithin (headerMinutes february) x
 is-within x = sound-within (headerMinutes february) x
@@ -112,7 +117,7 @@ rising-scored : scoring (coalOf 300000) (bookOf (twoHours reserve 290000)) (seri
 unfolding
     small coalOf memberIsSound twoHours seriesOf rising paid inFen recordsEarned firstRefused firstNonzero refusalAt numberOf anyBelow openTo reserveOpen
     monthGrains payAt payOf whAt whOf isOwnLive livePay liveWh windowPay quarterAt quarterPay minutePay reserveMinute coalMinute coalBand lacking clamp energyPay total totalZ
-rising-scored = one-call (coalOf 300000) refl (twoHours reserve 290000) reserve-within rising refl refl ∙ refl
+rising-scored = one-call (coalOf 300000) refl (twoHours reserve 290000) reserve-within (seriesOf rising) (of-eight rising refl refl) ∙ refl
 
 pub rising-reckoned : reckoning (coalOf 300000) (bookOf (twoHours reserve 290000)) (seriesOf rising) ≡ paid 13650000000
 rising-reckoned = both-ways (coalOf 300000) (bookOf (twoHours reserve 290000)) (seriesOf rising) ∙ rising-scored
@@ -135,7 +140,41 @@ odd-scored : scoring (coalOf 300001) (bookOf (twoHours deepPeak 0)) (seriesOf od
 unfolding
     small coalOf memberIsSound twoHours seriesOf odd paid inFen recordsEarned firstRefused firstNonzero refusalAt numberOf anyBelow openTo
     monthGrains payAt payOf whAt whOf isOwnLive livePay liveWh windowPay quarterAt quarterPay minutePay deepPeakMinute lacking clamp energyPay total totalZ
-odd-scored = one-call (coalOf 300001) refl (twoHours deepPeak 0) deep-within odd refl refl ∙ refl
+odd-scored = one-call (coalOf 300001) refl (twoHours deepPeak 0) deep-within (seriesOf odd) (of-eight odd refl refl) ∙ refl
 
 pub odd-reckoned : reckoning (coalOf 300001) (bookOf (twoHours deepPeak 0)) (seriesOf odd) ≡ paid 67496625000
 odd-reckoned = both-ways (coalOf 300001) (bookOf (twoHours deepPeak 0)) (seriesOf odd) ∙ odd-scored
+
+-- Over midnight at one output: 36,000,000,000 grains
+
+pub night-within : CallWithin (headerMinutes february) overMidnight
+unfolding overMidnight february headerMinutes minutesOf daysOf isLeap callIsSound limitsAllow limitsOf table
+night-within = is-within _ (lit< tt) (lit< tt) refl
+
+-- one value so many times
+of-one : (p n i : ℕ) → i < n → getD (replicate n p) i 0 ≡ p
+of-one p zero i l = absurd (omega arith)
+of-one p (suc n) zero l = refl
+of-one p (suc n) (suc i) l = of-one p n i (omega arith)
+
+low-one : (p n i : ℕ) → p ≤ mostOutput → getD (replicate n p) i 0 ≤ mostOutput
+low-one p zero i l = omega arith
+low-one p (suc n) zero l = l
+low-one p (suc n) (suc i) l = low-one p n i l
+
+pub even-at : (i : ℕ) → i < 2688 → _≡_ {A = ℕ} (getD even i 0) 140000
+unfolding even
+even-at i l = of-one 140000 2688 i l
+
+even-outputs : Outputs even
+unfolding even
+even-outputs = record { many = length-replicate {A = ℕ} 2688 140000; low = λ i. low-one 140000 2688 i (lit≤ tt) }
+
+night-scored : scoring (coalOf 300000) (bookOf overMidnight) even ≡ paid 36000000000
+unfolding
+    coalOf memberIsSound overMidnight even paid inFen recordsEarned firstRefused firstNonzero refusalAt numberOf anyBelow openTo
+    monthGrains payAt payOf whAt whOf isOwnLive livePay liveWh windowPay quarterAt quarterPay minutePay deepPeakMinute lacking clamp energyPay total totalZ
+night-scored = one-call (coalOf 300000) refl overMidnight night-within even even-outputs ∙ refl
+
+pub night-reckoned : reckoning (coalOf 300000) (bookOf overMidnight) even ≡ paid 36000000000
+night-reckoned = both-ways (coalOf 300000) (bookOf overMidnight) even ∙ night-scored

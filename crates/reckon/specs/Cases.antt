@@ -1,4 +1,4 @@
--- The request's cases: one window of 120 minutes from the month's first minute on, a coal unit, and its outputs in the first quarter hours. Assumes nothing.
+-- The request's cases: one window of 120 minutes from the month's first minute on, a coal unit, and its outputs in the first quarter hours; and one over midnight. Assumes nothing.
 use mathlib.Core.List.{List, [], _∷_, _++_}
 use Prim.Native.Nat.{ℕ}
 use lib.IntN.{pos}
@@ -44,3 +44,11 @@ rising = 150000 ∷ 170000 ∷ 190000 ∷ 210000 ∷ 230000 ∷ 250000 ∷ 27000
 -- an odd rating in deep peaking: 10,001 kW more in each quarter hour
 unfoldable pub odd : List ℕ
 odd = 100000 ∷ 110001 ∷ 120002 ∷ 130003 ∷ 140004 ∷ 150005 ∷ 160006 ∷ 170007 ∷ []
+
+-- an hour before the month's first midnight and an hour behind it, in deep peaking
+unfoldable pub overMidnight : Call
+overMidnight = record { participant = 7; service = deepPeak; state = live; number = 1; revision = 1; start = 1380; length = 120; a = pos 0; b = 0; c = 0 }
+
+-- one output throughout the month
+unfoldable pub even : List ℕ
+even = replicate 2688 140000

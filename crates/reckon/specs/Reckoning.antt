@@ -1,5 +1,6 @@
--- The second way of scoring: services 1 and 2 by a walk through the month, minute by minute. The other services, and every refusal with its place, go the first way.
--- Assumes nothing.
+-- The second way of scoring: services 1 and 2 by a walk through the month, minute by minute. Assumes nothing.
+-- Apart from the first way it says which calls are windows, which minutes each covers, at which output, and how they add up. Both ways share, by one definition each, what a minute at one output
+-- pays (`minutePay`), the refusals with their order and places, the other services with the energy, and the conversion to fen: of these the comparison of both ways says nothing.
 use mathlib.Core.Bool.{Bool, cond, not, _&&_, _||_}
 use mathlib.Core.List.{List, [], _∷_}
 use Prim.Native.Nat.{ℕ, _+_, _/_}
@@ -42,7 +43,7 @@ covers x minute = leb (x .start) minute && leb (minute + 1) (x .start + x .lengt
 abbrev pub outputAt : List ℕ → ℕ → ℕ
 outputAt series minute = getD series (minute / minutesPerQuarter) 0
 
--- what a minute of a window pays at an output, by the paper's rule; 2 up to the power a that is called
+-- what a minute of a window pays at an output, by the paper's rule, which both ways share; 2 up to the power a that is called
 unfoldable pub windowMinute : Member → Call → ℕ → ℕ
 windowMinute m x p = minutePay m (x .service) (calledUp (x .a)) p
 
@@ -57,7 +58,7 @@ minuteAt m series (x ∷ windows) minute = cond (covers x minute) (windowMinute 
 unfoldable pub walked : Member → ℕ → List ℕ → List ℕ → ℕ
 walked m service b series = total (minuteAt m series (windowsOf m service (callsOf b))) 0 (minutesOf (headerAt b .year) (headerAt b .month))
 
--- a call of another service goes the first way: by its rate
+-- a call of another service goes the first way: by its rate, which both ways share
 unfoldable pub otherPay : Member → Call → ℕ
 otherPay m x = cond (isOwnLive m x && not (eqb (x .service) deepPeak || eqb (x .service) reserve)) (ratedPay m x) 0
 
@@ -75,7 +76,7 @@ reckonedGrains m b series =
 
 -- The answer
 
--- the first refusal among the records, with its record, or the month's grains
+-- the first refusal among the records, with its record, which both ways share; or the month's grains
 unfoldable pub recordsReckoned : Member → List ℕ → List ℕ → Earned
 recordsReckoned m b series =
     cond (ltb (firstRefused (monthAt b) m (recordAt b) (countAt b)) (countAt b))
