@@ -1,7 +1,7 @@
 -- The drawer of the story: the plant's book, head office's and the spare terminal's; and a member with three faults, all of them told. Assumes nothing.
-use mathlib.Core.Path.{_≡_, refl, sym, _∙_, ap}
+use mathlib.Core.Path.{_≡_, refl, sym, _∙_, ap, subst}
 use mathlib.Core.Bool.{true, false}
-use mathlib.Core.List.{List, [], _∷_, map}
+use mathlib.Core.List.{List, [], _∷_, List·Memᴰ as In, List·Memᴰ·head as here}
 use Prim.Native.Nat.{ℕ, _<_}
 use native.Mathlib.Omega.{arith}
 use lib.Dec.{lit<, lit≤}
@@ -26,7 +26,7 @@ use Rattle.book.proofs.Records.{length-calls}
 use Rattle.rule.specs.Standing.{sameCall, decide, given, standing}
 use Rattle.rule.specs.Keys.{recordOf, also, put, putAll, differentKeys, recordsAt}
 use Rattle.rule.specs.Whole.{recordsOf, those, all, highest, withdrawnAt, ruling, ruleFor, ruleOver, ruleCalls}
-use Rattle.join.specs.Trees.{written, result}
+use Rattle.join.specs.Trees.{book as leaf, books, written, result, Covers}
 use Rattle.join.proofs.Story.{march, stop, entered, early, withdrawal, entered-within, early-within, withdrawal-within, one, one-reads, plant, head-office, spare, three}
 use Rattle.join.proofs.Story.{one-month, left, left-room, left-covers, few}
 use Rattle.lookup.specs.declared.Index.the-variants.{At}
@@ -38,17 +38,19 @@ use Rattle.pay.specs.Open.{reserveOpen, openTo}
 use Rattle.pay.proofs.Within.{line-of}
 use Rattle.score.specs.First.{firstNonzero, anyBelow}
 use Rattle.score.specs.Refusing.{overlaps, isOnce, clashes, clashAt, numberOf, refusalAt}
+use Rattle.score.specs.declared.answer.Score.{Score}
 use Rattle.score.specs.Scoring.{scoreRefused, scoring}
 use Rattle.score.specs.Outcomes.{ValuesWithin}
 use Rattle.drawer.specs.declared.stale.StaleRecord.{StaleRecord}
 use Rattle.drawer.specs.declared.stale.Why.the-variants.{Withdrawn}
 use Rattle.drawer.specs.declared.refused.RefusedRecord.{RefusedRecord}
 use Rattle.drawer.specs.Told.{toldFrom}
-use Rattle.drawer.specs.Stale.{isThis, isStale, whyNot, whyOf, isStaleAt, staleAt, staleOf}
-use Rattle.drawer.specs.Refused.{againstAt, firstAgainst, isRefusedAt, refusedAt, refusedOf}
+use Rattle.drawer.specs.Stale.{isThis, isStale, whyNot, whyOf, isStaleAt, staleAt, staleOf, EachStands}
+use Rattle.drawer.specs.Refused.{againstAt, firstAgainst, isRefusedAt, refusedAt, refusedOf, NoneListed}
 use Rattle.drawer.specs.Nothing.{standsAgainst, isCovered, isSpare, orStays, staying}
-use Rattle.drawer.proofs.Agreeing.{joined-calls}
-use Rattle.drawer.proofs.Scored.{first-is-score}
+use Rattle.drawer.proofs.Agreeing.{joined-calls, nothing-listed}
+use Rattle.drawer.proofs.Scored.{first-is-score, accepted-exactly}
+use Rattle.drawer.proofs.Staying.{bytes-same}
 
 -- The three books, joined: the stop is withdrawn
 
@@ -91,6 +93,15 @@ pub office-told : staleOf head-office joined 0 ≡ []
 unfolding staleOf toldFrom isStaleAt isStale isThis staleAt recordOf sameCall head-office withdrawal stop
 office-told = rw (count-one withdrawal withdrawal-within, at-one withdrawal withdrawal-within, joined-stop) refl
 
+-- So the three do not agree with what stands: nothing would be listed where they did.
+pub three-disagree : EachStands three → ⊥
+unfolding three
+three-disagree s =
+    let none = nothing-listed march three one-month left left-covers left-room few .1 s plant (here refl) in
+    let told = plant-told in
+    let z : _≡_ {A = ℕ} 0 1 = cc in
+    omega arith
+
 -- Of the three books head office's alone stays: the spare terminal's adds nothing, nor does then the plant's
 
 spare-listed : isSpare (plant ∷ head-office ∷ []) spare ≡ true
@@ -114,6 +125,18 @@ plant-listed = rw (one-reads entered entered-within .1, one-reads withdrawal wit
 pub office-stays : staying [] three ≡ head-office ∷ []
 unfolding staying orStays three
 office-stays = rw (spare-listed, office-unlisted, plant-listed) refl
+
+-- it by itself is the book of all three
+pub office-alone : written (result (leaf head-office)) ≡ written (result left)
+unfolding books
+office-alone = bytes-same march three one-month few left (leaf head-office) left-covers covers left-room tt
+  where
+    covers : Covers (leaf head-office) (staying [] three)
+    covers =
+        record {
+          all = λ b i. subst (λ (l : List (List ℕ)). In b l) office-stays i;
+          only = λ b i. subst (λ (l : List (List ℕ)). In b l) (sym office-stays) i;
+        }
 
 -- A member with three faults
 
@@ -186,3 +209,11 @@ seven-refused series long values =
       within = λ j l. values j (omega (arith, l, long));
     })
     _ _ three-told
+
+-- so that of this member not none of 11 to 14 is listed
+pub seven-listed : (series : List ℕ) → length series ≡ 2688 → ValuesWithin series 2688 → NoneListed seven book series → ⊥
+unfolding seven memberIsSound
+seven-listed series long values none =
+    let line = line-of seven refl in
+    let number = accepted-exactly seven book series (record { line = line; book = sound-accepted book is-sound }) .1 none in
+    omega (arith, number, ap (λ (r : Score). r .number) (seven-refused series long values))
