@@ -1,6 +1,5 @@
 // The desk's day, on files: `desk help` says how.
 mod books;
-mod member;
 mod places;
 mod ramping;
 mod series;
@@ -20,6 +19,8 @@ use ledger::change::enter;
 use ledger::change::new_book;
 use ledger::change::revise;
 use ledger::change::withdraw;
+use tally::member::score_member;
+use tally::minutes::reckon_member;
 
 enum Command {
     Check,
@@ -31,6 +32,7 @@ enum Command {
     Join,
     Find,
     Score,
+    Reckon,
     Ramp,
     Month,
     Explain,
@@ -88,6 +90,10 @@ fn rows(usage: bool, word: &[u8]) -> Command {
     if row(usage, word, b"score MEMBER KIND RATED BOOK SERIES", 7, 7) {
         return Command::Score;
     }
+    let reckoning = b"reckon MEMBER KIND RATED BOOK SERIES DAY";
+    if row(usage, word, reckoning, 8, 8) {
+        return Command::Reckon;
+    }
     if row(usage, word, b"ramp MEMBER KIND RATED FILE", 6, 6) {
         return Command::Ramp;
     }
@@ -143,7 +149,8 @@ fn run(word: &[u8]) {
         Command::Withdraw => withdraw(),
         Command::Join => join_books(),
         Command::Find => find_call(),
-        Command::Score => member::score_member(),
+        Command::Score => score_member(),
+        Command::Reckon => reckon_member(),
         Command::Ramp => ramping::ramp_member(),
         Command::Month => settle::settle_month(),
         Command::Explain => why::explain_member(),

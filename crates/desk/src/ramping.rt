@@ -1,6 +1,4 @@
 // Ramping files: what a member's hours pay, told by themselves, and for the month and its explanation.
-use crate::member::Given;
-use crate::member::member_given;
 use crate::series::Name;
 use crate::series::in_folder;
 use book::header_of;
@@ -23,6 +21,8 @@ use register::Entry;
 use register::MOST_ENTRIES;
 use report::hourly::hour_text;
 use report::hourly::hours_text;
+use tally::member::Given;
+use tally::member::member_given;
 use units::Grains;
 ghost use Prim.Native.Nat.{_<_, _≤_};
 

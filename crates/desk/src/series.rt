@@ -4,33 +4,27 @@ use clerk::args::Held;
 use clerk::args::first;
 use clerk::args::path;
 use clerk::print;
-use clerk::shelf::load;
 use register::Entry;
 use register::MOST_ENTRIES;
 use register::blank_entry;
-use tables::series::read_series;
 use tables::series::series_name;
+use tally::outputs::SERIES_ROOM;
+use tally::outputs::Values;
+use tally::outputs::part;
+use tally::outputs::read_file;
 ghost use mathlib.Core.Path.{_≡_};
 ghost use Prim.Native.Nat.{_+_, _*_, _<_, _≤_};
 ghost use lib.ListN.{length};
-ghost use Rattle.desk.specs.Room.{seriesRoom, allRoom, ReadsWithin};
+ghost use Rattle.tally.specs.Room.{seriesRoom, ReadsWithin};
+ghost use Rattle.desk.specs.Room.{allRoom};
 
-// The quarter hours of 31 days, and one place more, so that a series that is too long shows.
-pub const SERIES_ROOM: usize = 31 * 24 * 4 + 1;
-
-// As many for each member.
+// Room for a series of each member.
 pub const ALL_ROOM: usize = MOST_ENTRIES * SERIES_ROOM;
 
 // The longest name of a file in it, a ramping file's, and the longest name of a folder that leaves room for it.
 const MOST_FILE: usize = 15;
 
 const MOST_FOLDER: usize = libc::PATH_MAX - MOST_FILE;
-
-// So many values were read; or nothing, and one line has said why.
-pub enum Values {
-    Read(usize),
-    Nothing,
-}
 
 // A file's name in its first bytes; where it has none, one line has said why.
 pub struct Name {
@@ -85,17 +79,6 @@ pub fn in_folder(name: &[u8]) -> Name {
 pub fn file_of(member: u16) -> Name {
     let name = series_name(member);
     in_folder(&name)
-}
-
-// The values of a file's lines in the first places of `out`, as many as there is room for.
-pub fn read_file(path: &[u8], out: &mut [u32]) -> Values
-    ensures { λ r. ⌜ ReadsWithin (length (now (out .entry))) r ⌝ }
-{
-    let mut text = io::large_buffer();
-    let Held::Bytes(n) = load(path, &mut text) else {
-        return Values::Nothing;
-    };
-    Values::Read(read_series(first(&text, n), out))
 }
 
 // The values of a member's series.
@@ -175,17 +158,6 @@ pub fn entry_at(entries: [Entry; MOST_ENTRIES], i: usize) -> Entry {
         return entries[i];
     }
     blank_entry()
-}
-
-// So many values from a place on, as far as there are any.
-pub fn part(series: &[u32], at: usize, n: usize) -> &[u32] {
-    if series.len() < at {
-        return &series[..0];
-    }
-    if series.len() - at < n {
-        return &series[at..];
-    }
-    &series[at..at + n]
 }
 
 // The series of line i's member.

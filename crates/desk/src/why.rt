@@ -7,10 +7,7 @@ use crate::ramping::month_hours;
 use crate::ramping::no_hours;
 use crate::ramping::put_each;
 use crate::ramping::read_ramping;
-use crate::series::SERIES_ROOM;
-use crate::series::Values;
 use crate::series::entry_at;
-use crate::series::part;
 use crate::series::read_member;
 use crate::settle::open_register;
 use crate::settle::tell_member;
@@ -32,6 +29,9 @@ use register::Entry;
 use register::MOST_ENTRIES;
 use report::why::explained_text;
 use report::why::part_text;
+use tally::outputs::SERIES_ROOM;
+use tally::outputs::Values;
+use tally::outputs::part;
 
 // The line of a member, or count where it has none.
 fn line_of(entries: [Entry; MOST_ENTRIES], count: usize, number: u16) -> usize {

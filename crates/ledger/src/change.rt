@@ -202,11 +202,12 @@ fn join_asked(wish: Wish, x: Call, given: bool, header: Header, book: &mut [u8],
 }
 
 // What a month of so many days has not.
-fn tell_no_day(i: usize, days: u32) {
+pub fn tell_no_day(i: usize, days: u32) {
     match days {
         28 => print::bad_argument(i, b"no such day: the month has 28"),
         29 => print::bad_argument(i, b"no such day: the month has 29"),
-        _ => print::bad_argument(i, b"no such day: the month has 30"),
+        30 => print::bad_argument(i, b"no such day: the month has 30"),
+        _ => print::bad_argument(i, b"no such day: the month has 31"),
     }
 }
 

@@ -2,7 +2,7 @@ use native.Mathlib.Omega.{arith}
 use mathlib.Core.Path.{_≡_, _∙_}
 use Prim.Native.Nat.{_*_, _-_, _≤_}
 use lib.ListN.{length}
-use Rattle.desk.specs.Room.{seriesRoom}
+use Rattle.tally.specs.Room.{seriesRoom}
 use borrow.Author.Needs.{needs}
 use Rattle.desk.proofs.series.read_all.Statement.{statement}
 use Rattle.desk.proofs.series.read_all.Tie as tie

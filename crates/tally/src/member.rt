@@ -1,9 +1,8 @@
 // One member's score.
-use crate::books::show_call;
-use crate::series::SERIES_ROOM;
-use crate::series::Values;
-use crate::series::part;
-use crate::series::read_file;
+use crate::outputs::SERIES_ROOM;
+use crate::outputs::Values;
+use crate::outputs::part;
+use crate::outputs::read_file;
 use clerk::args::Byte;
 use clerk::args::Held;
 use clerk::args::Long;
@@ -16,21 +15,21 @@ use clerk::args::short_at;
 use clerk::print;
 use clerk::shelf::open;
 use clerk::shelf::refused_at;
+use ledger::books::show_call;
 use pay::Member;
 use score::answer::Score;
 use units::Kw;
 
 // The member that the arguments say is no register line.
-fn refuse_member() {
+pub fn refuse_member() {
     print::refused(10, 0, b"member");
 }
 
-// The score, or its refusal in one line. Of a call that is refused by 12, 13 or 14 a line before it says which it is.
-fn tell(r: Score, book: &[u8], series: &[u8]) {
+// The score behind what stands on a page, or its refusal in one line. Of a call that is refused by 12, 13 or 14 a line before it says which it is.
+pub fn tell(r: Score, book: &[u8], series: &[u8], page: &mut [u8], at: usize) {
     if r.number == 0 {
-        let mut page = io::buffer();
-        let at = print::put_score(&mut page, 0, r.grains, r.fen);
-        print::finish(&mut page, at);
+        let end = print::put_score(page, at, r.grains, r.fen);
+        print::finish(page, end);
         return;
     }
     if r.number == 10 {
@@ -52,7 +51,8 @@ fn score_with(member: Member, book: &[u8], path: &[u8]) {
     let mut series = [0u32; SERIES_ROOM];
     if let Values::Read(n) = read_file(path, &mut series) {
         let r = score::score(member, book, part(&series, 0, n));
-        tell(r, book, path);
+        let mut page = io::buffer();
+        tell(r, book, path, &mut page, 0);
     }
 }
 

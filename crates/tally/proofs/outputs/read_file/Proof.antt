@@ -3,8 +3,8 @@ use Prim.Native.Nat.{_≤_}
 use lib.ListN.{length}
 use Rattle.tables.proofs.Promises.{series-fits}
 use borrow.Author.Needs.{needs}
-use Rattle.desk.proofs.series.read_file.Statement.{statement}
-use Rattle.desk.proofs.series.read_file.Tie as tie
+use Rattle.tally.proofs.outputs.read_file.Statement.{statement}
+use Rattle.tally.proofs.outputs.read_file.Tie as tie
 
 large-buffer-requires : tie.Need-large-buffer-requires
 large-buffer-requires c κs = search needs

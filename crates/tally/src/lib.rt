@@ -1,0 +1,4 @@
+// One member's points at the desk: its score, and the same minute by minute with one of its days.
+pub mod member;
+pub mod minutes;
+pub mod outputs;
