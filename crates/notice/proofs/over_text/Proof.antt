@@ -1,0 +1,34 @@
+use native.Mathlib.Omega.{arith}
+use Rattle.notice.specs.Texts.{mostOver}
+use Rattle.render.proofs.Placed.{no-room, rendered}
+use borrow.Author.Needs.{needs}
+use Rattle.notice.proofs.over_text.Statement.{statement}
+use Rattle.notice.proofs.over_text.Tie as tie
+
+returns : tie.Need-returns
+returns c =
+    let a = c .before .before .before .args in
+    no-room (mostOver (a .file .now)) _ (a .out .now) (omega arith)
+
+sub-if2 : tie.Need-sub-if2
+sub-if2 c = search needs
+
+returns-2 : tie.Need-returns-2
+returns-2 c =
+    let a = c .before .before .before .before .args in
+    no-room (mostOver (a .file .now)) _ (a .out .now) (omega arith)
+
+put-over-requires : tie.Need-put-over-requires
+put-over-requires c κs = search needs
+
+same-length : tie.Need-same-length
+same-length c = search needs
+
+returns-3 : tie.Need-returns-3
+returns-3 c =
+    let a = c .before .before .before .before .before .before .before .before .args in
+    rendered (mostOver (a .file .now)) (omega arith) (c .before .before .put-over .ensures)
+
+pub over-text-spec : {M : Type 1} → statement M
+over-text-spec =
+    tie.close (tie.spec returns sub-if2 returns-2 put-over-requires same-length returns-3)

@@ -1,0 +1,29 @@
+use native.Mathlib.Omega.{arith}
+use Rattle.render.proofs.Placed.{and-then, looser}
+use borrow.Author.Needs.{needs}
+use Rattle.notice.proofs.put_named.Statement.{statement}
+use Rattle.notice.proofs.put_named.Tie as tie
+
+put-word-requires : tie.Need-put-word-requires
+put-word-requires c κs = search needs
+
+put-word-requires-2 : tie.Need-put-word-requires-2
+put-word-requires-2 c κs = search needs
+
+put-field-requires : tie.Need-put-field-requires
+put-field-requires c κs = search needs
+
+same-length : tie.Need-same-length
+same-length c = search needs
+
+returns : tie.Need-returns
+returns c =
+    let p = c .before .before .before .before .before .before .before .before .before .before .put-word .ensures in
+    let q = c .before .before .before .before .before .before .put-word2 .ensures in
+    let r = c .before .before .put-field .ensures in
+    looser _ (omega arith) (and-then (and-then p q) r)
+
+pub put-named-spec : {M : Type 1} → statement M
+put-named-spec =
+    tie.close
+    (tie.spec put-word-requires put-word-requires-2 put-field-requires same-length returns)
