@@ -1,0 +1,5 @@
+pub mod Head
+pub mod Judging
+pub mod Texts
+pub mod Walking
+pub mod Promises
