@@ -2,3 +2,4 @@
 pub mod args;
 pub mod print;
 pub mod shelf;
+pub mod wrong;

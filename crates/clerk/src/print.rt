@@ -1,8 +1,15 @@
 // What the program prints, each line whole: at once, or, where lines stand before `ok`, collected on a page, which is written when it is full and at the end. Its last
-// line is `ok`, `unchanged WHY`, `refused N P FILE` or `failed ..`. What a line says is text's; a name of a file is at most 4,096 bytes, so that every line has room
+// line is `ok`, `unchanged WHY`, `refused N P FILE` or `failed ..`. What a line says is text's and remark's; a name of a file is at most 4,096 bytes, so that every line has room
 // here, and is printed without control characters.
 use book::Header;
+use book::MOST_RECORDS;
 use call::Call;
+use remark::away::clash_text;
+use remark::away::contested_text;
+use remark::away::not_open_text;
+use remark::bad::outside_text;
+use remark::bad::record_text;
+use remark::other::other_month_text;
 use text::record::call_text;
 use text::record::found_text;
 use text::record::header_text;
@@ -18,6 +25,7 @@ use text::told::unchanged_text;
 use text::told::usage_text;
 use units::Fen;
 use units::Grains;
+use units::Kw;
 
 pub fn done() {
     say::text(b"ok\n");
@@ -81,6 +89,53 @@ pub fn note(what: &[u8], why: &[u8]) {
     let m = shown_text(what, &mut name);
     let mut line = io::large_buffer();
     let n = note_text(&name[..m], why, &mut line);
+    say::text(&line[..n]);
+}
+
+// A number outside its limits, by its name, and what it is of: a line before the last one.
+pub fn outside(what: &[u8], name: &[u8], n: u64, low: u64, high: u64) {
+    let mut why = io::buffer();
+    let k = outside_text(name, n, low, high, &mut why);
+    note(what, &why[..k]);
+}
+
+// Record i of a book, told as counted from 1, and what is wrong with it.
+pub fn bad_record(what: &[u8], i: usize, why: &[u8]) {
+    if MOST_RECORDS <= i {
+        return;
+    }
+    let mut name = io::buffer();
+    let m = shown_text(what, &mut name);
+    let mut line = io::large_buffer();
+    let n = record_text(&name[..m], i + 1, why, &mut line);
+    say::text(&line[..n]);
+}
+
+// Of which month and area a book is, and of which those before it.
+pub fn other_month(what: &[u8], h: Header, before: Header) {
+    let mut name = io::buffer();
+    let m = shown_text(what, &mut name);
+    let mut line = io::large_buffer();
+    let n = other_month_text(&name[..m], h, before, &mut line);
+    say::text(&line[..n]);
+}
+
+// Why scoring turns a call away: it is not open to a plant, an earlier call stands against it, it is contested.
+pub fn not_open(x: Call, kind: u8, rated: Kw, h: Header) {
+    let mut line = io::buffer();
+    let n = not_open_text(x, kind, rated, h, &mut line);
+    say::text(&line[..n]);
+}
+
+pub fn clash(x: Call, y: Call) {
+    let mut line = io::buffer();
+    let n = clash_text(x, y, &mut line);
+    say::text(&line[..n]);
+}
+
+pub fn contested(x: Call) {
+    let mut line = io::buffer();
+    let n = contested_text(x, &mut line);
     say::text(&line[..n]);
 }
 

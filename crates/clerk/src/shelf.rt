@@ -3,6 +3,8 @@ use crate::args::Held;
 use crate::args::first;
 use crate::args::path;
 use crate::print;
+use crate::wrong::tell_book;
+use book::Header;
 use book::Opened;
 use book::header_of;
 use files::Hold;
@@ -130,9 +132,17 @@ pub fn opened_at(i: usize, book: &[u8]) -> Opened
 {
     let o = header_of(book);
     if o.number != 0 {
-        refused_at(o.number, o.place, i);
+        book_refused_at(i, book, o.number, o.place);
     }
     o
+}
+
+// A refusal of the book that argument i names, in words and by its number.
+fn book_refused_at(i: usize, book: &[u8], number: u32, place: usize) {
+    let mut buf = io::buffer();
+    let n = os::arg(i, &mut buf);
+    tell_book(&buf[0..n], book, number, place);
+    print::refused(number, place, &buf[0..n]);
 }
 
 // The book that argument i names, in the buffer's first bytes, sound.
@@ -166,4 +176,11 @@ pub fn note_at(i: usize, why: &[u8]) {
     let mut buf = io::buffer();
     let n = os::arg(i, &mut buf);
     print::note(&buf[0..n], why);
+}
+
+// Of which month and area the book that argument i names is, and of which those before it.
+pub fn other_month_at(i: usize, h: Header, before: Header) {
+    let mut buf = io::buffer();
+    let n = os::arg(i, &mut buf);
+    print::other_month(&buf[0..n], h, before);
 }

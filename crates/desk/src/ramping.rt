@@ -6,6 +6,7 @@ use clerk::args::Held;
 use clerk::args::first;
 use clerk::args::path;
 use clerk::print;
+use clerk::wrong::tell_member;
 use hours::Hours;
 use hours::HoursFault;
 use hours::MOST_HOURS;
@@ -111,11 +112,26 @@ fn tell_hours(hours: Hours, path: &[u8]) {
     print::finish(&mut page, end);
 }
 
+// That a kind does not ramp, and what that is told of.
+pub fn tell_unramped(what: &[u8]) {
+    print::note(what, b"only coal, gas and hydro ramp");
+}
+
+// Why a member's hours are not judged, in words: it is no register line, or of a kind that does not ramp.
+fn tell_no_hours(member: Member, number: u32) {
+    if number == 12 {
+        tell_unramped(b"member");
+        return;
+    }
+    tell_member(member);
+}
+
 // The register line first, then the file.
-fn tell_file(file: HoursFile, path: &[u8]) {
+fn tell_file(member: Member, file: HoursFile, path: &[u8]) {
     let hours = file.hours;
     let fault = hours.fault;
     if let HoursFault::OfMember(number) = fault {
+        tell_no_hours(member, number);
         print::refused(number, 0, b"member");
         return;
     }
@@ -137,7 +153,7 @@ pub fn ramp_member() {
         return;
     };
     let path = first(&name, n);
-    tell_file(read_file(path, member, MOST_HOURS as u16), path);
+    tell_file(member, read_file(path, member, MOST_HOURS as u16), path);
 }
 
 // What became of a member's ramping file; that it could not be read is told.

@@ -1,6 +1,6 @@
 // The month: the generators' part, the register, the books joined, every member's series and ramping file; then the library settles it.
 use crate::books::join_all;
-use crate::books::show_call;
+use crate::books::tell_away;
 use crate::places::books_at;
 use crate::places::register_at;
 use crate::ramping::Ramps;
@@ -8,6 +8,7 @@ use crate::ramping::month_hours;
 use crate::ramping::ramped_at;
 use crate::ramping::ramping_file_of;
 use crate::ramping::read_ramps;
+use crate::ramping::tell_unramped;
 use crate::series::Lengths;
 use crate::series::entry_at;
 use crate::series::file_of;
@@ -23,6 +24,7 @@ use clerk::args::number_at;
 use clerk::args::path;
 use clerk::print;
 use clerk::shelf::load;
+use clerk::shelf::note_at;
 use clerk::shelf::refused_at;
 use clerk::shelf::save_new;
 use month::Fault;
@@ -40,6 +42,8 @@ use share::limits::PART_PLACE;
 use tables::Told;
 use tables::roll::Register;
 use tables::roll::read_register;
+use tally::wrong::tell_register;
+use tally::wrong::tell_series;
 use text::told::shown_text;
 
 // The arguments that name the statement's file, and give the part.
@@ -69,11 +73,12 @@ fn tell_statement(s: Statement) {
     print::finish(&mut page, end);
 }
 
-// The member's refusal: of its series, of a call, which is shown before, or of its line.
+// The member's refusal: of its series, with a line before it that says why, of a call, which is shown before, or of its line.
 pub fn tell_member(e: Entry, line: usize, number: u32, place: usize, book: &[u8]) {
     if number == 11 {
         let name = file_of(e.member.number);
         let bytes = name.bytes;
+        tell_series(first(&bytes, name.size), place, book);
         print::refused(number, place, first(&bytes, name.size));
         return;
     }
@@ -82,7 +87,7 @@ pub fn tell_member(e: Entry, line: usize, number: u32, place: usize, book: &[u8]
         return;
     }
     if 11 < number {
-        show_call(book, place);
+        tell_away(book, place, number, e.member);
     }
     print::refused(number, place, b"joined");
 }
@@ -91,6 +96,9 @@ pub fn tell_member(e: Entry, line: usize, number: u32, place: usize, book: &[u8]
 pub fn tell_ramping(e: Entry, number: u32, place: usize) {
     let name = ramping_file_of(e.member.number);
     let bytes = name.bytes;
+    if number == 12 {
+        tell_unramped(first(&bytes, name.size));
+    }
     print::refused(number, place, first(&bytes, name.size));
 }
 
@@ -118,6 +126,22 @@ fn tell_unlisted(book: &[u8], i: usize) {
     }
 }
 
+// What is wrong with the sums of all members, in words.
+fn tell_sums(number: u32) {
+    if number == 15 {
+        note_at(
+            register_at(),
+            b"the compensations of all members are together above 1000000000.00 yuan",
+        );
+    }
+    if number == 16 {
+        note_at(
+            register_at(),
+            b"the members have a part of the gap to share, and none has a weight to share it by",
+        );
+    }
+}
+
 // Sharing's refusal. A compensation above a line's limit is told in words before it.
 fn tell_sharing(e: Entry, number: u32, place: usize, book: &[u8], series: &[u32], ramped: Ramped) {
     if number == 10 {
@@ -126,11 +150,13 @@ fn tell_sharing(e: Entry, number: u32, place: usize, book: &[u8], series: &[u32]
         let n = above_text(e.member.number, fen, &mut out);
         say::text(&out[..n]);
     }
+    tell_sums(number);
     refused_at(number, place, register_at());
 }
 
 // That the part is none.
 fn tell_part() {
+    print::note(b"part", b"is no number from 0 to 10000");
     print::refused(10, PART_PLACE, b"part");
 }
 
@@ -215,7 +241,7 @@ fn no_register() -> Register {
     none
 }
 
-// The register. Where its number is not 0, one line has said why.
+// The register. Where its number is not 0, its last line has said why, behind a line for each of its faults.
 pub fn open_register() -> Register {
     let mut name = io::buffer();
     let Held::Bytes(n) = path(register_at(), &mut name) else {
@@ -227,6 +253,7 @@ pub fn open_register() -> Register {
     };
     let register = read_register(first(&text, size));
     if register.number != 0 {
+        tell_register(first(&name, n), first(&text, size));
         print::refused(register.number, register.place, first(&name, n));
     }
     register

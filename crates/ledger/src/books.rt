@@ -18,6 +18,7 @@ use clerk::shelf::load_at;
 use clerk::shelf::note_at;
 use clerk::shelf::open;
 use clerk::shelf::opened_at;
+use clerk::shelf::other_month_at;
 use clerk::shelf::put;
 use clerk::shelf::refused_at;
 use clerk::shelf::tell_failed;
@@ -93,11 +94,30 @@ fn keep(bytes: &[u8], all: &mut [u8]) -> Held {
     Held::Bytes(bytes::copy(bytes, all))
 }
 
+// Of which month a sound book is, and of which the one before it; argument i names it.
+fn tell_other_month(i: usize, one: &[u8], two: &[u8]) {
+    let before = header_of(one);
+    let this = header_of(two);
+    let h = this.header;
+    let earlier = before.header;
+    other_month_at(i, h, earlier);
+}
+
+// Why two sound books are not joined, in words; argument i names the second.
+fn tell_unjoined(i: usize, number: u32, one: &[u8], two: &[u8]) {
+    match number {
+        7 => tell_other_month(i, one, two),
+        8 => note_at(i, b"with it there would be more than 512 different calls"),
+        _ => {}
+    }
+}
+
 // A second book joined into the first n bytes of `all`. Argument i is what a refusal is about: a book of another month, or one too many.
 pub fn join_bytes(i: usize, all: &mut [u8], n: usize, second: &[u8]) -> Held {
     let mut out = io::large_buffer();
     let w = join::join(first(all, n), second, &mut out);
     if w.number != 0 {
+        tell_unjoined(i, w.number, first(all, n), second);
         refused_at(w.number, w.place, i);
         return Held::Nothing;
     }
@@ -130,18 +150,7 @@ pub fn join_all(from: usize, all: &mut [u8]) -> Held
     held
 }
 
-// Call i of a sound book.
-pub fn show_call(book: &[u8], i: usize) {
-    let o = header_of(book);
-    if o.number != 0 {
-        return;
-    }
-    if i < o.calls {
-        print::call(call_of(book, i));
-    }
-}
-
-// The same on a page.
+// Call i of a sound book, on a page.
 pub fn put_call(page: &mut [u8], at: usize, book: &[u8], i: usize) -> usize {
     let o = header_of(book);
     if o.number != 0 {

@@ -33,6 +33,8 @@ use clerk::shelf::load_at;
 use clerk::shelf::opened_at;
 use clerk::shelf::put;
 use clerk::shelf::tell_failed;
+use clerk::wrong::tell_call;
+use clerk::wrong::tell_header;
 use units::calendar::days_of;
 use wish::Old;
 use wish::Verdict;
@@ -165,6 +167,7 @@ fn join_one(wish: Wish, x: Call, header: Header, book: &mut [u8], n: usize) -> H
     let mut one = [0u8; HEADER_SIZE + RECORD_SIZE];
     let w = write_one(header, x, &mut one);
     if w.number != 0 {
+        tell_call(header, x);
         print::refused(w.number, w.place, b"call");
         return Held::Nothing;
     }
@@ -281,6 +284,7 @@ fn make(header: Header) {
     let mut out = [0u8; HEADER_SIZE];
     let w = write_none(header, &mut out);
     if w.number != 0 {
+        tell_header(b"header", header);
         print::refused(w.number, w.place, b"header");
         return;
     }

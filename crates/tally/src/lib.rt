@@ -2,3 +2,4 @@
 pub mod member;
 pub mod minutes;
 pub mod outputs;
+pub mod wrong;

@@ -3,6 +3,7 @@ use crate::outputs::SERIES_ROOM;
 use crate::outputs::Values;
 use crate::outputs::part;
 use crate::outputs::read_file;
+use crate::wrong::tell_series;
 use clerk::args::Byte;
 use clerk::args::Held;
 use clerk::args::Long;
@@ -15,33 +16,37 @@ use clerk::args::short_at;
 use clerk::print;
 use clerk::shelf::open;
 use clerk::shelf::refused_at;
-use ledger::books::show_call;
+use clerk::wrong::tell_member;
+use ledger::away::tell_away;
 use pay::Member;
 use score::answer::Score;
 use units::Kw;
 
 // The member that the arguments say is no register line.
-pub fn refuse_member() {
+pub fn refuse_member(member: Member) {
+    tell_member(member);
     print::refused(10, 0, b"member");
 }
 
-// The score behind what stands on a page, or its refusal in one line. Of a call that is refused by 12, 13 or 14 a line before it says which it is.
-pub fn tell(r: Score, book: &[u8], series: &[u8], page: &mut [u8], at: usize) {
+// The score behind what stands on a page, or its refusal in one line. Of a call that is refused by 12, 13 or 14 the lines before it say which it is and why, of a series what is
+// wrong with it.
+pub fn tell(member: Member, r: Score, book: &[u8], series: &[u8], page: &mut [u8], at: usize) {
     if r.number == 0 {
         let end = print::put_score(page, at, r.grains, r.fen);
         print::finish(page, end);
         return;
     }
     if r.number == 10 {
-        refuse_member();
+        refuse_member(member);
         return;
     }
     if r.number == 11 {
+        tell_series(series, r.place, book);
         print::refused(r.number, r.place, series);
         return;
     }
     if 11 < r.number {
-        show_call(book, r.place);
+        tell_away(book, r.place, r.number, member);
     }
     refused_at(r.number, r.place, 5);
 }
@@ -52,7 +57,7 @@ fn score_with(member: Member, book: &[u8], path: &[u8]) {
     if let Values::Read(n) = read_file(path, &mut series) {
         let r = score::score(member, book, part(&series, 0, n));
         let mut page = io::buffer();
-        tell(r, book, path, &mut page, 0);
+        tell(member, r, book, path, &mut page, 0);
     }
 }
 
@@ -99,7 +104,7 @@ pub fn score_member() {
         return;
     };
     if !member.is_sound() {
-        refuse_member();
+        refuse_member(member);
         return;
     }
     score_of(member);

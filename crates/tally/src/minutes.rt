@@ -49,7 +49,7 @@ fn put_runs(page: &mut [u8], runs: [DayRun; MOST_RUNS], count: usize) -> usize {
 }
 
 // The runs of the day, then the month's score, or its refusal.
-fn tell_day(d: DayReckoned, book: &[u8], series: &[u8]) {
+fn tell_day(member: Member, d: DayReckoned, book: &[u8], series: &[u8]) {
     let mut page = io::large_buffer();
     let runs = d.runs;
     let at = put_runs(&mut page, runs, d.count);
@@ -61,7 +61,7 @@ fn tell_day(d: DayReckoned, book: &[u8], series: &[u8]) {
         grains,
         fen,
     };
-    tell(r, book, series, &mut page, at);
+    tell(member, r, book, series, &mut page, at);
 }
 
 // The day and the month over a book and the series in a file.
@@ -69,7 +69,7 @@ fn reckon_with(member: Member, book: &[u8], path: &[u8], day: u8) {
     let mut series = [0u32; SERIES_ROOM];
     if let Values::Read(n) = read_file(path, &mut series) {
         let d = reckon_day(member, book, part(&series, 0, n), day as u32);
-        tell_day(d, book, path);
+        tell_day(member, d, book, path);
     }
 }
 
@@ -110,7 +110,7 @@ pub fn reckon_member() {
         return;
     };
     if !member.is_sound() {
-        refuse_member();
+        refuse_member(member);
         return;
     }
     reckon_of(member, day);

@@ -2,8 +2,8 @@ use mathlib.Core.Path.{_≡_}
 use native.Mathlib.Omega.{arith}
 use Rattle.book.specs.Check.{accepted, check}
 use borrow.Author.Needs.{needs}
-use Rattle.ledger.proofs.books.show_call.Statement.{statement}
-use Rattle.ledger.proofs.books.show_call.Tie as tie
+use Rattle.ledger.proofs.away.tell_away.Statement.{statement}
+use Rattle.ledger.proofs.away.tell_away.Tie as tie
 
 -- behind the test of its number the book is sound
 sound : (c : tie.Else1) → check (c .before .before .before .before .args .book .now) ≡ accepted
@@ -15,11 +15,8 @@ header-of-requires c κs = search needs
 returns : tie.Need-returns
 returns c = search needs
 
-call-of-requires : tie.Need-call-of-requires
-call-of-requires c κs = let s = c .before .before in (sound s, omega (arith, s .before .before .header-of .ensures .1 .1))
-
-call-requires : tie.Need-call-requires
-call-requires c κs = search needs
+tell-call-requires : tie.Need-tell-call-requires
+tell-call-requires c κs = let s = c .before .before in (sound s, omega (arith, s .before .before .header-of .ensures .1 .1))
 
 returns-2 : tie.Need-returns-2
 returns-2 c = search needs
@@ -27,7 +24,6 @@ returns-2 c = search needs
 returns-3 : tie.Need-returns-3
 returns-3 c = search needs
 
-pub show-call-spec : {M : Type 1} → statement M
-show-call-spec =
-    tie.close
-    (tie.spec header-of-requires returns call-of-requires call-requires returns-2 returns-3)
+pub tell-away-spec : {M : Type 1} → statement M
+tell-away-spec =
+    tie.close (tie.spec header-of-requires returns tell-call-requires returns-2 returns-3)
