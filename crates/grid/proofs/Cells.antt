@@ -14,15 +14,15 @@ use Rattle.row.specs.Numbers.{isDigit, digits, isNumber, numbers, value, number
 use Rattle.row.specs.Meaning.{mostColumns}
 use Rattle.row.proofs.Texts.{digit-is-not, and-false}
 use Rattle.grid.specs.declared.cell.Cell.{Cell}
-use Rattle.grid.specs.declared.cell.Cell.the-variants.{Fresh, Bare, Opened, Quoted, Closed, Bad}
+use Rattle.grid.specs.declared.cell.Cell.the-variants.{Fresh, Bare, Opened, Quoted, Dashed, Closed, Bad}
 use Rattle.grid.specs.Grid.{quote, closing, unquoted}
-use Rattle.grid.specs.Told.{noNumber, told}
-use Rattle.grid.specs.Meaning.{toldBehind, toldLeft, cellSoFar, cellDigits, cellQuote, allTold, rowBy}
+use Rattle.grid.specs.Told.{dash, isDash, noNumber, noneTold, told}
+use Rattle.grid.specs.Meaning.{toldBehind, toldLeft, cellSoFar, cellDigits, cellQuote, cellDash, allTold, rowBy}
 
 -- A byte of the cell
 
-told-foreign : (c : ℕ) (p : List ℕ) → isDigit c ≡ false → told (c ∷ p) ≡ noNumber
-told-foreign c p d = rw d
+told-foreign : (c : ℕ) (p : List ℕ) → isDigit c ≡ false → (c ≡ dash → ⊥) → told (c ∷ p) ≡ noNumber
+told-foreign c p d nd = rw (d, ne-eqb c dash nd)
 
 closing-on : (c : ℕ) (p : List ℕ) → (c ≡ quote → ⊥) → closing (c ∷ p) ≡ c ∷ closing p
 closing-on c p ne = rw (ne-eqb c quote ne)
@@ -30,15 +30,16 @@ closing-on c p ne = rw (ne-eqb c quote ne)
 unquoted-on : (c : ℕ) (p : List ℕ) → (c ≡ quote → ⊥) → unquoted (c ∷ p) ≡ c ∷ p
 unquoted-on c p ne = rw (ne-eqb c quote ne)
 
--- a byte that no number has
-pub foreign : (cell : Cell) (c : ℕ) → isDigit c ≡ false → (c ≡ quote → ⊥) → (p : List ℕ) → noNumber ≡ toldLeft cell (c ∷ p)
+-- a byte that no cell has
+pub foreign : (cell : Cell) (c : ℕ) → isDigit c ≡ false → (c ≡ quote → ⊥) → (c ≡ dash → ⊥) → (p : List ℕ) → noNumber ≡ toldLeft cell (c ∷ p)
 unfolding toldLeft
-foreign Fresh c d ne p = sym (ap told (unquoted-on c p ne) ∙ told-foreign c p d)
-foreign (Bare v) c d ne p = sym (rw d)
-foreign Opened c d ne p = sym (ap told (closing-on c p ne) ∙ told-foreign c (closing p) d)
-foreign (Quoted v) c d ne p = sym (ap (toldBehind v) (closing-on c p ne) ∙ rw d)
-foreign (Closed v) c d ne p = refl
-foreign Bad c d ne p = refl
+foreign Fresh c d ne nd p = sym (ap told (unquoted-on c p ne) ∙ told-foreign c p d nd)
+foreign (Bare v) c d ne nd p = sym (rw d)
+foreign Opened c d ne nd p = sym (ap told (closing-on c p ne) ∙ told-foreign c (closing p) d nd)
+foreign (Quoted v) c d ne nd p = sym (ap (toldBehind v) (closing-on c p ne) ∙ rw d)
+foreign Dashed c d ne nd p = sym (ap (λ (x : List ℕ). told (dash ∷ x)) (closing-on c p ne))
+foreign (Closed n) c d ne nd p = refl
+foreign Bad c d ne nd p = refl
 
 -- a quote
 pub by-quote : (cell : Cell) (p : List ℕ) → toldLeft (cellQuote cell) p ≡ toldLeft cell (quote ∷ p)
@@ -49,8 +50,22 @@ by-quote Opened [] = refl
 by-quote Opened (x ∷ p) = refl
 by-quote (Quoted v) [] = refl
 by-quote (Quoted v) (x ∷ p) = refl
-by-quote (Closed v) p = refl
+by-quote Dashed [] = refl
+by-quote Dashed (x ∷ p) = refl
+by-quote (Closed n) p = refl
 by-quote Bad p = refl
+
+-- a dash
+pub by-dash : (cell : Cell) (p : List ℕ) → toldLeft (cellDash cell) p ≡ toldLeft cell (dash ∷ p)
+unfolding toldLeft
+by-dash Fresh [] = refl
+by-dash Fresh (x ∷ p) = refl
+by-dash (Bare v) p = refl
+by-dash Opened p = refl
+by-dash (Quoted v) p = refl
+by-dash Dashed p = refl
+by-dash (Closed n) p = refl
+by-dash Bad p = refl
 
 -- a digit
 module _ (d v : ℕ) (is : isDigit d ≡ true) where
@@ -60,9 +75,9 @@ module _ (d v : ℕ) (is : isDigit d ≡ true) where
   told-digit : (p : List ℕ) → hold (value v p) ≡ hold (value 0 (d ∷ p)) → toldBehind v p ≡ told (d ∷ p)
   told-digit p h = rw is (go (digits p))
     where
-      go : (t : Bool) → cond t (hold (value v p)) noNumber ≡ cond (t && true) (hold (value 0 (d ∷ p))) noNumber
+      go : (t : Bool) → cond t (hold (value v p)) noNumber ≡ cond (t && true) (hold (value 0 (d ∷ p))) (cond (isDash (d ∷ p)) noneTold noNumber)
       go true = h
-      go false = refl
+      go false = rw (ne-eqb d dash (digit-is-not d dash is (omega arith)))
 
   behind-digit : (u : ℕ) (p : List ℕ) → hold (value v p) ≡ hold (value u (d ∷ p)) → toldBehind v p ≡ toldBehind u (d ∷ p)
   behind-digit u p h = rw is (ap (λ (n : ℕ). cond (digits p) n noNumber) h)
@@ -74,17 +89,39 @@ module _ (d v : ℕ) (is : isDigit d ≡ true) where
   by-digit (Bare u) h p = behind-digit u p (h p)
   by-digit Opened h p = told-digit (closing p) (h (closing p)) ∙ ap told (sym (closing-on d p apart))
   by-digit (Quoted u) h p = behind-digit u (closing p) (h (closing p)) ∙ ap (toldBehind u) (sym (closing-on d p apart))
-  by-digit (Closed u) h p = refl
+  by-digit Dashed h p = ap (λ (x : List ℕ). told (dash ∷ x)) (sym (closing-on d p apart))
+  by-digit (Closed n) h p = refl
   by-digit Bad h p = refl
 
 -- What the cells of a line say
 
-told-is : (p : List ℕ) → leb (told p) ceiling ≡ isNumber p
+-- A CELL SAYS A NUMBER exactly where it is one,
+pub told-is : (p : List ℕ) → leb (told p) ceiling ≡ isNumber p
 told-is p = go (isNumber p)
   where
-    go : (t : Bool) → leb (cond t (hold (value 0 p)) noNumber) ceiling ≡ t
+    none : (t : Bool) → leb (cond t noneTold noNumber) ceiling ≡ false
+    none true = refl
+    none false = refl
+
+    go : (t : Bool) → leb (cond t (hold (value 0 p)) (cond (isDash p) noneTold noNumber)) ceiling ≡ t
     go true = le-leb (hold (value 0 p)) ceiling (omega arith)
-    go false = refl
+    go false = none (isDash p)
+
+number-no-dash : (p : List ℕ) → isNumber p ≡ true → isDash p ≡ false
+number-no-dash [] h = refl
+number-no-dash (b ∷ p) h = rw (ne-eqb b dash (digit-is-not b dash (each (isDigit b) (digits p ∷ true ∷ []) h .0) (omega arith)))
+
+-- and NONE exactly where it is `-` alone.
+pub told-none : (p : List ℕ) → eqb (told p) noneTold ≡ isDash p
+told-none p = go (isNumber p) refl
+  where
+    none : (t : Bool) → eqb (cond t noneTold noNumber) noneTold ≡ t
+    none true = refl
+    none false = refl
+
+    go : (t : Bool) → isNumber p ≡ t → eqb (cond t (hold (value 0 p)) (cond (isDash p) noneTold noNumber)) noneTold ≡ isDash p
+    go true h = ne-eqb (hold (value 0 p)) noneTold (λ e. omega arith) ∙ sym (number-no-dash p h)
+    go false h = none (isDash p)
 
 all-told : (cells : List (List ℕ)) → allTold (map told cells) ≡ numbers cells
 all-told [] = refl

@@ -1,9 +1,10 @@
--- Texts as spreadsheets save them, and their rows: each thing that is read once, and what stays bad. Assumes nothing.
+-- Texts as spreadsheets save them, and their rows: each thing that is read once, what stays bad, and what cells say. Assumes nothing.
 use mathlib.Core.Path.{_≡_, refl}
-use mathlib.Core.List.{List, [], _∷_, _++_}
+use mathlib.Core.List.{List, [], _∷_, _++_, map}
 use Prim.Native.Nat.{ℕ}
 use Rattle.row.specs.Numbers.{numbersIn}
-use Rattle.grid.specs.Grid.{rowOf, rowsOf}
+use Rattle.grid.specs.Grid.{cellsOf, rowOf, rowsOf}
+use Rattle.grid.specs.Told.{noNumber, noneTold, told}
 
 -- "1,2" and "30,4", and the two as lines
 abbrev first : List ℕ
@@ -97,3 +98,13 @@ quote-open = refl
 pub mark-late : rowsOf 2 (both ++ 239 ∷ 187 ∷ 191 ∷ first) ≡ rows ++ [] ∷ []
 unfolding rowsOf rowOf numbersIn
 mark-late = refl
+
+-- A dash is no number.
+pub dash-no-number : rowsOf 2 (49 ∷ 44 ∷ 45 ∷ []) ≡ [] ∷ []
+unfolding rowsOf rowOf numbersIn
+dash-no-number = refl
+
+-- WHAT CELLS SAY, of the line `7,-,"-",--,-7,"-,`: a number; none, twice; and no number.
+pub cells-told : map told (cellsOf (55 ∷ 44 ∷ 45 ∷ 44 ∷ 34 ∷ 45 ∷ 34 ∷ 44 ∷ 45 ∷ 45 ∷ 44 ∷ 45 ∷ 55 ∷ 44 ∷ 34 ∷ 45 ∷ 44 ∷ []))
+    ≡ 7 ∷ noneTold ∷ noneTold ∷ noNumber ∷ noNumber ∷ noNumber ∷ noNumber ∷ []
+cells-told = refl

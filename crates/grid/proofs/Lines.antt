@@ -16,9 +16,9 @@ use Rattle.grid.specs.declared.cell.Cell.{Cell}
 use Rattle.grid.specs.declared.cell.Cell.the-variants.{Fresh, Bad}
 use Rattle.grid.specs.declared.Grid.{Grid}
 use Rattle.grid.specs.Grid.{comma, carriageReturn, plain, isBlank, quote, unquoted}
-use Rattle.grid.specs.Told.{told}
-use Rattle.grid.specs.Meaning.{toldLeft, cellSoFar, cellQuote, rowBy, cellsLeft, plainLeft, headLeft, blankLeft, rowLeft, gridOpened, gridSpoilt, gridDigits}
-use Rattle.grid.proofs.Cells.{foreign, by-quote, by-digit}
+use Rattle.grid.specs.Told.{dash, told}
+use Rattle.grid.specs.Meaning.{toldLeft, cellSoFar, cellQuote, cellDash, rowBy, cellsLeft, plainLeft, headLeft, blankLeft, rowLeft, gridOpened, gridSpoilt, gridDigits}
+use Rattle.grid.proofs.Cells.{foreign, by-quote, by-dash, by-digit}
 
 -- the line by one byte more
 pub record LineFollows (g : Grid) (ended : List ℕ) (c : ℕ) (r : Grid) (after : List ℕ) : Type 0 where
@@ -57,26 +57,40 @@ head-onto : (g r : Grid) (c : ℕ) → r .stage ≡ g .stage → isDigit c ≡ f
 unfolding headLeft
 head-onto g r c e d l = rw (e, d)
 
+-- the line with a byte more in its open cell
+abbrev pub typedAs : Grid → Cell → Grid
+typedAs g cell = record { stage = g .stage; separator = g .separator; filled = true; shut = false; cell = cell; at = g .at }
+
 module _ (g : Grid) (ended : List ℕ) (clear : g .shut ≡ false) where
-  -- a byte that no number has
-  pub by-foreign : (c : ℕ) → isDigit c ≡ false → (c ≡ quote → ⊥) → (c ≡ carriageReturn → ⊥) → (c ≡ comma → ⊥) → LineFollows g ended c (gridSpoilt g) ended
+  -- a byte that no cell has
+  pub by-foreign : (c : ℕ) → isDigit c ≡ false → (c ≡ quote → ⊥) → (c ≡ dash → ⊥) → (c ≡ carriageReturn → ⊥) → (c ≡ comma → ⊥) → LineFollows g ended c (gridSpoilt g) ended
   unfolding toldLeft
-  by-foreign c d nq nr nc =
+  by-foreign c d nq nd nr nc =
       record {
         heads = head-onto g (gridSpoilt g) c refl d;
         blanks = blank-onto g (gridSpoilt g) ended c clear refl nr nc;
-        numbers = row-onto g (gridSpoilt g) ended c clear clear refl nr nc (foreign (g .cell) c d nq);
+        numbers = row-onto g (gridSpoilt g) ended c clear clear refl nr nc (foreign (g .cell) c d nq nd);
       }
 
-  -- a quote
-  pub by-quoting : (r : Grid) → r ≡ record { stage = g .stage; separator = g .separator; filled = true; shut = false; cell = cellQuote (g .cell); at = g .at } → LineFollows g ended quote r ended
+  -- a quote, and a dash
+  pub by-quoting : (r : Grid) → r ≡ typedAs g (cellQuote (g .cell)) → LineFollows g ended quote r ended
   by-quoting r e =
-      let s : Grid = record { stage = g .stage; separator = g .separator; filled = true; shut = false; cell = cellQuote (g .cell); at = g .at } in
+      let s : Grid = typedAs g (cellQuote (g .cell)) in
       rw e
       (record {
         heads = head-onto g s quote refl refl;
         blanks = blank-onto g s ended quote clear refl (λ e. omega arith) (λ e. omega arith);
         numbers = row-onto g s ended quote clear refl refl (λ e. omega arith) (λ e. omega arith) (by-quote (g .cell));
+      })
+
+  pub by-dashing : (r : Grid) → r ≡ typedAs g (cellDash (g .cell)) → LineFollows g ended dash r ended
+  by-dashing r e =
+      let s : Grid = typedAs g (cellDash (g .cell)) in
+      rw e
+      (record {
+        heads = head-onto g s dash refl refl;
+        blanks = blank-onto g s ended dash clear refl (λ e. omega arith) (λ e. omega arith);
+        numbers = row-onto g s ended dash clear refl refl (λ e. omega arith) (λ e. omega arith) (by-dash (g .cell));
       })
 
   -- a carriage return, which is held back
@@ -168,5 +182,5 @@ by-opening g = go (g .shut) refl
         record {
           heads = λ c l. refl;
           blanks = λ c l. rw e (sym (and-false (not (g .filled))));
-          numbers = λ say ended c l. rw e (ap (say) (cells-onto (g .at) ended (g .cell) Bad 13 (foreign (g .cell) 13 refl (λ e. omega arith)) (plain (c ∷ l))));
+          numbers = λ say ended c l. rw e (ap (say) (cells-onto (g .at) ended (g .cell) Bad 13 (foreign (g .cell) 13 refl (λ e. omega arith) (λ e. omega arith)) (plain (c ∷ l))));
         }

@@ -1,4 +1,4 @@
--- The steps of the reader: a byte of the mark, a separator, a quote, a run of digits. Assumes nothing.
+-- The steps of the reader: a byte of the mark, a separator, a quote, a dash, a run of digits. Assumes nothing.
 use mathlib.Core.Path.{_≡_, refl, ap, sym, subst, _∙_}
 use mathlib.Core.Bool.{Bool, true, false, cond}
 use mathlib.Core.List.{List, [], _∷_, _++_, map}
@@ -12,13 +12,14 @@ use Rattle.row.specs.Numbers.{linesOf, isDigit, digits, value, hold}
 use Rattle.row.proofs.Texts.{and-false}
 use Rattle.row.proofs.Left.{next-byte}
 use Rattle.grid.specs.declared.cell.Cell.{Cell}
-use Rattle.grid.specs.declared.cell.Cell.the-variants.{Fresh, Bare, Opened, Quoted, Closed, Bad}
+use Rattle.grid.specs.declared.cell.Cell.the-variants.{Fresh, Bare, Opened, Quoted, Dashed, Closed, Bad}
 use Rattle.grid.specs.declared.cell.Run.{Run}
 use Rattle.grid.specs.declared.Grid.{Grid}
 use Rattle.grid.specs.Grid.{mark, comma, isSeparator, asComma, carriageReturn, quote}
-use Rattle.grid.specs.Meaning.{cellSoFar, cellDigits, cellQuote, headLeft, blankLeft, rowLeft, linesLeft, separatorLeft, linesBy, rowsBehind, gridFirst, marksOn, rowsLeft, gridBegun}
+use Rattle.grid.specs.Told.{dash}
+use Rattle.grid.specs.Meaning.{cellSoFar, cellDigits, cellQuote, cellDash, headLeft, blankLeft, rowLeft, linesLeft, separatorLeft, linesBy, rowsBehind, gridFirst, marksOn, rowsLeft, gridBegun}
 use Rattle.grid.specs.Meaning.{gridOpened, markGoesOn, gridKnown, gridSpoilt, gridDigits, InLine, Follows, RunFrom, noFeed, StepFrom}
-use Rattle.grid.proofs.Lines.{LineFollows, by-foreign, by-quoting, by-return, by-one-digit}
+use Rattle.grid.proofs.Lines.{LineFollows, typedAs, by-foreign, by-quoting, by-dashing, by-return, by-one-digit}
 use Rattle.grid.proofs.Texts.{lines-by, stage-case, late, mark-late, mark-last, mark-more, lines-byte, by-line, by-byte, mark-low, begun-in-line, after-begun, after-opening}
 use Rattle.grid.proofs.Texts.{opened-alike, opened-clear}
 
@@ -41,7 +42,7 @@ module _ (g : Grid) (b : ℕ) (clear : g .shut ≡ false) (h : markGoesOn (g .st
   unfolding headLeft blankLeft rowLeft
   mark-line ended low =
       let big = mark-high (g .stage) b h in
-      let f = by-foreign g ended clear b (high b big .0) (λ e. omega arith) (λ e. omega arith) (λ e. omega arith) in
+      let f = by-foreign g ended clear b (high b big .0) (λ e. omega arith) (λ e. omega arith) (λ e. omega arith) (λ e. omega arith) in
       record {
         heads = λ l. rw (lt-ltb (g .stage + 1) 4 (omega arith), lt-ltb (g .stage) 4 (omega arith), high b big .0);
         blanks = f .blanks;
@@ -105,15 +106,15 @@ after-known g r ended after b line is f =
     }
 
 -- a separator that is no comma is a semicolon or a tab
-other-low : (b : ℕ) → eqb b comma ≡ false → isSeparator b ≡ true → (isDigit b ≡ false) × (b ≡ 10 → ⊥) × (b ≡ quote → ⊥) × (b ≡ carriageReturn → ⊥) × (b ≡ comma → ⊥)
+other-low : (b : ℕ) → eqb b comma ≡ false → isSeparator b ≡ true → (isDigit b ≡ false) × (b ≡ 10 → ⊥) × (b ≡ quote → ⊥) × (b ≡ dash → ⊥) × (b ≡ carriageReturn → ⊥) × (b ≡ comma → ⊥)
 other-low b e one = go (eqb b 59) refl
   where
     Is : ℕ → Type 0
-    Is c = (isDigit c ≡ false) × (c ≡ 10 → ⊥) × (c ≡ quote → ⊥) × (c ≡ carriageReturn → ⊥) × (c ≡ comma → ⊥)
+    Is c = (isDigit c ≡ false) × (c ≡ 10 → ⊥) × (c ≡ quote → ⊥) × (c ≡ dash → ⊥) × (c ≡ carriageReturn → ⊥) × (c ≡ comma → ⊥)
 
     go : (t : Bool) → eqb b 59 ≡ t → Is b
-    go true f = subst Is (sym (eqb-true b 59 f)) (refl, (λ x. omega arith), (λ x. omega arith), (λ x. omega arith), (λ x. omega arith))
-    go false f = subst Is (sym (eqb-true b 9 (rw (e, f) at one))) (refl, (λ x. omega arith), (λ x. omega arith), (λ x. omega arith), (λ x. omega arith))
+    go true f = subst Is (sym (eqb-true b 59 f)) (refl, (λ x. omega arith), (λ x. omega arith), (λ x. omega arith), (λ x. omega arith), (λ x. omega arith))
+    go false f = subst Is (sym (eqb-true b 9 (rw (e, f) at one))) (refl, (λ x. omega arith), (λ x. omega arith), (λ x. omega arith), (λ x. omega arith), (λ x. omega arith))
 
 module _ (g : Grid) (ended : List ℕ) (line : InLine g) where
   -- a separator that is the file's
@@ -134,19 +135,24 @@ module _ (g : Grid) (ended : List ℕ) (line : InLine g) where
       go : (t : Bool) → eqb b comma ≡ t → Follows g ended b (gridSpoilt g) ended
       go true e =
           by-line g (gridSpoilt g) ended ended b 59 (line .stage) (line .stage) (λ x. omega arith) (λ rest. rw (is, ne-eqb b (g .separator) ne, e)) (λ rest. rw is)
-          (by-foreign g ended (line .clear) 59 refl (λ x. omega arith) (λ x. omega arith) (λ x. omega arith))
+          (by-foreign g ended (line .clear) 59 refl (λ x. omega arith) (λ x. omega arith) (λ x. omega arith) (λ x. omega arith))
       go false e =
           let low = other-low b e one in
           by-line g (gridSpoilt g) ended ended b b (line .stage) (line .stage) (low .1) (λ rest. rw (is, ne-eqb b (g .separator) ne, e)) (λ rest. rw is)
-          (by-foreign g ended (line .clear) b (low .0) (low .2) (low .3) (low .4))
+          (by-foreign g ended (line .clear) b (low .0) (low .2) (low .3) (low .4) (low .5))
 
--- A quote and a carriage return
+-- A quote, a dash and a carriage return
 
 module _ (g : Grid) (ended : List ℕ) (line : InLine g) where
-  pub by-quote-byte : (r : Grid) → r ≡ record { stage = g .stage; separator = g .separator; filled = true; shut = false; cell = cellQuote (g .cell); at = g .at } → Follows g ended quote r ended
+  pub by-quote-byte : (r : Grid) → r ≡ typedAs g (cellQuote (g .cell)) → Follows g ended quote r ended
   by-quote-byte r e =
       by-byte g r ended ended quote (line .stage) (omega (arith, line .stage, ap (λ (x : Grid). x .stage) e)) (λ x. omega arith) refl (ap (λ (x : Grid). x .separator) e)
       (by-quoting g ended (line .clear) r e)
+
+  pub by-dash-byte : (r : Grid) → r ≡ typedAs g (cellDash (g .cell)) → Follows g ended dash r ended
+  by-dash-byte r e =
+      by-byte g r ended ended dash (line .stage) (omega (arith, line .stage, ap (λ (x : Grid). x .stage) e)) (λ x. omega arith) refl (ap (λ (x : Grid). x .separator) e)
+      (by-dashing g ended (line .clear) r e)
 
   pub by-return-byte : Follows g ended carriageReturn (record { stage = g .stage; separator = g .separator; filled = g .filled; shut = true; cell = g .cell; at = g .at }) ended
   by-return-byte =
@@ -154,11 +160,11 @@ module _ (g : Grid) (ended : List ℕ) (line : InLine g) where
       (λ x. omega arith)
       refl refl (by-return g ended (line .clear))
 
-  -- a byte that no number has
-  pub by-spoiling : (b : ℕ) → isDigit b ≡ false → (b ≡ 10 → ⊥) → isSeparator b ≡ false → (b ≡ quote → ⊥) → (b ≡ carriageReturn → ⊥) → Follows g ended b (gridSpoilt g) ended
-  by-spoiling b d ne n nq nr =
+  -- a byte that no cell has
+  pub by-spoiling : (b : ℕ) → isDigit b ≡ false → (b ≡ 10 → ⊥) → isSeparator b ≡ false → (b ≡ quote → ⊥) → (b ≡ carriageReturn → ⊥) → (b ≡ dash → ⊥) → Follows g ended b (gridSpoilt g) ended
+  by-spoiling b d ne n nq nr nd =
       by-byte g (gridSpoilt g) ended ended b (line .stage) (line .stage) ne n refl
-      (by-foreign g ended (line .clear) b d nq nr (λ e. holds-or-fails (ap isSeparator e) n))
+      (by-foreign g ended (line .clear) b d nq nd nr (λ e. holds-or-fails (ap isSeparator e) n))
 
 -- Digits
 
@@ -210,6 +216,9 @@ module _ (separator at : ℕ) (ended : List ℕ) (say : List ℕ → List ℕ) (
   run stage filled (Quoted u) d (e ∷ ds) v h w =
       let t = each (isDigit d) (digits (e ∷ ds) ∷ []) h in
       run 4 true (Quoted (u * 10 + (d - 48))) e ds v (t .1 .0) w ∙ one stage filled (Quoted u) d (e ∷ ds) (t .0)
+  run stage filled Dashed d (e ∷ ds) v h w =
+      let t = each (isDigit d) (digits (e ∷ ds) ∷ []) h in
+      run 4 true Bad e ds (value 0 (e ∷ ds)) (t .1 .0) (λ p. ap hold (value-append 0 (e ∷ ds) p)) ∙ one stage filled Dashed d (e ∷ ds) (t .0)
   run stage filled (Closed u) d (e ∷ ds) v h w =
       let t = each (isDigit d) (digits (e ∷ ds) ∷ []) h in
       run 4 true Bad e ds (value 0 (e ∷ ds)) (t .1 .0) (λ p. ap hold (value-append 0 (e ∷ ds) p)) ∙ one stage filled (Closed u) d (e ∷ ds) (t .0)

@@ -9,12 +9,12 @@ use lib.ListN.{length, take, drop, replicate, getD}
 use Rattle.row.specs.Numbers.{lineFeed, notEmpty, linesOf, partsOf, isDigit, digits, isNumber, value, ceiling, hold}
 use Rattle.row.specs.Meaning.{mostColumns}
 use Rattle.grid.specs.declared.cell.Cell.{Cell}
-use Rattle.grid.specs.declared.cell.Cell.the-variants.{Fresh, Bare, Opened, Quoted, Closed, Bad}
+use Rattle.grid.specs.declared.cell.Cell.the-variants.{Fresh, Bare, Opened, Quoted, Dashed, Closed, Bad}
 use Rattle.grid.specs.declared.Grid.{Grid}
 use Rattle.grid.specs.declared.Step.{Step}
 use Rattle.grid.specs.declared.cell.Run.{Run}
 use Rattle.grid.specs.Grid.{mark, beginsWith, comma, isSeparator, separatorOf, asComma, commas, hasDigit, carriageReturn, plain, isBlank, trimmed, closing, unquoted, cellsOf, bodyOf}
-use Rattle.grid.specs.Told.{noNumber, told, rowIn, rowsBy}
+use Rattle.grid.specs.Told.{dash, noNumber, noneTold, told, rowIn, rowsBy}
 
 -- Cells
 
@@ -28,7 +28,8 @@ toldLeft Fresh p = told (unquoted p)
 toldLeft (Bare v) p = toldBehind v p
 toldLeft Opened p = told (closing p)
 toldLeft (Quoted v) p = toldBehind v (closing p)
-toldLeft (Closed v) p = cond (notEmpty p) noNumber (hold v)
+toldLeft Dashed p = told (dash ∷ closing p)
+toldLeft (Closed n) p = cond (notEmpty p) noNumber n
 toldLeft Bad p = noNumber
 
 -- what it says, if it ends here
@@ -41,7 +42,8 @@ cellSoFar Fresh = 0
 cellSoFar (Bare v) = v
 cellSoFar Opened = 0
 cellSoFar (Quoted v) = v
-cellSoFar (Closed v) = 0
+cellSoFar Dashed = 0
+cellSoFar (Closed n) = 0
 cellSoFar Bad = 0
 
 -- the cell behind digits more, after which they are worth v
@@ -50,7 +52,8 @@ cellDigits Fresh v = Bare v
 cellDigits (Bare u) v = Bare v
 cellDigits Opened v = Quoted v
 cellDigits (Quoted u) v = Quoted v
-cellDigits (Closed u) v = Bad
+cellDigits Dashed v = Bad
+cellDigits (Closed n) v = Bad
 cellDigits Bad v = Bad
 
 -- the cell behind a quote
@@ -58,9 +61,20 @@ abbrev pub cellQuote : Cell → Cell
 cellQuote Fresh = Opened
 cellQuote (Bare v) = Bad
 cellQuote Opened = Bad
-cellQuote (Quoted v) = Closed v
-cellQuote (Closed v) = Bad
+cellQuote (Quoted v) = Closed (hold v)
+cellQuote Dashed = Closed noneTold
+cellQuote (Closed n) = Bad
 cellQuote Bad = Bad
+
+-- the cell behind a dash
+abbrev pub cellDash : Cell → Cell
+cellDash Fresh = Closed noneTold
+cellDash (Bare v) = Bad
+cellDash Opened = Dashed
+cellDash (Quoted v) = Bad
+cellDash Dashed = Bad
+cellDash (Closed n) = Bad
+cellDash Bad = Bad
 
 -- the digits from byte i of a text on, behind digits that are worth v
 pub record RunFrom (text : List ℕ) (i v : ℕ) (r : Run) : Type 0 where
@@ -175,7 +189,7 @@ abbrev pub gridKnown : Grid → ℕ → Grid
 gridKnown g b =
     record { stage = g .stage; separator = cond (isSeparator (g .separator)) (g .separator) b; filled = g .filled; shut = g .shut; cell = g .cell; at = g .at }
 
--- a byte that no number has
+-- a byte that no cell has
 abbrev pub gridSpoilt : Grid → Grid
 gridSpoilt g = record { stage = g .stage; separator = g .separator; filled = true; shut = g .shut; cell = Bad; at = g .at }
 

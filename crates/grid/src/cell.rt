@@ -1,4 +1,4 @@
-// The cell that is being read: a decimal number, perhaps between quotes; and a run of its digits.
+// The cell that is being read: a decimal number or a dash, perhaps between quotes; and a run of its digits.
 use row::CEILING;
 use row::grown;
 use row::hold;
@@ -6,17 +6,21 @@ use row::is_digit;
 ghost use mathlib.Core.Path.{_≡_};
 ghost use Prim.Native.Nat.{_≤_};
 ghost use lib.ListN.{length};
-ghost use Rattle.grid.specs.Meaning.{cellTold, cellSoFar, cellDigits, cellQuote, RunFrom};
+ghost use Rattle.grid.specs.Meaning.{cellTold, cellSoFar, cellDigits, cellQuote, cellDash, RunFrom};
 
 // It stands for a cell that is no number, and is above every limit.
 pub const NO_NUMBER: u64 = CEILING + 1;
 
-// Nothing read; digits, worth so much; a quote; digits behind it; and a quote behind them. Bad: no bytes can make it a number.
+// It stands for a cell that is a dash alone, which says none.
+pub const NONE_TOLD: u64 = CEILING + 2;
+
+// Nothing read; digits, worth so much; a quote; digits behind it; a dash behind it. Closed: it says so much, if it ends here. Bad: no bytes can make it say anything.
 pub enum Cell {
     Fresh,
     Bare(u64),
     Opened,
     Quoted(u64),
+    Dashed,
     Closed(u64),
     Bad,
 }
@@ -38,6 +42,7 @@ impl Cell {
             Cell::Bare(v) => v,
             Cell::Opened => 0,
             Cell::Quoted(v) => v,
+            Cell::Dashed => 0,
             Cell::Closed(_) => 0,
             Cell::Bad => 0,
         }
@@ -53,6 +58,7 @@ impl Cell {
             Cell::Bare(_) => Cell::Bare(v),
             Cell::Opened => Cell::Quoted(v),
             Cell::Quoted(_) => Cell::Quoted(v),
+            Cell::Dashed => Cell::Bad,
             Cell::Closed(_) => Cell::Bad,
             Cell::Bad => Cell::Bad,
         }
@@ -67,7 +73,24 @@ impl Cell {
             Cell::Fresh => Cell::Opened,
             Cell::Bare(_) => Cell::Bad,
             Cell::Opened => Cell::Bad,
-            Cell::Quoted(v) => Cell::Closed(v),
+            Cell::Quoted(v) => Cell::Closed(hold(v)),
+            Cell::Dashed => Cell::Closed(NONE_TOLD),
+            Cell::Closed(_) => Cell::Bad,
+            Cell::Bad => Cell::Bad,
+        }
+    }
+
+    // The cell behind a dash.
+    pub fn dash(self) -> Cell
+        ensures { λ r. ⌜ r ≡ cellDash self ⌝ }
+    {
+        let cell = self;
+        match cell {
+            Cell::Fresh => Cell::Closed(NONE_TOLD),
+            Cell::Bare(_) => Cell::Bad,
+            Cell::Opened => Cell::Dashed,
+            Cell::Quoted(_) => Cell::Bad,
+            Cell::Dashed => Cell::Bad,
             Cell::Closed(_) => Cell::Bad,
             Cell::Bad => Cell::Bad,
         }
@@ -83,7 +106,8 @@ impl Cell {
             Cell::Bare(v) => hold(v),
             Cell::Opened => NO_NUMBER,
             Cell::Quoted(_) => NO_NUMBER,
-            Cell::Closed(v) => hold(v),
+            Cell::Dashed => NO_NUMBER,
+            Cell::Closed(n) => n,
             Cell::Bad => NO_NUMBER,
         }
     }

@@ -12,6 +12,7 @@ ghost use lib.ListN.{length, getD};
 ghost use Rattle.row.specs.Numbers.{lineFeed, isDigit};
 ghost use Rattle.row.specs.Meaning.{mostColumns};
 ghost use Rattle.grid.specs.Grid.{mark, isSeparator, carriageReturn, quote};
+ghost use Rattle.grid.specs.Told.{dash};
 ghost use Rattle.grid.specs.Meaning.{headLeft, blankLeft, gridOpened, markGoesOn, gridBegun, gridKnown, gridSpoilt, gridDigits, gridFirst, InLine, Follows, StepFrom, Starts, Next};
 
 // What parts the cells of a line: one of these in a whole text.
@@ -22,6 +23,8 @@ const SEMICOLON: u8 = b';';
 const TAB: u8 = b'\t';
 
 const QUOTE: u8 = b'"';
+
+const DASH: u8 = b'-';
 
 const CARRIAGE_RETURN: u8 = b'\r';
 
@@ -135,7 +138,7 @@ impl Grid {
         self
     }
 
-    // The grid after a byte that no number has.
+    // The grid after a byte that no cell has.
     fn spoilt(self) -> Grid
         ensures { λ r. ⌜ r ≡ gridSpoilt self ⌝ }
     {
@@ -251,6 +254,23 @@ impl Grid {
         }
     }
 
+    // The grid after a dash.
+    fn dashed(self) -> Grid
+        requires { ⌜ InLine self ⌝ }
+        ensures { λ r. ⌜ ((ended : List ℕ) → Follows self ended dash r ended) ⌝ }
+    {
+        let cell = self.cell;
+        let next = cell.dash();
+        Grid {
+            stage: self.stage,
+            separator: self.separator,
+            filled: true,
+            shut: false,
+            cell: next,
+            at: self.at,
+        }
+    }
+
     // The grid after a carriage return, which is held back.
     fn returned(mut self) -> Grid
         requires { ⌜ InLine self ⌝ }
@@ -275,6 +295,9 @@ impl Grid {
         }
         if b == CARRIAGE_RETURN {
             return self.returned();
+        }
+        if b == DASH {
+            return self.dashed();
         }
         self.spoilt()
     }

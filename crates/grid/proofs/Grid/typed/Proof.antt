@@ -33,15 +33,22 @@ returns-3 : tie.Need-returns-3
 returns-3 c = let s = c .before .before .before .before .before .before in
     subst (λ (b : ℕ). Follows (s .args .self) (s .args .ended .now) b (c .returned .result) (s .args .ended .now)) (sym (c .before .if3 .taken)) (c .returned .ensures (s .args .ended .now))
 
+dashed-requires : tie.Need-dashed-requires
+dashed-requires c κs = search needs
+
+returns-4 : tie.Need-returns-4
+returns-4 c = let s = c .before .before .before .before .before .before .before in
+    subst (λ (b : ℕ). Follows (s .args .self) (s .args .ended .now) b (c .dashed .result) (s .args .ended .now)) (sym (c .before .if4 .taken)) (c .dashed .ensures (s .args .ended .now))
+
 spoilt-requires : tie.Need-spoilt-requires
 spoilt-requires c κs = search needs
 
-returns-4 : tie.Need-returns-4
-returns-4 c = let s = c .before .before .before .before .before .before in
+returns-5 : tie.Need-returns-5
+returns-5 c = let s = c .before .before .before .before .before .before .before in
     subst (λ (r : Grid). Follows (s .args .self) (s .args .ended .now) (s .args .b) r (s .args .ended .now)) (sym (c .spoilt .ensures))
     (by-spoiling (s .args .self) (s .args .ended .now) (s .pre .1 .0) (s .args .b) (s .pre .1 .1 .0) (s .pre .1 .1 .1)
-    (sym (c .before .before .before .before .is-separator .ensures) ∙ c .before .before .before .if1 .left)
-    (c .before .before .if2 .left) (c .before .if3 .left))
+    (sym (c .before .before .before .before .before .is-separator .ensures) ∙ c .before .before .before .before .if1 .left)
+    (c .before .before .before .if2 .left) (c .before .before .if3 .left) (c .before .if4 .left))
 
 pub typed-spec : {M : Type 1} → statement M
 typed-spec =
@@ -55,5 +62,7 @@ typed-spec =
     returns-2
     returned-requires
     returns-3
+    dashed-requires
+    returns-4
     spoilt-requires
-    returns-4)
+    returns-5)

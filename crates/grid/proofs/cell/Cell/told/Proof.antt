@@ -19,14 +19,14 @@ enum-told-2 c = search needs
 enum-told-3 : tie.Need-enum-told-3
 enum-told-3 c = search needs
 
+enum-told-4 : tie.Need-enum-told-4
+enum-told-4 c = search needs
+
 enum-known-cell-2 : tie.Need-enum-known-cell-2
 enum-known-cell-2 c = search needs
 
-hold-requires-2 : tie.Need-hold-requires-2
-hold-requires-2 c κs = search needs
-
-enum-told-4 : tie.Need-enum-told-4
-enum-told-4 c = search needs
+enum-told-5 : tie.Need-enum-told-5
+enum-told-5 c = search needs
 
 returns : tie.Need-returns
 unfolding toldLeft
@@ -46,11 +46,15 @@ returns-4 c = rw (c .enum-told3 .given .1) refl
 
 returns-5 : tie.Need-returns-5
 unfolding toldLeft
-returns-5 c = rw (c .before .before .cell2 .given .1) (c .hold2 .ensures)
+returns-5 c = rw (c .enum-told4 .given .1) refl
 
 returns-6 : tie.Need-returns-6
 unfolding toldLeft
-returns-6 c = rw (c .enum-told4 .given .1) refl
+returns-6 c = rw (c .before .cell2 .given .1) refl
+
+returns-7 : tie.Need-returns-7
+unfolding toldLeft
+returns-7 c = rw (c .enum-told5 .given .1) refl
 
 pub told-spec : {M : Type 1} → statement M
 told-spec =
@@ -61,12 +65,13 @@ told-spec =
     hold-requires
     enum-told-2
     enum-told-3
-    enum-known-cell-2
-    hold-requires-2
     enum-told-4
+    enum-known-cell-2
+    enum-told-5
     returns
     returns-2
     returns-3
     returns-4
     returns-5
-    returns-6)
+    returns-6
+    returns-7)
