@@ -1,35 +1,41 @@
 -- Texts and what is read of them: a register, a series, a number, and the edges of a line. They show that the definitions are about something. Assumes nothing.
 use mathlib.Core.Path.{_≡_, refl}
-use mathlib.Core.Bool.{Bool, true, _&&_}
+use mathlib.Core.Bool.{Bool, true, false, _&&_}
 use mathlib.Core.List.{List, [], _∷_, _++_}
 use Prim.Native.Nat.{ℕ}
 use lib.Dec.{eqb}
 use Rattle.row.specs.Numbers.{numbersIn}
 use Rattle.row.specs.Judging.{filledUp, allTaken, judged}
 use Rattle.share.specs.Sharing.{lineIsSound}
+use Rattle.ceiling.specs.Ceiling.{limitIsSound, limitedIsSound}
 use Rattle.pay.specs.Member.{memberIsSound}
 use Rattle.register.specs.declared.Entry.{Entry}
 use Rattle.tables.specs.declared.roll.Register.{Register}
 use Rattle.tables.specs.declared.Told.the-variants.{Number, Nothing}
 use Rattle.grid.specs.Grid.{rowOf, rowsOf}
+use Rattle.grid.specs.Told.{rowIn, rowsBy}
 use Rattle.tables.specs.Table.{toldOf}
-use Rattle.register.specs.Register.{entryLine, entryIsSound}
-use Rattle.tables.specs.Register.{asEntry, entriesOf, registerEntries, readRegister}
+use Rattle.register.specs.Register.{entryLine, entryLimited, entryIsSound}
+use Rattle.tables.specs.Register.{registerRow, limitTold, asEntry, entriesOf, registerEntries, readRegister}
 use Rattle.tables.specs.Series.{outputOf, seriesOf, filledWith}
 
 -- Registers
 
--- "1,2,100,0,50,1000"
+-- "1,2,100,0,50,1000", without its limit, and with "-"
+pub six : List ℕ
+six = 49 ∷ 44 ∷ 50 ∷ 44 ∷ 49 ∷ 48 ∷ 48 ∷ 44 ∷ 48 ∷ 44 ∷ 53 ∷ 48 ∷ 44 ∷ 49 ∷ 48 ∷ 48 ∷ 48 ∷ []
+
 pub first : List ℕ
-first = 49 ∷ 44 ∷ 50 ∷ 44 ∷ 49 ∷ 48 ∷ 48 ∷ 44 ∷ 48 ∷ 44 ∷ 53 ∷ 48 ∷ 44 ∷ 49 ∷ 48 ∷ 48 ∷ 48 ∷ []
+first = six ++ 44 ∷ 45 ∷ []
 
--- "7,4,4000000,2,5000000,0"
+-- "7,4,4000000,2,5000000,0,100000000000"
 pub second : List ℕ
-second = 55 ∷ 44 ∷ 52 ∷ 44 ∷ 52 ∷ 48 ∷ 48 ∷ 48 ∷ 48 ∷ 48 ∷ 48 ∷ 44 ∷ 50 ∷ 44 ∷ 53 ∷ 48 ∷ 48 ∷ 48 ∷ 48 ∷ 48 ∷ 48 ∷ 44 ∷ 48 ∷ []
+second = 55 ∷ 44 ∷ 52 ∷ 44 ∷ 52 ∷ 48 ∷ 48 ∷ 48 ∷ 48 ∷ 48 ∷ 48 ∷ 44 ∷ 50 ∷ 44 ∷ 53 ∷ 48 ∷ 48 ∷ 48 ∷ 48 ∷ 48 ∷ 48 ∷ 44 ∷ 48 ∷ 44
+    ∷ 49 ∷ 48 ∷ 48 ∷ 48 ∷ 48 ∷ 48 ∷ 48 ∷ 48 ∷ 48 ∷ 48 ∷ 48 ∷ 48 ∷ []
 
--- "8,9,1,0,0,0", of a kind that there is not
+-- "8,9,1,0,0,0,-", of a kind that there is not
 ninth : List ℕ
-ninth = 56 ∷ 44 ∷ 57 ∷ 44 ∷ 49 ∷ 44 ∷ 48 ∷ 44 ∷ 48 ∷ 44 ∷ 48 ∷ []
+ninth = 56 ∷ 44 ∷ 57 ∷ 44 ∷ 49 ∷ 44 ∷ 48 ∷ 44 ∷ 48 ∷ 44 ∷ 48 ∷ 44 ∷ 45 ∷ []
 
 pub firstEntry : Entry
 firstEntry =
@@ -38,6 +44,7 @@ firstEntry =
       status = 0;
       energy = record { 0 = 50 };
       assessment = record { 0 = 1000 };
+      limit = record { none = true; fen = record { 0 = 0 } };
     }
 
 pub secondEntry : Entry
@@ -47,11 +54,13 @@ secondEntry =
       status = 2;
       energy = record { 0 = 5000000 };
       assessment = record { 0 = 0 };
+      limit = record { none = false; fen = record { 0 = 100000000000 } };
     }
 
 -- The first line ends in a carriage return and a line feed, the last in neither.
 pub register-read : readRegister (first ++ 13 ∷ 10 ∷ second) ≡ allTaken registerEntries (firstEntry ∷ secondEntry ∷ [])
-unfolding first second firstEntry secondEntry readRegister judged entriesOf rowsOf rowOf numbersIn asEntry entryIsSound memberIsSound lineIsSound entryLine filledUp
+unfolding six first second firstEntry secondEntry readRegister judged entriesOf rowsBy rowIn registerRow limitTold asEntry
+    entryIsSound memberIsSound limitedIsSound lineIsSound limitIsSound entryLine entryLimited filledUp
 register-read = refl
 
 pub record Case : Type 0 where
@@ -72,7 +81,16 @@ cases =
     ∷ record { text = first ++ 10 ∷ 10 ∷ []; number = 0; place = 0; count = 1 }
     ∷ record { text = first ++ 10 ∷ 10 ∷ second; number = 10; place = 1; count = 0 }
     ∷ record { text = 110 ∷ 10 ∷ first ++ 10 ∷ ninth; number = 10; place = 1; count = 0 }
-    -- two carriage returns; one within a line; a blank; a comma behind; a seventh number
+    -- six numbers alone, as before there were limits; a limit of 0; "-" in quotes; none where nothing stands, behind two dashes, and in another column
+    ∷ record { text = six; number = 10; place = 0; count = 0 }
+    ∷ record { text = six ++ 44 ∷ 48 ∷ []; number = 0; place = 0; count = 1 }
+    ∷ record { text = six ++ 44 ∷ 34 ∷ 45 ∷ 34 ∷ 13 ∷ 10 ∷ second; number = 0; place = 0; count = 2 }
+    ∷ record { text = six ++ 44 ∷ []; number = 10; place = 0; count = 0 }
+    ∷ record { text = first ++ 45 ∷ []; number = 10; place = 0; count = 0 }
+    ∷ record { text = 49 ∷ 44 ∷ 50 ∷ 44 ∷ 49 ∷ 44 ∷ 45 ∷ 44 ∷ 49 ∷ 44 ∷ 49 ∷ 44 ∷ 45 ∷ []; number = 10; place = 0; count = 0 }
+    -- a limit above 10^11 fen, 100000000001
+    ∷ record { text = six ++ 44 ∷ 49 ∷ 48 ∷ 48 ∷ 48 ∷ 48 ∷ 48 ∷ 48 ∷ 48 ∷ 48 ∷ 48 ∷ 48 ∷ 49 ∷ []; number = 10; place = 0; count = 0 }
+    -- two carriage returns; one within a line; a blank; a comma behind; an eighth number
     ∷ record { text = first ++ 13 ∷ 13 ∷ 10 ∷ []; number = 10; place = 0; count = 0 }
     ∷ record { text = 13 ∷ first; number = 10; place = 0; count = 0 }
     ∷ record { text = first ++ 32 ∷ []; number = 10; place = 0; count = 0 }
@@ -94,7 +112,8 @@ every (c ∷ cs) = as-said c (readRegister (c .text)) && every cs
 
 -- Each text is read as the table says.
 pub reads-as-told : every cases ≡ true
-unfolding every as-said cases first second ninth readRegister judged entriesOf rowsOf rowOf numbersIn asEntry entryIsSound memberIsSound lineIsSound entryLine filledUp
+unfolding every as-said cases six first second ninth readRegister judged entriesOf rowsBy rowIn registerRow limitTold asEntry
+    entryIsSound memberIsSound limitedIsSound lineIsSound limitIsSound entryLine entryLimited filledUp
 reads-as-told = refl
 
 -- Series

@@ -11,20 +11,20 @@ use Rattle.row.proofs.Judging.{blank-bad}
 use Rattle.row.proofs.Left.{next-byte}
 use Rattle.grid.specs.declared.Grid.{Grid}
 use Rattle.grid.specs.declared.Step.{Step}
-use Rattle.grid.specs.Grid.{rowsOf}
-use Rattle.grid.specs.Meaning.{rowBy, headLeft, blankLeft, blanksThen, lineThen, rowsLeft, rowsAfter, StepFrom, Starts, Next}
-use Rattle.grid.proofs.Rows.{blanks-none, numbers-rows, feed, ends}
+use Rattle.grid.specs.Told.{rowsBy}
+use Rattle.grid.specs.Meaning.{headLeft, blankLeft, blanksThen, lineThen, rowsLeft, rowsAfter, StepFrom, Starts, Next}
+use Rattle.grid.proofs.Rows.{blanks-none, feed, ends}
 use Rattle.tables.specs.declared.roll.Register.{Register}
 use Rattle.tables.specs.declared.roll.Roll.{Roll}
-use Rattle.tables.specs.Register.{asEntry, registerColumns, entriesOf, registerEntries, readRegister}
-use Rattle.tables.specs.Meaning.{entryNumbers, rollOutcome, rollBlanks, lineEnds}
+use Rattle.tables.specs.Register.{registerRow, limitTold, asEntry, entriesOf, registerEntries, readRegister}
+use Rattle.tables.specs.Meaning.{entryCells, rollOutcome, rollBlanks, lineEnds}
 use Rattle.tables.proofs.Entries.{lawful}
 
 -- A blank line
 
 -- one with a line behind it is refused,
 blank-refuses : (roll : Roll) (rows : List (List ℕ)) → rollOutcome roll ([] ∷ rows) ≡ refusedAt registerEntries (roll .count)
-unfolding judgedOn asEntry
+unfolding judgedOn asEntry limitTold
 blank-refuses roll rows = go (roll .refused) refl
   where
     go : (t : Bool) → roll .refused ≡ t → rollOutcome roll ([] ∷ rows) ≡ refusedAt registerEntries (roll .count)
@@ -40,7 +40,7 @@ stays roll rows e = rw e
 
 module _ (s : Roll) (grid : Grid) (ended : List ℕ) where
   abbrev goesOn : Roll → Type 0
-  goesOn r = (rows : List (List ℕ)) → rollOutcome r (blanksThen (rollBlanks r) rows) ≡ rollOutcome s (lineEnds registerColumns (rollBlanks s) grid ended rows)
+  goesOn r = (rows : List (List ℕ)) → rollOutcome r (blanksThen (rollBlanks r) rows) ≡ rollOutcome s (lineEnds registerRow (rollBlanks s) grid ended rows)
 
   pub by-heading : headLeft grid [] ≡ true → goesOn s
   unfolding lineThen
@@ -60,9 +60,9 @@ module _ (s : Roll) (grid : Grid) (ended : List ℕ) where
     pub by-held : (r : Roll) → s .blank ≡ true → (r .refused ≡ true) × (r .count ≡ s .count) × (r .blank ≡ s .blank) → goesOn r
     unfolding lineThen
     by-held r held e rows =
-        stays r (blanksThen (rollBlanks r) rows) (e .0) ∙ ap (λ (n : ℕ). refusedAt registerEntries n) (e .1) ∙ sym (rw (h, b, held) (blank-refuses s (entryNumbers grid ended ∷ rows)))
+        stays r (blanksThen (rollBlanks r) rows) (e .0) ∙ ap (λ (n : ℕ). refusedAt registerEntries n) (e .1) ∙ sym (rw (h, b, held) (blank-refuses s (entryCells grid ended ∷ rows)))
 
-    pub by-row : (r : Roll) → s .blank ≡ false → r .blank ≡ s .blank → ((rows : List (List ℕ)) → rollOutcome r rows ≡ rollOutcome s (entryNumbers grid ended ∷ rows)) → goesOn r
+    pub by-row : (r : Roll) → s .blank ≡ false → r .blank ≡ s .blank → ((rows : List (List ℕ)) → rollOutcome r rows ≡ rollOutcome s (entryCells grid ended ∷ rows)) → goesOn r
     unfolding lineThen
     by-row r none e f rows =
         ap (λ (t : Bool). rollOutcome r (blanksThen (cond t 1 0) rows)) (e ∙ none) ∙ ap (rollOutcome r) (blanks-none rows) ∙ f rows ∙ sym (rw (h, b, none))
@@ -71,7 +71,7 @@ module _ (s : Roll) (grid : Grid) (ended : List ℕ) where
 
 -- what is left of it
 abbrev pub rollLeft : Roll → Grid → List ℕ → List ℕ → Register
-rollLeft roll grid ended rest = rollOutcome roll (rowsLeft (rowBy registerColumns) (rollBlanks roll) grid ended rest)
+rollLeft roll grid ended rest = rollOutcome roll (rowsLeft registerRow (rollBlanks roll) grid ended rest)
 
 module _ (roll : Roll) (grid : Grid) (ended : List ℕ) (text : List ℕ) (i : ℕ) where
   -- it ends its line
@@ -80,21 +80,21 @@ module _ (roll : Roll) (grid : Grid) (ended : List ℕ) (text : List ℕ) (i : �
   register-line r n more e next f =
       let rest = drop (i + 1) text in
       let byte : 10 ∷ rest ≡ drop i text = sym (next-byte text i more ∙ ap (λ (b : ℕ). b ∷ rest) e) in
-      ap (rollOutcome r) (next .rows (rowBy registerColumns) (rollBlanks r) ended rest)
-      ∙ f (rowsAfter (rowBy registerColumns) grid rest)
-      ∙ ap (rollOutcome roll) (sym (feed (rowBy registerColumns) (rollBlanks roll) grid ended rest) ∙ ap (rowsLeft (rowBy registerColumns) (rollBlanks roll) grid ended) byte)
+      ap (rollOutcome r) (next .rows registerRow (rollBlanks r) ended rest)
+      ∙ f (rowsAfter registerRow grid rest)
+      ∙ ap (rollOutcome roll) (sym (feed registerRow (rollBlanks roll) grid ended rest) ∙ ap (rowsLeft registerRow (rollBlanks roll) grid ended) byte)
 
   -- it is another one
   pub register-step : (s : Step) (after : List ℕ) → StepFrom text i grid ended s after → rollLeft roll (s .grid) after (drop (s .end) text) ≡ rollLeft roll grid ended (drop i text)
   register-step s after f =
-      ap (rollOutcome roll) (f .rows (rowBy registerColumns) (rollBlanks roll) (drop (s .end) text) ∙ ap (rowsLeft (rowBy registerColumns) (rollBlanks roll) grid ended) (sym (f .stands)))
+      ap (rollOutcome roll) (f .rows registerRow (rollBlanks roll) (drop (s .end) text) ∙ ap (rowsLeft registerRow (rollBlanks roll) grid ended) (sym (f .stands)))
 
   -- the text ends
   pub register-end : (r : Roll) → length text ≤ i → goesOn roll grid ended r → rollOutcome r [] ≡ rollLeft roll grid ended (drop i text)
   unfolding blanksThen
   register-end r h f =
-      f [] ∙ ap (rollOutcome roll) (sym (ends (rowBy registerColumns) (rollBlanks roll) grid ended)
-      ∙ ap (rowsLeft (rowBy registerColumns) (rollBlanks roll) grid ended) (sym (drop-of-length-le text h)))
+      f [] ∙ ap (rollOutcome roll) (sym (ends registerRow (rollBlanks roll) grid ended)
+      ∙ ap (rowsLeft registerRow (rollBlanks roll) grid ended) (sym (drop-of-length-le text h)))
 
 -- The start of the text
 
@@ -102,5 +102,5 @@ pub starts : (grid : Grid) (roll : Roll) (ended : List ℕ) → Starts grid → 
     → ((rows : List (List ℕ)) → rollOutcome roll rows ≡ judged registerEntries (map asEntry rows)) → (text : List ℕ) → rollLeft roll grid ended text ≡ readRegister text
 unfolding readRegister entriesOf
 starts grid roll ended f none h text =
-    ap (λ (t : Bool). rollOutcome roll (rowsLeft (rowBy registerColumns) (cond t 1 0) grid ended text)) none
-    ∙ ap (rollOutcome roll) (f .rows (rowBy registerColumns) ended text ∙ numbers-rows registerColumns text (omega arith)) ∙ h (rowsOf registerColumns text)
+    ap (λ (t : Bool). rollOutcome roll (rowsLeft registerRow (cond t 1 0) grid ended text)) none
+    ∙ ap (rollOutcome roll) (f .rows registerRow ended text) ∙ h (rowsBy registerRow text)

@@ -1,28 +1,35 @@
 -- What reading a table promises: which lines are good, that a register is its lines in turn, and that no contract leaves a choice. Assumes nothing.
-use mathlib.Core.Path.{_≡_, refl, ap, sym, _∙_}
-use mathlib.Core.Bool.{Bool, true, false, cond, _&&_}
+use mathlib.Core.Path.{_≡_, refl, ap, sym, subst, _∙_}
+use mathlib.Core.Bool.{Bool, true, false, cond, _&&_, _||_}
 use mathlib.Core.List.{List, [], _∷_, _++_, map}
 use Prim.Native.Nat.{ℕ, suc, min, _+_, _≤_, _<_}
+use native.Mathlib.Decide.{ℕ-discrete}
 use native.Mathlib.Omega.{arith}
 use lib.Dec.{ltb, leb, eqb}
-use lib.ListN.{length, getD, take, drop, length-append, length-take, length-drop}
-use borrow.Author.Tests.{ltb-true, ltb-false, leb-true}
-use Rattle.le.proofs.Tests.{joined, each}
-use Rattle.row.specs.Numbers.{numbers, value, numbersIn, ceiling, hold}
-use Rattle.row.proofs.Texts.{by-parts}
-use Rattle.row.proofs.Held.{capped, at-least-one, held-at}
+use lib.ListN.{length, getD, take, drop, length-append, length-take, length-drop, length-map}
+use lib.Seq.{take-all}
+use borrow.Author.Tests.{ltb-true, ltb-false, leb-true, le-leb, eq-eqb, ne-eqb}
+use Rattle.le.proofs.Tests.{Hold, each, holds-or-fails}
+use Rattle.row.specs.Numbers.{partsOf, isNumber, numbers, value, numbersIn, ceiling, hold}
+use Rattle.row.specs.Meaning.{mostColumns}
+use Rattle.row.proofs.Texts.{by-parts, and-false}
+use Rattle.row.proofs.Held.{capped}
 use Rattle.row.specs.Judging.{refusedAt, allTaken, firstUnsound}
 use Rattle.row.proofs.Judging.{sound-number, blank-bad, lowest-unsound, every-sound, after-most}
 use Rattle.share.specs.Sharing.{mostNumber, mostStatus, mostEnergy, mostAssessment}
 use Rattle.units.specs.declared.Fen.{Fen}
 use Rattle.share.specs.declared.Line.{Line}
+use Rattle.ceiling.specs.declared.Limit.{Limit}
+use Rattle.ceiling.specs.Ceiling.{mostLimit, limitIsSound}
 use Rattle.register.specs.declared.Entry.{Entry}
 use Rattle.register.specs.Register.{entryLine, entryIsSound, firstBadEntry}
 use Rattle.tables.specs.declared.Told.{Told}
 use Rattle.tables.specs.declared.roll.Register.{Register}
-use Rattle.grid.specs.Grid.{unquoted, cellsOf, rowOf}
+use Rattle.grid.specs.Grid.{comma, isBlank, unquoted, cellsOf, rowOf}
+use Rattle.grid.specs.Told.{isDash, told, rowIn}
+use Rattle.grid.proofs.Cells.{told-is, told-none}
 use Rattle.tables.specs.Table.{toldOf}
-use Rattle.tables.specs.Register.{asEntry, entriesOf, registerEntries, readRegister}
+use Rattle.tables.specs.Register.{registerRow, limitTold, asEntry, entriesOf, registerEntries, readRegister}
 use Rattle.tables.specs.Series.{Filled, noOutput, outputOf, seriesOf, filledWith}
 use Rattle.register.proofs.Entries.{bad-le}
 use Rattle.tables.proofs.Entries.{bounds, within, sound-is, lawful}
@@ -78,78 +85,207 @@ series-value l = by-parts 44 (λ cs. leb (outputOf (map hold (numbersIn 1 (map u
 
 -- Entries
 
--- a line is so many decimal numbers
-abbrev pub isRowOf : ℕ → List ℕ → Bool
-isRowOf columns l = numbers (cellsOf l) && eqb (length (cellsOf l)) columns
+-- a limit is a decimal number, or `-` alone
+abbrev pub isLimit : List ℕ → Bool
+isLimit p = isDash p || isNumber p
 
--- the numbers of a line as they stand, however large
-abbrev pub written : ℕ → List ℕ → List ℕ
-written columns l = numbersIn columns (cellsOf l)
+-- a line is six decimal numbers and a limit
+abbrev pub isRegisterLine : List (List ℕ) → Bool
+isRegisterLine cells = eqb (length cells) 7 && numbers (take 6 cells) && isLimit (getD cells 6 [])
 
-abbrev heldEntry : Entry → Entry
-heldEntry e =
+-- a limit and an entry as they are written, however large their numbers
+abbrev pub writtenLimit : List ℕ → Limit
+writtenLimit p = cond (isDash p) (record { none = true; fen = record { 0 = 0 } }) (record { none = false; fen = record { 0 = value 0 p } })
+
+abbrev pub writtenEntry : List (List ℕ) → Entry
+writtenEntry cells =
     record {
-      member = record { number = hold (e .member .number); kind = hold (e .member .kind); rated = record { 0 = hold (e .member .rated .0) } };
-      status = hold (e .status);
-      energy = record { 0 = hold (e .energy .0) };
-      assessment = record { 0 = hold (e .assessment .0) };
+      member = record { number = value 0 (getD cells 0 []); kind = value 0 (getD cells 1 []); rated = record { 0 = value 0 (getD cells 2 []) } };
+      status = value 0 (getD cells 3 []);
+      energy = record { 0 = value 0 (getD cells 4 []) };
+      assessment = record { 0 = value 0 (getD cells 5 []) };
+      limit = writtenLimit (getD cells 6 []);
     }
 
-held-entry : (ns : List ℕ) → asEntry (map hold ns) ≡ heldEntry (asEntry ns)
-unfolding asEntry
-held-entry ns =
-    λ i. record {
-      member = record { number = held-at ns 0 i; kind = held-at ns 1 i; rated = record { 0 = held-at ns 2 i } };
-      status = held-at ns 3 i;
-      energy = record { 0 = held-at ns 4 i };
-      assessment = record { 0 = held-at ns 5 i };
-    }
+-- the entry that a line is read as
+abbrev pub entryOf : List ℕ → Entry
+entryOf l = asEntry (rowIn registerRow l)
 
-held-row : (l : List ℕ) → asEntry (rowOf 6 l) ≡ heldEntry (asEntry (written 6 l))
-unfolding rowOf
-held-row l = held-entry (written 6 l)
+-- what a cell says that is within a limit
+told-held : (p : List ℕ) → isNumber p ≡ true → told p ≡ hold (value 0 p)
+told-held p h = rw h
 
-held-within : (e : Entry) → within (heldEntry e) ≡ within e
-held-within e =
-    λ i. joined (at-least-one (e .member .number) i)
-    (capped (e .member .number) ceiling 64 (omega arith) i ∷ at-least-one (e .member .kind) i ∷ capped (e .member .kind) ceiling 8 (omega arith) i
-    ∷ at-least-one (e .member .rated .0) i ∷ capped (e .member .rated .0) ceiling 4000000 (omega arith) i
-    ∷ capped (e .status) ceiling mostStatus (omega arith) i ∷ capped (e .energy .0) ceiling mostEnergy (omega arith) i ∷ capped (e .assessment .0) ceiling mostAssessment (omega arith) i ∷ [])
+told-as : (p : List ℕ) (most : ℕ) → most < ceiling → leb (told p) most ≡ true → (isNumber p ≡ true) × (told p ≡ value 0 p)
+told-as p most low h =
+    let few = leb-true (told p) most h in
+    let is : isNumber p ≡ true = sym (told-is p) ∙ le-leb (told p) ceiling (omega arith) in
+    let held = told-held p is in
+    (is, omega (arith, held))
 
--- an entry within its limits has no number past them
-held-same : (e : Entry) → within e ≡ true → heldEntry e ≡ e
-held-same e h =
-    let p = each (leb 1 (e .member .number)) (bounds e) h in
-    let q = p .1 in
-    let n : hold (e .member .number) ≡ e .member .number = omega (arith, leb-true (e .member .number) 64 (q .0)) in
-    let k : hold (e .member .kind) ≡ e .member .kind = omega (arith, leb-true (e .member .kind) 8 (q .1 .1 .0)) in
-    let r : hold (e .member .rated .0) ≡ e .member .rated .0 = omega (arith, leb-true (e .member .rated .0) 4000000 (q .1 .1 .1 .1 .0)) in
-    let s : hold (e .status) ≡ e .status = omega (arith, leb-true (e .status) mostStatus (q .1 .1 .1 .1 .1 .0)) in
-    let w : hold (e .energy .0) ≡ e .energy .0 = omega (arith, leb-true (e .energy .0) mostEnergy (q .1 .1 .1 .1 .1 .1 .0)) in
-    let a : hold (e .assessment .0) ≡ e .assessment .0 = omega (arith, leb-true (e .assessment .0) mostAssessment (q .1 .1 .1 .1 .1 .1 .1 .0)) in
-    λ i. record { member = record { number = n i; kind = k i; rated = record { 0 = r i } }; status = s i; energy = record { 0 = w i }; assessment = record { 0 = a i } }
+told-back : (p : List ℕ) (most : ℕ) → most < ceiling → isNumber p ≡ true → leb (value 0 p) most ≡ true → told p ≡ value 0 p
+told-back p most low is h =
+    let few = leb-true (value 0 p) most h in
+    let held = told-held p is in
+    omega (arith, held)
 
-held-sound : (before : ℕ) (e : Entry) → entryIsSound before (heldEntry e) ≡ entryIsSound before e
-held-sound before e = go (within e) refl
+module _ (p : List ℕ) where
+  abbrev limitBy : Bool → ℕ → Limit
+  limitBy t n = cond t (record { none = true; fen = record { 0 = 0 } }) (record { none = false; fen = record { 0 = n } })
+
+  limit-by : limitTold (told p) ≡ limitBy (isDash p) (told p)
+  unfolding limitTold
+  limit-by = ap (λ (t : Bool). limitBy t (told p)) (told-none p)
+
+  limit-as : limitIsSound (limitTold (told p)) ≡ true → (isLimit p ≡ true) × (limitTold (told p) ≡ writtenLimit p)
+  unfolding limitIsSound
+  limit-as h =
+      let r = go (isDash p) (sym (ap limitIsSound limit-by) ∙ h) in
+      (r .0, limit-by ∙ r .1)
+    where
+      go : (t : Bool) → limitIsSound (limitBy t (told p)) ≡ true → ((t || isNumber p) ≡ true) × (limitBy t (told p) ≡ limitBy t (value 0 p))
+      go true k = (refl, refl)
+      go false k = let r = told-as p mostLimit (omega arith) k in (r .0, ap (limitBy false) (r .1))
+
+  limit-back : isLimit p ≡ true → limitIsSound (writtenLimit p) ≡ true → limitTold (told p) ≡ writtenLimit p
+  unfolding limitIsSound
+  limit-back is h = limit-by ∙ go (isDash p) is h
+    where
+      go : (t : Bool) → (t || isNumber p) ≡ true → limitIsSound (limitBy t (value 0 p)) ≡ true → limitBy t (told p) ≡ limitBy t (value 0 p)
+      go true i k = refl
+      go false i k = ap (limitBy false) (told-back p mostLimit (omega arith) i k)
+
+-- seven cells
+module _ (before : ℕ) (a b c d e f p : List ℕ) where
+  abbrev seven : List (List ℕ)
+  seven = a ∷ b ∷ c ∷ d ∷ e ∷ f ∷ p ∷ []
+
+  abbrev read : Entry
+  read = asEntry (map told seven)
+
+  abbrev Alike : Type 0
+  Alike = (told a ≡ value 0 a) × (told b ≡ value 0 b) × (told c ≡ value 0 c) × (told d ≡ value 0 d) × (told e ≡ value 0 e) × (told f ≡ value 0 f) × (limitTold (told p) ≡ writtenLimit p)
+
+  as-written : Alike → read ≡ writtenEntry seven
+  unfolding asEntry
+  as-written h =
+      λ i. record {
+        member = record { number = h .0 i; kind = h .1 i; rated = record { 0 = h .2 i } };
+        status = h .3 i;
+        energy = record { 0 = h .4 i };
+        assessment = record { 0 = h .5 i };
+        limit = h .6 i;
+      }
+
+  limits : (n : Entry) → entryIsSound before n ≡ true → Hold (leb 1 (n .member .number) ∷ bounds n)
+  limits n h = each (leb 1 (n .member .number)) (bounds n) (each (within n) (ltb before (n .member .number) ∷ []) (sym (sound-is before n) ∙ h) .0)
+
+  sound-as : entryIsSound before read ≡ true → (isRegisterLine seven ≡ true) × (read ≡ writtenEntry seven)
+  unfolding asEntry
+  sound-as h =
+      let q = limits read h in
+      let ra = told-as a 64 (omega arith) (q .1 .0) in
+      let rb = told-as b 8 (omega arith) (q .1 .1 .1 .0) in
+      let rc = told-as c 4000000 (omega arith) (q .1 .1 .1 .1 .1 .0) in
+      let rd = told-as d mostStatus (omega arith) (q .1 .1 .1 .1 .1 .1 .0) in
+      let re = told-as e mostEnergy (omega arith) (q .1 .1 .1 .1 .1 .1 .1 .0) in
+      let rf = told-as f mostAssessment (omega arith) (q .1 .1 .1 .1 .1 .1 .1 .1 .0) in
+      let rp = limit-as p (q .1 .1 .1 .1 .1 .1 .1 .1 .1 .0) in
+      (rw (ra .0, rb .0, rc .0, rd .0, re .0, rf .0) (rp .0), as-written (ra .1, rb .1, rc .1, rd .1, re .1, rf .1, rp .1))
+
+  sound-back : isRegisterLine seven ≡ true → entryIsSound before (writtenEntry seven) ≡ true → read ≡ writtenEntry seven
+  sound-back line h =
+      let q = limits (writtenEntry seven) h in
+      let l = each (numbers (take 6 seven)) (isLimit p ∷ []) line in
+      let na = each (isNumber a) (numbers (b ∷ c ∷ d ∷ e ∷ f ∷ []) ∷ []) (l .0) in
+      let nb = each (isNumber b) (numbers (c ∷ d ∷ e ∷ f ∷ []) ∷ []) (na .1 .0) in
+      let nc = each (isNumber c) (numbers (d ∷ e ∷ f ∷ []) ∷ []) (nb .1 .0) in
+      let nd = each (isNumber d) (numbers (e ∷ f ∷ []) ∷ []) (nc .1 .0) in
+      let ne = each (isNumber e) (numbers (f ∷ []) ∷ []) (nd .1 .0) in
+      let nf = each (isNumber f) (true ∷ []) (ne .1 .0) in
+      as-written (
+        told-back a 64 (omega arith) (na .0) (q .1 .0),
+        told-back b 8 (omega arith) (nb .0) (q .1 .1 .1 .0),
+        told-back c 4000000 (omega arith) (nc .0) (q .1 .1 .1 .1 .1 .0),
+        told-back d mostStatus (omega arith) (nd .0) (q .1 .1 .1 .1 .1 .1 .0),
+        told-back e mostEnergy (omega arith) (ne .0) (q .1 .1 .1 .1 .1 .1 .1 .0),
+        told-back f mostAssessment (omega arith) (nf .0) (q .1 .1 .1 .1 .1 .1 .1 .1 .0),
+        limit-back p (l .1 .0) (q .1 .1 .1 .1 .1 .1 .1 .1 .1 .0),
+      )
+
+-- cells of a line, however many
+abbrev Read : ℕ → List (List ℕ) → Entry → Type 0
+Read before cells r =
+    (entryIsSound before r ≡ true → (isRegisterLine cells ≡ true) × (r ≡ writtenEntry cells))
+    × (isRegisterLine cells ≡ true → entryIsSound before (writtenEntry cells) ≡ true → r ≡ writtenEntry cells)
+
+seven-read : (before : ℕ) (cells : List (List ℕ)) → length cells ≡ 7 → Read before cells (asEntry (map told cells))
+seven-read before (a ∷ b ∷ c ∷ d ∷ e ∷ f ∷ p ∷ []) h = (sound-as before a b c d e f p, sound-back before a b c d e f p)
+seven-read before [] h = absurd (omega arith)
+seven-read before (a ∷ []) h = absurd (omega arith)
+seven-read before (a ∷ b ∷ []) h = absurd (omega arith)
+seven-read before (a ∷ b ∷ c ∷ []) h = absurd (omega arith)
+seven-read before (a ∷ b ∷ c ∷ d ∷ []) h = absurd (omega arith)
+seven-read before (a ∷ b ∷ c ∷ d ∷ e ∷ []) h = absurd (omega arith)
+seven-read before (a ∷ b ∷ c ∷ d ∷ e ∷ f ∷ []) h = absurd (omega arith)
+seven-read before (a ∷ b ∷ c ∷ d ∷ e ∷ f ∷ p ∷ x ∷ cells) h = absurd (omega arith)
+
+none-sound : (before : ℕ) → entryIsSound before (asEntry []) ≡ false
+unfolding asEntry limitTold
+none-sound before = blank-bad registerEntries lawful before
+
+none-read : (before : ℕ) (cells : List (List ℕ)) → isRegisterLine cells ≡ false → Read before cells (asEntry [])
+none-read before cells h = ((λ k. absurd (holds-or-fails k (none-sound before))), (λ k s. absurd (holds-or-fails k h)))
+
+cells-read : (before : ℕ) (cells : List (List ℕ)) → Read before cells (asEntry (registerRow (take mostColumns (map told cells))))
+unfolding registerRow
+cells-read before cells = go (ℕ-discrete (length cells) 7)
   where
-    go : (t : Bool) → within e ≡ t → entryIsSound before (heldEntry e) ≡ entryIsSound before e
-    go true h = ap (entryIsSound before) (held-same e h)
-    go false h = sound-is before (heldEntry e) ∙ rw (held-within e, h) (sym (sound-is before e ∙ rw h))
+    go : Dec (length cells ≡ 7) → Read before cells (asEntry (registerRow (take mostColumns (map told cells))))
+    go (yes same) =
+        let whole = take-all mostColumns (map told cells) (omega (arith, length-map cells told)) in
+        let row : registerRow (take mostColumns (map told cells)) ≡ map told cells = ap registerRow whole ∙ rw (eq-eqb (length (map told cells)) 7 (length-map cells told ∙ same)) in
+        subst (λ (ns : List ℕ). Read before cells (asEntry ns)) (sym row) (seven-read before cells same)
+    go (no other) =
+        let n = length (take mostColumns (map told cells)) in
+        let apart : n ≡ 7 → ⊥ = λ e. other (omega (arith, length-take mostColumns (map told cells), length-map cells told)) in
+        let row : registerRow (take mostColumns (map told cells)) ≡ [] = rw (ne-eqb n 7 apart) in
+        subst (λ (ns : List ℕ). Read before cells (asEntry ns)) (sym row) (none-read before cells (rw (ne-eqb (length cells) 7 other)))
 
--- HOLDING A NUMBER CHANGES NO JUDGEMENT: a line is sound just where its numbers are as they stand,
-pub entry-sound : (before : ℕ) (l : List ℕ) → entryIsSound before (asEntry (rowOf 6 l)) ≡ entryIsSound before (asEntry (written 6 l))
-entry-sound before l = ap (entryIsSound before) (held-row l) ∙ held-sound before (asEntry (written 6 l))
+blank-first : (cells : List (List ℕ)) → isRegisterLine ([] ∷ cells) ≡ false
+blank-first cells = rw (and-false (eqb (length ([] ∷ cells)) 7))
 
--- and a sound line's entry has its numbers as they stand.
-pub entry-as-written : (before : ℕ) (l : List ℕ) → entryIsSound before (asEntry (written 6 l)) ≡ true → asEntry (rowOf 6 l) ≡ asEntry (written 6 l)
-entry-as-written before l h =
-    let p = each (within (asEntry (written 6 l))) (ltb before (asEntry (written 6 l) .member .number) ∷ []) (sym (sound-is before (asEntry (written 6 l))) ∙ h) in
-    held-row l ∙ held-same (asEntry (written 6 l)) (p .0)
+blank-line : (l : List ℕ) → isBlank l ≡ true → isRegisterLine (cellsOf l) ≡ false
+blank-line [] h = refl
+blank-line (b ∷ l) h = rw (each (eqb b comma) (isBlank l ∷ []) h .0) (blank-first (map unquoted (partsOf comma l)))
 
--- A line that is not six numbers is never sound.
-pub bad-line : (before : ℕ) (l : List ℕ) → isRowOf 6 l ≡ false → entryIsSound before (asEntry (rowOf 6 l)) ≡ false
-unfolding asEntry rowOf numbersIn
-bad-line before l h = rw h (blank-bad registerEntries lawful before)
+line-read : (before : ℕ) (l : List ℕ) → Read before (cellsOf l) (entryOf l)
+unfolding rowIn
+line-read before l = go (isBlank l) refl
+  where
+    go : (t : Bool) → isBlank l ≡ t → Read before (cellsOf l) (asEntry (cond t [] (registerRow (take mostColumns (map told (cellsOf l))))))
+    go true h = none-read before (cellsOf l) (blank-line l h)
+    go false h = cells-read before (cellsOf l)
+
+-- A LINE IS SOUND just where it is six decimal numbers and a limit, and the entry of these as they stand is sound: holding a number changes no judgement,
+pub entry-sound : (before : ℕ) (l : List ℕ) → entryIsSound before (entryOf l) ≡ (isRegisterLine (cellsOf l) && entryIsSound before (writtenEntry (cellsOf l)))
+entry-sound before l =
+    let r = line-read before l in
+    both (entryIsSound before (entryOf l)) (isRegisterLine (cellsOf l)) (entryIsSound before (writtenEntry (cellsOf l)))
+    (λ h. let s = r .0 h in (s .0, sym (ap (entryIsSound before) (s .1)) ∙ h)) (λ k h. ap (entryIsSound before) (r .1 k h) ∙ h)
+  where
+    both : (x y z : Bool) → (x ≡ true → (y ≡ true) × (z ≡ true)) → (y ≡ true → z ≡ true → x ≡ true) → x ≡ (y && z)
+    both true y z to from = let h = to refl in sym (rw (h .0, h .1))
+    both false true true to from = from refl refl
+    both false true false to from = refl
+    both false false z to from = refl
+
+-- and a sound line's entry has its numbers and its limit as they stand.
+pub entry-as-written : (before : ℕ) (l : List ℕ) → entryIsSound before (entryOf l) ≡ true → entryOf l ≡ writtenEntry (cellsOf l)
+entry-as-written before l h = line-read before l .0 h .1
+
+-- A line that is not six numbers and a limit is never sound.
+pub bad-line : (before : ℕ) (l : List ℕ) → isRegisterLine (cellsOf l) ≡ false → entryIsSound before (entryOf l) ≡ false
+bad-line before l h = entry-sound before l ∙ rw h
 
 -- Registers
 

@@ -5,7 +5,7 @@ use mathlib.Core.Bool.{cond}
 use mathlib.Core.List.{List, [], _∷_, _++_, map}
 use Prim.Native.Nat.{ℕ, _+_, _≤_}
 use lib.Dec.{ltb}
-use lib.ListN.{length, set}
+use lib.ListN.{length, set, take}
 use Rattle.row.specs.Meaning.{mostColumns}
 use Rattle.row.specs.Inner.{fairBy, SoFar, judgedOn}
 use Rattle.grid.specs.declared.Grid.{Grid}
@@ -14,26 +14,26 @@ use Rattle.register.specs.declared.Entry.{Entry}
 use Rattle.tables.specs.declared.roll.Register.{Register}
 use Rattle.tables.specs.declared.roll.Roll.{Roll}
 use Rattle.tables.specs.declared.series.Place.{Place}
-use Rattle.tables.specs.Register.{registerColumns, asEntry, registerEntries}
+use Rattle.tables.specs.Register.{registerRow, asEntry, registerEntries}
 use Rattle.tables.specs.Series.{Filled, seriesColumns, outputOf}
 
 -- The register
 
--- six numbers, the last of them by itself
-abbrev pub sixOf : List ℕ → ℕ → List ℕ
-sixOf ended value = ended ++ value ∷ []
+-- what seven cells say, the last of them by itself
+abbrev pub sevenOf : List ℕ → ℕ → List ℕ
+sevenOf ended last = take 6 ended ++ last ∷ []
 
 -- an entry that is not sound after no number is as bad as a blank one
 abbrev pub fairEntry : Entry → Entry
 fairEntry e = fairBy registerEntries e
 
--- the numbers of an entry, if its line ends here
-abbrev pub entryNumbers : Grid → List ℕ → List ℕ
-entryNumbers grid ended = rowLeft (rowBy registerColumns) grid ended []
+-- what the cells of an entry say, if its line ends here
+abbrev pub entryCells : Grid → List ℕ → List ℕ
+entryCells grid ended = rowLeft registerRow grid ended []
 
 -- the entry, if its line ends here
 abbrev pub entryIn : Grid → List ℕ → Entry
-entryIn grid ended = fairEntry (asEntry (entryNumbers grid ended))
+entryIn grid ended = fairEntry (asEntry (entryCells grid ended))
 
 -- a roll's entries, as they are judged so far
 abbrev pub rollSoFar : Roll → SoFar Entry
@@ -48,8 +48,8 @@ abbrev pub rollBlanks : Roll → ℕ
 rollBlanks roll = cond (roll .blank) 1 0
 
 -- the line that ends here, and these rows behind it
-abbrev pub lineEnds : ℕ → ℕ → Grid → List ℕ → List (List ℕ) → List (List ℕ)
-lineEnds columns k grid ended rows = lineThen k (headLeft grid []) (blankLeft grid []) (rowLeft (rowBy columns) grid ended []) rows
+abbrev pub lineEnds : (List ℕ → List ℕ) → ℕ → Grid → List ℕ → List (List ℕ) → List (List ℕ)
+lineEnds say k grid ended rows = lineThen k (headLeft grid []) (blankLeft grid []) (rowLeft say grid ended []) rows
 
 -- The series
 
@@ -70,4 +70,4 @@ mostSize = 9223372036854775808
 pub record PutLine (grid : Grid) (before : List ℕ) (place : Place) (after : List ℕ) (r : Place) : Type 0 where
   pub few : r .blanks ≤ place .blanks + 1
   pub rows : (ended : List ℕ) (rows : List (List ℕ)) → mostColumns ≤ length ended
-      → fillFrom after (r .next) (blanksThen (r .blanks) rows) ≡ fillFrom before (place .next) (lineEnds seriesColumns (place .blanks) grid ended rows)
+      → fillFrom after (r .next) (blanksThen (r .blanks) rows) ≡ fillFrom before (place .next) (lineEnds (rowBy seriesColumns) (place .blanks) grid ended rows)

@@ -1,11 +1,15 @@
 // The text of a register: a line a member.
+use ceiling::Limit;
+use ceiling::limit_is_sound;
 use grid::Grid;
+use grid::cell::NONE_TOLD;
 use pay::Member;
 use register::Entry;
 use register::MOST_ENTRIES;
 use register::blank_entry;
 use row::MOST_COLUMNS;
 use share::limits::numbers_are_sound;
+use units::Fen;
 use units::Kw;
 use units::Mwh;
 use units::Thousandths;
@@ -15,8 +19,8 @@ ghost use mathlib.Core.List.{List, [], _∷_, map};
 ghost use Prim.Native.Nat.{ℕ};
 ghost use Rattle.row.specs.Judging.{filledUp, judged};
 ghost use Rattle.grid.specs.Meaning.{blanksThen};
-ghost use Rattle.tables.specs.Register.{registerColumns, asEntry, registerEntries, readRegister};
-ghost use Rattle.tables.specs.Meaning.{sixOf, fairEntry, entryNumbers, entryIn, rollOutcome, rollBlanks, lineEnds};
+ghost use Rattle.tables.specs.Register.{registerRow, limitTold, asEntry, registerEntries, readRegister};
+ghost use Rattle.tables.specs.Meaning.{sevenOf, fairEntry, entryCells, entryIn, rollOutcome, rollBlanks, lineEnds};
 
 // The answer: 10 and a place, or zeros, how many entries there are, and the entries.
 pub struct Register {
@@ -36,8 +40,8 @@ pub struct Roll {
     pub entries: [Entry; MOST_ENTRIES],
 }
 
-// A line is six numbers.
-const COLUMNS: usize = 6;
+// A line is seven cells: six numbers and a limit.
+const COLUMNS: usize = 7;
 
 // Which of them is the last, from 0 on.
 const LAST: usize = COLUMNS - 1;
@@ -49,17 +53,36 @@ fn blank_entries() -> [Entry; MOST_ENTRIES]
     [none; MOST_ENTRIES]
 }
 
-// The entry of six numbers, or a blank one where a number is past its limit.
-fn typed(ended: [u64; 5], assessed: u64) -> Entry
-    ensures { λ r. ⌜ r ≡ fairEntry (asEntry (sixOf ended assessed)) ⌝ }
+// The limit that a cell says.
+fn limit_told(n: u64) -> Limit
+    ensures { λ r. ⌜ r ≡ limitTold n ⌝ }
+{
+    if n == NONE_TOLD {
+        return Limit {
+            none: true,
+            fen: Fen(0),
+        };
+    }
+    Limit {
+        none: false,
+        fen: Fen(n),
+    }
+}
+
+// The entry that seven cells say, or a blank one where one of them is past its limit or no number.
+fn typed(ended: [u64; MOST_COLUMNS], last: u64) -> Entry
+    ensures { λ r. ⌜ r ≡ fairEntry (asEntry (sevenOf ended last)) ⌝ }
 {
     let n = ended[0];
     let k = ended[1];
     let p = ended[2];
     let s = ended[3];
     let e = ended[4];
-    let line = numbers_are_sound(0, n, s, e, 0, assessed);
-    if (1 <= k) & (k <= 8) & (1 <= p) & (p <= 4_000_000) & line {
+    let a = ended[5];
+    let line = numbers_are_sound(0, n, s, e, 0, a);
+    let limit = limit_told(last);
+    let bound = limit_is_sound(limit);
+    if (1 <= k) & (k <= 8) & (1 <= p) & (p <= 4_000_000) & line & bound {
         return Entry {
             member: Member {
                 number: n as u16,
@@ -68,7 +91,8 @@ fn typed(ended: [u64; 5], assessed: u64) -> Entry
             },
             status: s as u8,
             energy: Mwh(e as u32),
-            assessment: Thousandths(assessed as u32),
+            assessment: Thousandths(a as u32),
+            limit,
         };
     }
     blank_entry()
@@ -80,8 +104,7 @@ fn entry_in(grid: Grid, ended: [u64; MOST_COLUMNS]) -> Entry
 {
     if grid.at == LAST {
         let cell = grid.cell;
-        let n = ended;
-        return typed([n[0], n[1], n[2], n[3], n[4]], cell.told());
+        return typed(ended, cell.told());
     }
     blank_entry()
 }
@@ -111,7 +134,7 @@ impl Roll {
 
     // The roll after a line. An entry that was read is within its limits or blank: its number decides.
     fn with(self, grid: Grid, ended: [u64; MOST_COLUMNS]) -> Roll
-        ensures { λ r. ⌜ ((rows : List (List ℕ)) → rollOutcome r rows ≡ rollOutcome self (entryNumbers grid ended ∷ rows)) ⌝ }
+        ensures { λ r. ⌜ ((rows : List (List ℕ)) → rollOutcome r rows ≡ rollOutcome self (entryCells grid ended ∷ rows)) ⌝ }
         ensures { λ r. ⌜ r .blank ≡ self .blank ⌝ }
     {
         if self.refused {
@@ -160,7 +183,7 @@ impl Roll {
 
     // The roll after the end of a line: a heading is left out, and a blank line held back.
     fn after(mut self, grid: Grid, ended: [u64; MOST_COLUMNS]) -> Roll
-        ensures { λ r. ⌜ ((rows : List (List ℕ)) → rollOutcome r (blanksThen (rollBlanks r) rows) ≡ rollOutcome self (lineEnds registerColumns (rollBlanks self) grid ended rows)) ⌝ }
+        ensures { λ r. ⌜ ((rows : List (List ℕ)) → rollOutcome r (blanksThen (rollBlanks r) rows) ≡ rollOutcome self (lineEnds registerRow (rollBlanks self) grid ended rows)) ⌝ }
     {
         if grid.is_heading() {
             return self;

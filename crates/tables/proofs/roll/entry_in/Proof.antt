@@ -1,28 +1,11 @@
 use mathlib.Core.Path.{_∙_}
 use Prim.Native.Nat.{_≤_}
-use native.Mathlib.Omega.{arith}
 use lib.ListN.{length}
 use Rattle.row.specs.Meaning.{mostColumns}
-use Rattle.row.proofs.Rows.{first-five}
 use Rattle.tables.proofs.Entries.{entry-whole, entry-none}
 use borrow.Author.Needs.{needs}
 use Rattle.tables.proofs.roll.entry_in.Statement.{statement}
 use Rattle.tables.proofs.roll.entry_in.Tie as tie
-
-array-read-t8 : tie.Need-array-read-t8
-array-read-t8 c = search needs
-
-array-read-t11 : tie.Need-array-read-t11
-array-read-t11 c = search needs
-
-array-read-t14 : tie.Need-array-read-t14
-array-read-t14 c = search needs
-
-array-read-t17 : tie.Need-array-read-t17
-array-read-t17 c = search needs
-
-array-read-t20 : tie.Need-array-read-t20
-array-read-t20 c = search needs
 
 told-requires : tie.Need-told-requires
 told-requires c κs = search needs
@@ -33,7 +16,7 @@ typed-requires c κs = search needs
 returns : tie.Need-returns
 returns c = let a = c .before .before .before .before .args in
     let room : mostColumns ≤ length (a .ended) = search needs in
-    c .typed .ensures ∙ entry-whole (a .grid) (a .ended) room _ (c .before .told .result) (c .before .before .if1 .taken) (first-five (a .ended) (omega (arith, room))) (c .before .told .ensures)
+    c .typed .ensures ∙ entry-whole (a .grid) (a .ended) room (c .before .told .result) (c .before .before .if1 .taken) (c .before .told .ensures)
 
 blank-entry-requires : tie.Need-blank-entry-requires
 blank-entry-requires c κs = search needs
@@ -47,11 +30,6 @@ pub entry-in-spec : {M : Type 1} → statement M
 entry-in-spec =
     tie.close
     (tie.spec
-    array-read-t8
-    array-read-t11
-    array-read-t14
-    array-read-t17
-    array-read-t20
     told-requires
     typed-requires
     returns

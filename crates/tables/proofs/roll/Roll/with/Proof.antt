@@ -6,7 +6,7 @@ use Rattle.grid.specs.declared.Grid.{Grid}
 use Prim.Native.Nat.{ℕ}
 use Rattle.register.specs.declared.Entry.{Entry}
 use Rattle.tables.specs.Register.{asEntry, registerEntries}
-use Rattle.tables.specs.Meaning.{entryNumbers, rollSoFar}
+use Rattle.tables.specs.Meaning.{entryCells, rollSoFar}
 use Rattle.tables.proofs.Entries.{lawful}
 use borrow.Author.Needs.{needs}
 use Rattle.tables.proofs.roll.Roll.with.Statement.{statement}
@@ -14,7 +14,7 @@ use Rattle.tables.proofs.roll.Roll.with.Tie as tie
 
 -- the entry as its line says it
 abbrev said : Grid → List ℕ → Entry
-said grid ended = asEntry (entryNumbers grid ended)
+said grid ended = asEntry (entryCells grid ended)
 
 returns : tie.Need-returns
 returns c =
