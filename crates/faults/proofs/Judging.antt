@@ -34,18 +34,19 @@ module _ (grid : Grid) (ended : List ℕ) (room : length ended ≡ 8) where
       ∙ sym (take-suc-set ended (grid .at) v (omega arith))
       ∙ ap (λ (n : ℕ). take n (set ended (grid .at) v)) (sym (add-one (grid .at)))
 
--- six cells and one are judged by those alone
+-- seven cells and one are judged by those alone
 cells-part : (table : Table) (before : ℕ) (cells : List ℕ) (count : ℕ) → count ≡ columnsOf table → cellsFault table before cells ≡ cellsFault table before (take count cells)
 unfolding cellsFault columnsOf entryFault
 cells-part Register before cells count e = rw (
   e,
-  getD-take 6 cells 0 0 (omega arith),
-  getD-take 6 cells 1 0 (omega arith),
-  getD-take 6 cells 2 0 (omega arith),
-  getD-take 6 cells 3 0
+  getD-take 7 cells 0 0 (omega arith),
+  getD-take 7 cells 1 0 (omega arith),
+  getD-take 7 cells 2 0 (omega arith),
+  getD-take 7 cells 3 0
       (omega arith),
-  getD-take 6 cells 4 0 (omega arith),
-  getD-take 6 cells 5 0 (omega arith),
+  getD-take 7 cells 4 0 (omega arith),
+  getD-take 7 cells 5 0 (omega arith),
+  getD-take 7 cells 6 0 (omega arith),
 )
 cells-part Series before cells count e = rw (e, getD-take 1 cells 0 0 (omega arith))
 

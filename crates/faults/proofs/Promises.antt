@@ -14,18 +14,17 @@ use Rattle.row.specs.Meaning.{mostColumns}
 use Rattle.row.specs.Judging.{firstUnsound, judged}
 use Rattle.row.proofs.Texts.{and-false}
 use Rattle.row.proofs.Judging.{lowest-unsound, every-sound}
-use Rattle.grid.specs.Grid.{isBlank, cellsOf, bodyOf, rowsOf}
-use Rattle.grid.specs.Told.{told, rowIn, rowsBy}
-use Rattle.grid.specs.Meaning.{allTold, rowBy}
-use Rattle.grid.proofs.Rows.{numbers-rows}
+use Rattle.grid.specs.Grid.{isBlank, cellsOf, bodyOf}
+use Rattle.grid.specs.Told.{noneTold, told, rowIn, rowsBy}
+use Rattle.ceiling.specs.Ceiling.{mostLimit, limitIsSound}
 use Rattle.register.specs.declared.Entry.{Entry}
 use Rattle.register.specs.Register.{entryIsSound}
-use Rattle.tables.specs.Register.{registerColumns, asEntry, entriesOf, registerEntries, readRegister}
+use Rattle.tables.specs.Register.{registerColumns, registerRow, limitTold, asEntry, entriesOf, registerEntries, readRegister}
 use Rattle.tables.proofs.Entries.{bounds, within, sound-is, lawful}
 use Rattle.faults.specs.declared.Table.the-variants.{Register}
 use Rattle.faults.specs.declared.Wrong.{Wrong}
 use Rattle.faults.specs.declared.Found.{Found}
-use Rattle.faults.specs.Faults.{columnFault, isSound, orElse, risingFault, entryFault, columnsOf, cellsFault, lineFault, numberOf, faultsFrom, firstLine, tableFaults}
+use Rattle.faults.specs.Faults.{columnFault, limitFault, isSound, orElse, risingFault, entryFault, columnsOf, cellsFault, lineFault, numberOf, faultsFrom, firstLine, tableFaults}
 
 -- Tests that say the same
 
@@ -59,6 +58,16 @@ column-make : (column least most n : ℕ) → most ≤ ceiling → leb least n �
 unfolding columnFault isSound
 column-make column least most n c h k = rw (le-ltb ceiling n (omega (arith, leb-true n most k)), h, k)
 
+-- none, or a number within limits, is a sound limit
+limit-alike : (n : ℕ) → isSound (limitFault n) ≡ limitIsSound (limitTold n)
+unfolding limitFault limitTold limitIsSound isSound
+limit-alike n = go (eqb n noneTold)
+  where
+    go : (t : Bool) → isSound (cond t Wrong.Sound (columnFault 7 0 mostLimit n))
+        ≡ limitIsSound (cond t (record { none = true; fen = record { 0 = 0 } }) (record { none = false; fen = record { 0 = n } }))
+    go true = refl
+    go false = alike _ _ (λ h. column-split 7 0 mostLimit n h .1) (λ h. column-make 7 0 mostLimit n (omega arith) (leb·zero n) h)
+
 -- A register line
 
 entry-alike : (row : List ℕ) → isSound (entryFault row) ≡ within (asEntry row)
@@ -77,8 +86,10 @@ entry-alike row = alike (isSound (entryFault row)) (within (asEntry row)) to fro
         let q3 = column-split 3 1 4000000 (getD row 2 0) (p3 .0) in
         let q4 = column-split 4 0 2 (getD row 3 0) (p4 .0) in
         let q5 = column-split 5 0 5000000 (getD row 4 0) (p5 .0) in
-        let q6 = column-split 6 0 10000000 (getD row 5 0) (p5 .1) in
-        all (leb 1 (getD row 0 0)) (bounds (asEntry row)) (q1 .0, (q1 .1, (q2 .0, (q2 .1, (q3 .0, (q3 .1, (q4 .1, (q5 .1, (q6 .1, tt)))))))))
+        let p6 = or-split (columnFault 6 0 10000000 (getD row 5 0)) _ (p5 .1) in
+        let q6 = column-split 6 0 10000000 (getD row 5 0) (p6 .0) in
+        let q7 = sym (limit-alike (getD row 6 0)) ∙ p6 .1 in
+        all (leb 1 (getD row 0 0)) (bounds (asEntry row)) (q1 .0, (q1 .1, (q2 .0, (q2 .1, (q3 .0, (q3 .1, (q4 .1, (q5 .1, (q6 .1, (q7, tt))))))))))
 
     from : within (asEntry row) ≡ true → isSound (entryFault row) ≡ true
     from h =
@@ -91,7 +102,8 @@ entry-alike row = alike (isSound (entryFault row)) (within (asEntry row)) to fro
         (or-make (columnFault 3 1 4000000 (getD row 2 0)) _ (column-make 3 1 4000000 (getD row 2 0) (omega arith) (q3 .0) (q3 .1 .0))
         (or-make (columnFault 4 0 2 (getD row 3 0)) _ (column-make 4 0 2 (getD row 3 0) (omega arith) (leb·zero (getD row 3 0)) (q4 .0))
         (or-make (columnFault 5 0 5000000 (getD row 4 0)) _ (column-make 5 0 5000000 (getD row 4 0) (omega arith) (leb·zero (getD row 4 0)) (q4 .1 .0))
-        (column-make 6 0 10000000 (getD row 5 0) (omega arith) (leb·zero (getD row 5 0)) (q4 .1 .1 .0))))))
+        (or-make (columnFault 6 0 10000000 (getD row 5 0)) _ (column-make 6 0 10000000 (getD row 5 0) (omega arith) (leb·zero (getD row 5 0)) (q4 .1 .1 .0))
+        (limit-alike (getD row 6 0) ∙ q4 .1 .1 .1 .0))))))
 
 rising-alike : (before n : ℕ) → isSound (risingFault before n) ≡ ltb before n
 unfolding risingFault isSound
@@ -108,78 +120,41 @@ or-alike x y = go (isSound x) refl
     go true e = refl
     go false e = e
 
--- an entry of numbers that are within their limits has numbers
-told-within : (row : List ℕ) → length row ≡ 6 → within (asEntry row) ≡ true → allTold row ≡ true
-unfolding asEntry
-told-within [] l h = absurd (omega arith)
-told-within (a ∷ []) l h = absurd (omega arith)
-told-within (a ∷ b ∷ []) l h = absurd (omega arith)
-told-within (a ∷ b ∷ c ∷ []) l h = absurd (omega arith)
-told-within (a ∷ b ∷ c ∷ d ∷ []) l h = absurd (omega arith)
-told-within (a ∷ b ∷ c ∷ d ∷ e ∷ []) l h = absurd (omega arith)
-told-within (a ∷ b ∷ c ∷ d ∷ e ∷ f ∷ []) l h =
-    let q = each (leb 1 a) (bounds (asEntry (a ∷ b ∷ c ∷ d ∷ e ∷ f ∷ []))) h .1 in
-    let la : a ≤ 64 = leb-true _ _ (q .0) in
-    let lb : b ≤ 8 = leb-true _ _ (q .1 .1 .0) in
-    let lc : c ≤ 4000000 = leb-true _ _ (q .1 .1 .1 .1 .0) in
-    let ld : d ≤ 2 = leb-true _ _ (q .1 .1 .1 .1 .1 .0) in
-    let le : e ≤ 5000000 = leb-true _ _ (q .1 .1 .1 .1 .1 .1 .0) in
-    let lf : f ≤ 10000000 = leb-true _ _ (q .1 .1 .1 .1 .1 .1 .1 .0) in
-    rw (
-      le-leb a ceiling (omega arith),
-      le-leb b ceiling (omega arith),
-      le-leb c ceiling (omega arith),
-      le-leb d ceiling (omega arith),
-      le-leb e ceiling (omega arith),
-      le-leb f ceiling
-          (omega arith),
-    )
-told-within (a ∷ b ∷ c ∷ d ∷ e ∷ f ∷ g ∷ row) l h = absurd (omega arith)
-
 -- the entry that a row is read as
 abbrev entryBy : List ℕ → Entry
-entryBy row = asEntry (rowBy registerColumns row)
+entryBy row = asEntry (registerRow row)
 
 none-sound : (before : ℕ) → entryIsSound before (asEntry []) ≡ false
 unfolding asEntry
 none-sound before = sound-is before (asEntry [])
 
 line-alike : (before : ℕ) (row : List ℕ) → isSound (lineFault Register before row) ≡ entryIsSound before (entryBy row)
-unfolding lineFault columnsOf cellsFault isSound asEntry
-line-alike before row = go (ℕ-discrete (length row) 6)
+unfolding lineFault columnsOf cellsFault isSound registerRow asEntry entryIsSound
+line-alike before row = go (ℕ-discrete (length row) 7)
   where
-    six : length row ≡ 6 → (t : Bool) → allTold row ≡ t → (within (asEntry row) && ltb before (getD row 0 0)) ≡ entryIsSound before (asEntry (cond t row []))
-    six l true f = sym (sound-is before (asEntry row))
-    six l false f = bad (within (asEntry row)) refl ∙ sym (none-sound before)
-      where
-        bad : (t : Bool) → within (asEntry row) ≡ t → (t && ltb before (getD row 0 0)) ≡ false
-        bad true w = absurd (holds-or-fails (told-within row l w) f)
-        bad false w = refl
-
-    other : (t : Bool) → isSound (cond t Wrong.Blank (Wrong.Columns (length row) 6)) ≡ false
+    other : (t : Bool) → isSound (cond t Wrong.Blank (Wrong.Columns (length row) 7)) ≡ false
     other true = refl
     other false = refl
 
-    go : Dec (length row ≡ 6) → isSound (lineFault Register before row) ≡ entryIsSound before (entryBy row)
-    go (yes l) = rw (eq-eqb (length row) 6 l, ne-eqb (length row) 0 (omega arith))
-        (or-alike (entryFault row) (risingFault before (getD row 0 0)) ∙ (λ i. entry-alike row i && rising-alike before (getD row 0 0) i) ∙ six l (allTold row) refl)
-    go (no n) = rw (ne-eqb (length row) 6 n) (other (eqb (length row) 0) ∙ sym (none-sound before))
+    go : Dec (length row ≡ 7) → isSound (lineFault Register before row) ≡ entryIsSound before (entryBy row)
+    go (yes l) = rw (eq-eqb (length row) 7 l, ne-eqb (length row) 0 (omega arith))
+        (or-alike (entryFault row) (risingFault before (getD row 0 0)) ∙ (λ i. entry-alike row i && rising-alike before (getD row 0 0) i) ∙ sym (sound-is before (asEntry row)))
+    go (no n) = rw (ne-eqb (length row) 7 n) (other (eqb (length row) 0) ∙ sym (none-sound before))
 
 -- a sound line's number is the one that the next is held against
 number-alike : (before : ℕ) (row : List ℕ) → entryIsSound before (entryBy row) ≡ true → numberOf row ≡ entryBy row .member .number
-unfolding numberOf asEntry
-number-alike before row h = go (eqb (length row) registerColumns && allTold row) refl h
+unfolding numberOf registerRow asEntry
+number-alike before row h = go (eqb (length row) registerColumns) h
   where
-    go : (t : Bool) → (eqb (length row) registerColumns && allTold row) ≡ t → entryIsSound before (asEntry (cond t row [])) ≡ true
-        → numberOf row ≡ asEntry (cond t row []) .member .number
-    go true e k =
+    go : (t : Bool) → entryIsSound before (asEntry (cond t row [])) ≡ true → numberOf row ≡ asEntry (cond t row []) .member .number
+    go true k =
         let q = each (leb 1 (getD row 0 0)) (bounds (asEntry row)) (two (within (asEntry row)) (sym (sound-is before (asEntry row)) ∙ k)) in
         rw (q .0, q .1 .0)
       where
         two : (t : Bool) → (t && ltb before (getD row 0 0)) ≡ true → t ≡ true
         two true k = refl
         two false k = k
-    go false e k = absurd (holds-or-fails k (none-sound before))
+    go false k = absurd (holds-or-fails k (none-sound before))
 
 -- A register
 
@@ -235,21 +210,17 @@ some-bad line before (row ∷ rows) f fs e = go (some-bad (suc line) (numberOf r
         rw bad (omega arith, omega (arith, at))
 
 -- the rows of a register by what its cells say
-rows-are : (text : List ℕ) → map asEntry (rowsOf registerColumns text) ≡ entriesBy (rowsBy (λ row. row) text)
-unfolding rowsBy rowIn
-rows-are text = ap (λ (rows : List (List ℕ)). map asEntry rows) (sym (numbers-rows registerColumns text (omega arith))) ∙ every (bodyOf text)
+entries-are : (text : List ℕ) → entriesOf text ≡ entriesBy (rowsBy (λ row. row) text)
+unfolding entriesOf rowsBy rowIn registerRow
+entries-are text = every (bodyOf text)
   where
-    one : (l : List ℕ) (t : Bool) → asEntry (cond t [] (rowBy registerColumns (take mostColumns (map told (cellsOf l))))) ≡ entryBy (cond t [] (take mostColumns (map told (cellsOf l))))
+    one : (l : List ℕ) (t : Bool) → asEntry (cond t [] (registerRow (take mostColumns (map told (cellsOf l))))) ≡ entryBy (cond t [] (take mostColumns (map told (cellsOf l))))
     one l true = refl
     one l false = refl
 
-    every : (ls : List (List ℕ)) → map asEntry (map (rowIn (rowBy registerColumns)) ls) ≡ entriesBy (map (rowIn (λ row. row)) ls)
+    every : (ls : List (List ℕ)) → map asEntry (map (rowIn registerRow) ls) ≡ entriesBy (map (rowIn (λ row. row)) ls)
     every [] = refl
     every (l ∷ ls) = λ i. one l (isBlank l) i ∷ every ls i
-
-entries-are : (text : List ℕ) → entriesOf text ≡ entriesBy (rowsBy (λ row. row) text)
-unfolding entriesOf
-entries-are text = rows-are text
 
 -- a register without a fault is taken
 pub none-taken : (text : List ℕ) → tableFaults Register text ≡ [] → readRegister text .number ≡ 0

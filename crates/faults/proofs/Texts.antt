@@ -32,9 +32,14 @@ module _ (column : ℕ) where
           unfolding columnName
           name-5 e = rw (ne-eqb column 1 n1, ne-eqb column 2 n2, ne-eqb column 3 n3, ne-eqb column 4 n4, eq-eqb column 5 e)
 
-          pub name-6 : (column ≡ 5 → ⊥) → word "THOUSANDTHS" ≡ columnName column
-          unfolding columnName
-          name-6 n5 = rw (ne-eqb column 1 n1, ne-eqb column 2 n2, ne-eqb column 3 n3, ne-eqb column 4 n4, ne-eqb column 5 n5)
+          module _ (n5 : column ≡ 5 → ⊥) where
+            pub name-6 : column ≡ 6 → word "THOUSANDTHS" ≡ columnName column
+            unfolding columnName
+            name-6 e = rw (ne-eqb column 1 n1, ne-eqb column 2 n2, ne-eqb column 3 n3, ne-eqb column 4 n4, ne-eqb column 5 n5, eq-eqb column 6 e)
+
+            pub name-7 : (column ≡ 6 → ⊥) → word "LIMIT" ≡ columnName column
+            unfolding columnName
+            name-7 n6 = rw (ne-eqb column 1 n1, ne-eqb column 2 n2, ne-eqb column 3 n3, ne-eqb column 4 n4, ne-eqb column 5 n5, ne-eqb column 6 n6)
 
 pub number-shown : (n : ℕ) → n < ceiling → field " " n ≡ numberText n
 unfolding numberText

@@ -7,11 +7,12 @@ use lib.Dec.{eqb, leb, ltb}
 use lib.ListN.{length, getD}
 use Rattle.row.specs.Numbers.{linesOf, ceiling}
 use Rattle.grid.specs.Grid.{hasDigit, commas, unmarked}
-use Rattle.grid.specs.Told.{rowsBy}
+use Rattle.grid.specs.Told.{noneTold, rowsBy}
 use Rattle.pay.specs.Member.{mostMember, mostRated}
 use Rattle.pay.specs.Kinds.{coal, newStorage}
 use Rattle.score.specs.Series.{mostOutput}
 use Rattle.share.specs.Sharing.{mostStatus, mostEnergy, mostAssessment}
+use Rattle.ceiling.specs.Ceiling.{mostLimit}
 use Rattle.tables.specs.Register.{registerColumns}
 use Rattle.tables.specs.Series.{seriesColumns}
 use Rattle.faults.specs.declared.Table.{Table}
@@ -25,6 +26,10 @@ use Rattle.faults.specs.declared.Found.{Found}
 -- what its cell says is a number, and within limits
 unfoldable pub columnFault : ℕ → ℕ → ℕ → ℕ → Wrong
 columnFault column least most n = cond (ltb ceiling n) (NoNumber column) (cond (leb least n && leb n most) Sound (Outside column n least most))
+
+-- what the limit's cell says is none, or a number within limits
+unfoldable pub limitFault : ℕ → Wrong
+limitFault n = cond (eqb n noneTold) Sound (columnFault 7 0 mostLimit n)
 
 -- nothing is wrong
 unfoldable pub isSound : Wrong → Bool
@@ -45,12 +50,12 @@ risingFault before n = cond (ltb before n) Sound (NotAbove n before)
 
 -- A line, by what its cells say
 
--- the first of a register line's cells that is wrong: number, kind, rated kW, status, energy, assessment
+-- the first of a register line's cells that is wrong: number, kind, rated kW, status, energy, assessment, limit
 unfoldable pub entryFault : List ℕ → Wrong
 entryFault row =
     orElse (columnFault 1 1 mostMember (getD row 0 0)) (orElse (columnFault 2 coal newStorage (getD row 1 0))
     (orElse (columnFault 3 1 mostRated (getD row 2 0)) (orElse (columnFault 4 0 mostStatus (getD row 3 0))
-    (orElse (columnFault 5 0 mostEnergy (getD row 4 0)) (columnFault 6 0 mostAssessment (getD row 5 0))))))
+    (orElse (columnFault 5 0 mostEnergy (getD row 4 0)) (orElse (columnFault 6 0 mostAssessment (getD row 5 0)) (limitFault (getD row 6 0)))))))
 
 -- how many cells a line has, and what is wrong with them: of a register line with sound cells, that its number does not rise; of a series, its one output
 unfoldable pub columnsOf : Table → ℕ

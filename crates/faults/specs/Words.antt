@@ -21,7 +21,7 @@ use Rattle.faults.specs.declared.Found.{Found}
 unfoldable pub columnName : ℕ → List ℕ
 columnName column =
     cond (eqb column 1) (word "MEMBER") (cond (eqb column 2) (word "KIND") (cond (eqb column 3) (word "KW")
-    (cond (eqb column 4) (word "STATUS") (cond (eqb column 5) (word "MWH") (word "THOUSANDTHS")))))
+    (cond (eqb column 4) (word "STATUS") (cond (eqb column 5) (word "MWH") (cond (eqb column 6) (word "THOUSANDTHS") (word "LIMIT"))))))
 
 -- which cell it is: a line of a series has one alone
 unfoldable pub columnText : Table → ℕ → List ℕ

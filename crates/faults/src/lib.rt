@@ -1,7 +1,9 @@
 // What is wrong with a register, or a series: each line judged by itself, told one after the other.
 pub mod words;
 
+use ceiling::MOST_LIMIT;
 use grid::Grid;
+use grid::cell::NONE_TOLD;
 use row::CEILING;
 use row::MOST_COLUMNS;
 use row::is_digit;
@@ -11,7 +13,7 @@ ghost use mathlib.Core.List.{List, []};
 ghost use Prim.Native.Nat.{ℕ, _+_, _%_, _^_, _≤_, _<_};
 ghost use lib.ListN.{length, getD, take, drop};
 ghost use Rattle.faults.specs.declared.Found.{Found};
-ghost use Rattle.faults.specs.Faults.{isSound, columnFault, orElse, risingFault, entryFault, columnsOf, cellsFault, lineFault, numberOf, firstLine, tableFaults};
+ghost use Rattle.faults.specs.Faults.{isSound, columnFault, limitFault, orElse, risingFault, entryFault, columnsOf, cellsFault, lineFault, numberOf, firstLine, tableFaults};
 ghost use Rattle.faults.specs.Inner.{firstOf, Walks, AtEnd, ToEnd, Ended, CellsOf, Passes, IsLine, IsHeld};
 
 // Which table it is.
@@ -83,6 +85,16 @@ fn column_fault(column: usize, least: u64, most: u64, n: u64) -> Wrong
     Wrong::Outside(column, n, least, most)
 }
 
+// The limit's cell.
+fn limit_fault(n: u64) -> Wrong
+    ensures { λ r. ⌜ r ≡ limitFault n ⌝ }
+{
+    if n == NONE_TOLD {
+        return Wrong::Sound;
+    }
+    column_fault(7, 0, MOST_LIMIT, n)
+}
+
 fn or_else(first: Wrong, second: Wrong) -> Wrong
     ensures { λ r. ⌜ r ≡ orElse first second ⌝ }
 {
@@ -105,7 +117,8 @@ fn rising_fault(before: u64, n: u64) -> Wrong
 fn entry_fault(cells: [u64; MOST_COLUMNS]) -> Wrong
     ensures { λ r. ⌜ r ≡ entryFault cells ⌝ }
 {
-    let a = column_fault(6, 0, 10_000_000, cells[5]);
+    let l = limit_fault(cells[6]);
+    let a = or_else(column_fault(6, 0, 10_000_000, cells[5]), l);
     let e = or_else(column_fault(5, 0, 5_000_000, cells[4]), a);
     let s = or_else(column_fault(4, 0, 2, cells[3]), e);
     let p = or_else(column_fault(3, 1, 4_000_000, cells[2]), s);
@@ -118,7 +131,7 @@ pub fn columns_of(table: Table) -> usize
     ensures { λ r. ⌜ r ≡ columnsOf table ⌝ }
 {
     match table {
-        Table::Register => 6,
+        Table::Register => 7,
         Table::Series => 1,
     }
 }

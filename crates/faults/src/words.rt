@@ -42,7 +42,10 @@ fn put_name(out: &mut [u8], at: usize, column: usize) -> usize
     if column == 5 {
         return put_word(out, at, b"MWH");
     }
-    put_word(out, at, b"THOUSANDTHS")
+    if column == 6 {
+        return put_word(out, at, b"THOUSANDTHS");
+    }
+    put_word(out, at, b"LIMIT")
 }
 
 // Which cell it is.

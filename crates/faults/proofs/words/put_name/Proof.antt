@@ -1,6 +1,6 @@
 use native.Mathlib.Omega.{arith}
 use Rattle.render.proofs.Placed.{looser, same-put}
-use Rattle.faults.proofs.Texts.{name-1, name-2, name-3, name-4, name-5, name-6}
+use Rattle.faults.proofs.Texts.{name-1, name-2, name-3, name-4, name-5, name-6, name-7}
 use borrow.Author.Needs.{needs}
 use Rattle.faults.proofs.words.put_name.Statement.{statement}
 use Rattle.faults.proofs.words.put_name.Tie as tie
@@ -84,10 +84,25 @@ same-length-6 : tie.Need-same-length-6
 same-length-6 c = search needs
 
 returns-6 : tie.Need-returns-6
-returns-6 c = same-put (name-6 (c .before .before .before .before .before .before .before .before .before .before .before .args .column)
-    (c .before .before .before .before .before .before .before .before .before .if1 .left) (c .before .before .before .before .before .before .before .before .if2 .left)
-    (c .before .before .before .before .before .before .before .if3 .left) (c .before .before .before .before .before .before .if4 .left)
-    (c .before .before .before .before .before .if5 .left)) (looser _ (omega arith) (c .before .before .put-word6 .ensures))
+returns-6 c = same-put (name-6 (c .before .before .before .before .before .before .before .before .before .before .before .before .args .column)
+    (c .before .before .before .before .before .before .before .before .before .before .if1 .left) (c .before .before .before .before .before .before .before .before .before .if2 .left)
+    (c .before .before .before .before .before .before .before .before .if3 .left) (c .before .before .before .before .before .before .before .if4 .left)
+    (c .before .before .before .before .before .before .if5 .left) (c .before .before .before .before .before .if6 .taken)) (looser _ (omega arith) (c .before .before .put-word6 .ensures))
+
+slice-aggregate-put-word-7 : tie.Need-slice-aggregate-put-word-7
+slice-aggregate-put-word-7 c = search needs
+
+put-word-requires-7 : tie.Need-put-word-requires-7
+put-word-requires-7 c κs = search needs
+
+same-length-7 : tie.Need-same-length-7
+same-length-7 c = search needs
+
+returns-7 : tie.Need-returns-7
+returns-7 c = same-put (name-7 (c .before .before .before .before .before .before .before .before .before .before .before .before .args .column)
+    (c .before .before .before .before .before .before .before .before .before .before .if1 .left) (c .before .before .before .before .before .before .before .before .before .if2 .left)
+    (c .before .before .before .before .before .before .before .before .if3 .left) (c .before .before .before .before .before .before .before .if4 .left)
+    (c .before .before .before .before .before .before .if5 .left) (c .before .before .before .before .before .if6 .left)) (looser _ (omega arith) (c .before .before .put-word7 .ensures))
 
 pub put-name-spec : {M : Type 1} → statement M
 put-name-spec =
@@ -116,4 +131,8 @@ put-name-spec =
     slice-aggregate-put-word-6
     put-word-requires-6
     same-length-6
-    returns-6)
+    returns-6
+    slice-aggregate-put-word-7
+    put-word-requires-7
+    same-length-7
+    returns-7)
