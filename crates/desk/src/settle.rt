@@ -140,6 +140,12 @@ fn tell_sums(number: u32) {
             b"the members have a part of the gap to share, and none has a weight to share it by",
         );
     }
+    if number == 17 {
+        note_at(
+            register_at(),
+            b"what is not collected above the members' limits is more than all that members get",
+        );
+    }
 }
 
 // Sharing's refusal. A compensation above a line's limit is told in words before it.

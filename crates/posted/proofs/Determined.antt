@@ -12,7 +12,7 @@ use mir.Val.{SFits}
 use Rattle.book.specs.declared.Header.{Header}
 use Rattle.month.specs.declared.Row.{Row}
 use Rattle.render.specs.Decimal.{word, decimal, signedDecimal, field, signedField}
-use Rattle.posted.specs.Posted.{headText, earnedText, carriedText, rowText, rowsText, totalText, userText}
+use Rattle.posted.specs.Posted.{headText, earnedText, carriedText, gotText, rowText, rowsText, totalText, userText}
 use Rattle.posted.specs.declared.Posted.{Posted}
 use Rattle.posted.specs.Reading.{RowsFit, more, BeginsHead, BeginsRow, BeginsTotal, BeginsUser, head-line, row-line, total-line, user-line, Taken, readWhole, badLine}
 use Rattle.posted.specs.Reading.{ReadPosted, no-head, no-line, no-user, no-end, whole}
@@ -56,8 +56,9 @@ money-same name y z a b e f cut = sign-same y z a b e f (behind-name name (signe
 six : (a b c d e f g : List ℕ) → (((((a ++ b) ++ c) ++ d) ++ e) ++ f) ++ g ≡ a ++ (b ++ (c ++ (d ++ (e ++ (f ++ g)))))
 six a b c d e f g = simp append-assoc
 
-ten : (a b c d e f g h i j k : List ℕ) → (((((a ++ b) ++ c) ++ d) ++ e) ++ ((((f ++ g) ++ h) ++ i) ++ j)) ++ k ≡ a ++ (b ++ (c ++ (d ++ (e ++ (f ++ (g ++ (h ++ (i ++ (j ++ k)))))))))
-ten a b c d e f g h i j k = simp append-assoc
+twelve : (a b c d e f g h i j k l m : List ℕ) → ((((((a ++ b) ++ c) ++ d) ++ e) ++ ((f ++ g) ++ h)) ++ (((i ++ j) ++ k) ++ l)) ++ m
+    ≡ a ++ (b ++ (c ++ (d ++ (e ++ (f ++ (g ++ (h ++ (i ++ (j ++ (k ++ (l ++ m)))))))))))
+twelve a b c d e f g h i j k l m = simp append-assoc
 
 pub head-same : (g h : Header) (m n p q : ℕ) (x y : List ℕ) → headText g m p ++ x ≡ headText h n q ++ y → (g ≡ h) × (m ≡ n) × (p ≡ q) × (x ≡ y)
 unfolding headText startsDigit
@@ -74,14 +75,16 @@ head-same g h m n p q x y cut =
     (λ i. record { area = a .0 i; year = b .0 i; month = c .0 i }, d .0, e .0, ap (drop 1) (e .1))
 
 pub row-same : (r s : Row) (x y : List ℕ) → rowText r ++ x ≡ rowText s ++ y → (r ≡ s) × (x ≡ y)
-unfolding rowText earnedText carriedText startsDigit
+unfolding rowText earnedText carriedText gotText startsDigit
 row-same r s x y cut =
     let whole =
-    sym (ten (field "member " (r .number)) (field " hours " (r .hours)) (field " grains " (r .grains .0)) (field " compensation " (r .compensation .0)) (field " assessment " (r .assessment .0))
-    (field " energy " (r .energy .0)) (field " weight " (r .weight)) (signedField " share " (r .share .0)) (signedField " amount " (r .amount .0)) (word "\n") x)
+    sym (twelve (field "member " (r .number)) (field " hours " (r .hours)) (field " grains " (r .grains .0)) (field " compensation " (r .compensation .0)) (field " assessment " (r .assessment .0))
+    (field " energy " (r .energy .0)) (field " weight " (r .weight)) (signedField " share " (r .share .0)) (field " uncollected " (r .uncollected .0)) (field " given " (r .given .0))
+    (signedField " amount " (r .amount .0)) (word "\n") x)
     ∙ cut
-    ∙ ten (field "member " (s .number)) (field " hours " (s .hours)) (field " grains " (s .grains .0)) (field " compensation " (s .compensation .0)) (field " assessment " (s .assessment .0))
-    (field " energy " (s .energy .0)) (field " weight " (s .weight)) (signedField " share " (s .share .0)) (signedField " amount " (s .amount .0)) (word "\n") y in
+    ∙ twelve (field "member " (s .number)) (field " hours " (s .hours)) (field " grains " (s .grains .0)) (field " compensation " (s .compensation .0)) (field " assessment " (s .assessment .0))
+    (field " energy " (s .energy .0)) (field " weight " (s .weight)) (signedField " share " (s .share .0)) (field " uncollected " (s .uncollected .0)) (field " given " (s .given .0))
+    (signedField " amount " (s .amount .0)) (word "\n") y in
     let a = field-same (word "member ") (r .number) (s .number) _ _ refl refl whole in
     let o = field-same (word " hours ") (r .hours) (s .hours) _ _ refl refl (a .1) in
     let b = field-same (word " grains ") (r .grains .0) (s .grains .0) _ _ refl refl (o .1) in
@@ -90,7 +93,9 @@ row-same r s x y cut =
     let e = field-same (word " energy ") (r .energy .0) (s .energy .0) _ _ refl refl (d .1) in
     let f = field-same (word " weight ") (r .weight) (s .weight) _ _ refl refl (e .1) in
     let g = money-same (word " share ") (r .share .0) (s .share .0) _ _ refl refl (f .1) in
-    let h = money-same (word " amount ") (r .amount .0) (s .amount .0) _ _ refl refl (g .1) in (
+    let u = field-same (word " uncollected ") (r .uncollected .0) (s .uncollected .0) _ _ refl refl (g .1) in
+    let v = field-same (word " given ") (r .given .0) (s .given .0) _ _ refl refl (u .1) in
+    let h = money-same (word " amount ") (r .amount .0) (s .amount .0) _ _ refl refl (v .1) in (
       λ i.
           record {
             number = a .0 i;
@@ -101,6 +106,8 @@ row-same r s x y cut =
             energy = record { 0 = e .0 i };
             weight = f .0 i;
             share = record { 0 = g .0 i };
+            uncollected = record { 0 = u .0 i };
+            given = record { 0 = v .0 i };
             amount = record { 0 = h .0 i };
           },
       ap (drop 1) (h .1),

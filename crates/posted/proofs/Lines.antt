@@ -19,11 +19,18 @@ use Rattle.render.proofs.Printed.{front-put}
 use Rattle.posted.specs.declared.line.Heads.{Heads}
 use Rattle.posted.specs.declared.line.Earned.{Earned}
 use Rattle.posted.specs.declared.line.Carried.{Carried}
-use Rattle.posted.specs.Posted.{headText, earnedText, carriedText, rowText}
+use Rattle.posted.specs.declared.line.Got.{Got}
+use Rattle.posted.specs.Posted.{headText, earnedText, carriedText, gotText, rowText}
 use Rattle.posted.specs.Reading.{HeadFits, RowFits, BeginsHead, BeginsRow, head-line, row-line}
-use Rattle.posted.specs.Inner.{startsDigit, Behind, FieldIs, SignedFieldIs, Begins, EarnedSame, CarriedSame, EarnedIs, CarriedIs, HeadIs, RowIs, SumIs, sumText}
-use Rattle.posted.specs.Inner.{HeadAt, RowAt, SumAt}
+use Rattle.posted.specs.Inner.{startsDigit, Behind, FieldIs, SignedFieldIs, Begins, EarnedSame, CarriedSame, GotSame, EarnedIs, CarriedIs, GotIs}
+use Rattle.posted.specs.Inner.{HeadIs, RowIs, SumIs, sumText, HeadAt, RowAt, SumAt}
 use Rattle.posted.proofs.Signing.{through}
+
+three : (a b c d : List ℕ) → ((a ++ b) ++ c) ++ d ≡ a ++ (b ++ (c ++ d))
+three a b c d = simp append-assoc
+
+four : (a b c d e : List ℕ) → (((a ++ b) ++ c) ++ d) ++ e ≡ a ++ (b ++ (c ++ (d ++ e)))
+four a b c d e = simp append-assoc
 
 five : (a b c d e f : List ℕ) → ((((a ++ b) ++ c) ++ d) ++ e) ++ f ≡ a ++ (b ++ (c ++ (d ++ (e ++ f))))
 five a b c d e f = simp append-assoc
@@ -53,22 +60,37 @@ module _ (t : List ℕ) (at : ℕ) where
             (record { number = one .0; hours = two .0; grains = three .0; compensation = four .0; assessment = last .0 }, last .1);
       }
 
-  pub carried-reads : (a b : Number) (c d : SignedNumber) → FieldIs 8 t at a → FieldIs 8 t (a .next) b → SignedFieldIs 7 t (b .next) c → SignedFieldIs 8 t (c .next) d
-      → CarriedIs t at (record { energy = a .value; weight = b .value; share = toZ w64 (ofZ w64 (c .value)); amount = toZ w64 (ofZ w64 (d .value)) })
+  pub carried-reads : (a b : Number) (c : SignedNumber) → FieldIs 8 t at a → FieldIs 8 t (a .next) b → SignedFieldIs 7 t (b .next) c
+      → CarriedIs t at (record { energy = a .value; weight = b .value; share = toZ w64 (ofZ w64 (c .value)); next = c .next })
   unfolding carriedText startsDigit
-  carried-reads a b c d f g h i =
+  carried-reads a b c f g h =
+      record {
+        within = h .within;
+        reads =
+            λ r rest fits n cut.
+            let weight = field " weight " (r .weight) in
+            let share = signedField " share " (r .share .0) in
+            let one = f .reads (word " energy ") (r .energy .0) (weight ++ (share ++ rest)) refl (omega (arith, fits .energy)) refl
+            (cut ∙ three (field " energy " (r .energy .0)) weight share rest) in
+            let two = g .reads (word " weight ") (r .weight) (share ++ rest) refl (fits .weight) refl (one .1) in
+            let last = h .reads (word " share ") (r .share .0) rest refl (fits .share) n (two .1) in
+            (record { energy = one .0; weight = two .0; share = through _ _ (fits .share) (last .0) }, last .1);
+      }
+
+  pub got-reads : (a b : Number) (c : SignedNumber) → FieldIs 13 t at a → FieldIs 7 t (a .next) b → SignedFieldIs 8 t (b .next) c
+      → GotIs t at (record { uncollected = a .value; given = b .value; amount = toZ w64 (ofZ w64 (c .value)) })
+  unfolding gotText startsDigit
+  got-reads a b c f g h =
       record {
         reads =
             λ r rest fits cut.
-            let weight = field " weight " (r .weight) in
-            let share = signedField " share " (r .share .0) in
+            let given = field " given " (r .given .0) in
             let amount = signedField " amount " (r .amount .0) in
-            let one = f .reads (word " energy ") (r .energy .0) (weight ++ (share ++ (amount ++ (word "\n" ++ rest)))) refl (omega (arith, fits .energy)) refl
-            (cut ∙ five (field " energy " (r .energy .0)) weight share amount (word "\n") rest) in
-            let two = g .reads (word " weight ") (r .weight) (share ++ (amount ++ (word "\n" ++ rest))) refl (fits .weight) refl (one .1) in
-            let three = h .reads (word " share ") (r .share .0) (amount ++ (word "\n" ++ rest)) refl (fits .share) refl (two .1) in
-            let last = i .reads (word " amount ") (r .amount .0) (word "\n" ++ rest) refl (fits .amount) refl (three .1) in
-            record { energy = one .0; weight = two .0; share = through _ _ (fits .share) (three .0); amount = through _ _ (fits .amount) (last .0) };
+            let one = f .reads (word " uncollected ") (r .uncollected .0) (given ++ (amount ++ (word "\n" ++ rest))) refl (fits .uncollected) refl
+            (cut ∙ four (field " uncollected " (r .uncollected .0)) given amount (word "\n") rest) in
+            let two = g .reads (word " given ") (r .given .0) (amount ++ (word "\n" ++ rest)) refl (fits .given) refl (one .1) in
+            let last = h .reads (word " amount ") (r .amount .0) (word "\n" ++ rest) refl (fits .amount) refl (two .1) in
+            record { uncollected = one .0; given = two .0; amount = through _ _ (fits .amount) (last .0) };
       }
 
   pub heads-reads : (a b c d e : Number) (area year month part : ℕ)
@@ -109,8 +131,8 @@ pub same-header : {a b c : ℕ} (g : Header) → a ≡ g .area → b ≡ g .year
 same-header g p q r = λ i. record { area = p i; year = q i; month = r i }
 
 module _ (t : List ℕ) (at : ℕ) where
-  -- the two halves of a member's line
-  pub row-reads : (e : Earned) (k : Carried) (number hours assessment energy : ℕ) → EarnedIs t at e → CarriedIs t (e .next) k
+  -- the three parts of a member's line
+  pub row-reads : (e : Earned) (k : Carried) (m : Got) (number hours assessment energy : ℕ) → EarnedIs t at e → CarriedIs t (e .next) k → GotIs t (k .next) m
       → (e .number < 2 ^ 16 → number ≡ e .number) → (e .hours < 2 ^ 16 → hours ≡ e .hours) → (e .assessment < 2 ^ 32 → assessment ≡ e .assessment) → (k .energy < 2 ^ 32 → energy ≡ k .energy)
       → (r : Row) (rest : List ℕ) → RowFits r → drop at t ≡ rowText r ++ rest
       → _≡_ {A = Row}
@@ -119,30 +141,36 @@ module _ (t : List ℕ) (at : ℕ) where
         compensation = record { 0 = e .compensation };
         weight = k .weight;
         share = record { 0 = toZ w64 (ofZ w64 (k .share)) };
-        amount = record { 0 = toZ w64 (ofZ w64 (k .amount)) };
+        uncollected = record { 0 = m .uncollected };
+        given = record { 0 = m .given };
+        amount = record { 0 = toZ w64 (ofZ w64 (m .amount)) };
         assessment = record { 0 = assessment };
         energy = record { 0 = energy };
         number = number;
         hours = hours;
       })
       r
-  unfolding rowText carriedText startsDigit
-  row-reads e k number hours assessment energy f g u o v w r rest fits cut =
-      let one = f .reads r (carriedText r ++ rest) fits refl (cut ∙ append-assoc (earnedText r) (carriedText r) rest) in
+  unfolding rowText carriedText gotText startsDigit
+  row-reads e k m number hours assessment energy f g j u o v w r rest fits cut =
+      let one = f .reads r (carriedText r ++ (gotText r ++ rest)) fits refl (cut ∙ three (earnedText r) (carriedText r) (gotText r) rest) in
+      let two = g .reads r (gotText r ++ rest) fits refl (one .1) in
       let p = one .0 in
-      let q = g .reads r rest fits (one .1) in
+      let q = two .0 in
+      let d = j .reads r rest fits (two .1) in
       let n : number ≡ r .number = u (omega (arith, p .number, fits .number)) ∙ p .number in
       let h : hours ≡ r .hours = o (omega (arith, p .hours, fits .hours)) ∙ p .hours in
       let s : assessment ≡ r .assessment .0 = v (omega (arith, p .assessment, fits .assessment)) ∙ p .assessment in
       let y : energy ≡ r .energy .0 = w (omega (arith, q .energy, fits .energy)) ∙ q .energy in
       let x : toZ w64 (ofZ w64 (k .share)) ≡ r .share .0 = through _ _ (fits .share) (q .share) in
-      let z : toZ w64 (ofZ w64 (k .amount)) ≡ r .amount .0 = through _ _ (fits .amount) (q .amount) in
+      let z : toZ w64 (ofZ w64 (m .amount)) ≡ r .amount .0 = through _ _ (fits .amount) (d .amount) in
       λ i.
       record {
         grains = record { 0 = p .grains i };
         compensation = record { 0 = p .compensation i };
         weight = q .weight i;
         share = record { 0 = x i };
+        uncollected = record { 0 = d .uncollected i };
+        given = record { 0 = d .given i };
         amount = record { 0 = z i };
         assessment = record { 0 = s i };
         energy = record { 0 = y i };

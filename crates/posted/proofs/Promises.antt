@@ -4,7 +4,7 @@ use mathlib.Core.List.{List, [], _∷_, _++_, append-assoc}
 use Prim.Native.Nat.{ℕ, _+_, _-_, _≤_, _<_}
 use native.Mathlib.Omega.{arith}
 use lib.IntN.{ℤ}
-use lib.ListN.{length, take, replicate, length-append, length-replicate}
+use lib.ListN.{length, take, replicate, length-append, length-map, length-replicate}
 use lib.Seq.{take-at, length-take-le}
 use mir.Syntax.{w64}
 use mir.Val.{SFits}
@@ -13,8 +13,11 @@ use Rattle.book.specs.declared.Header.{Header}
 use Rattle.month.specs.declared.Fault.the-variants.{NoFault}
 use Rattle.month.specs.declared.Row.{Row}
 use Rattle.month.specs.declared.Statement.{Statement}
+use Rattle.ceiling.specs.declared.LimitedLine.{LimitedLine}
 use Rattle.month.specs.Settling.{MonthGiven, blankRow, filledRows, settling}
-use Rattle.month.proofs.Accepted.{rowsSettled, length-rows, length-in, passed}
+use Rattle.month.specs.Outcomes.{limitedIn}
+use Rattle.share.proofs.Signs.{small-fits}
+use Rattle.month.proofs.Accepted.{rowsSettled, length-rows, length-limited, length-in, passed}
 use Rattle.render.specs.Room.{Renders}
 use Rattle.render.proofs.Printed.{front-is}
 use Rattle.posted.specs.declared.Posted.{Posted}
@@ -99,25 +102,33 @@ posted-only (no-user h c o rs z x e p k l) w = not-bad (2 + length rs) e w
 posted-only (no-end h c o rs z u x e p k v l) w = not-bad (3 + length rs) e w
 posted-only (whole h c o rs z u e p k v) w = rw e (settled-of h c o rs z u (p .head) (p .few) (p .fit) k v, p .is ∙ text-of h c o rs z u)
 
+module _ (g : MonthGiven) (e : settling g .fault ≡ NoFault) where
+  -- the rows of a settled month's statement: one for each member, and zeros behind them
+  pub month-filled : settling g .rows ≡ filledRows (rowsSettled g)
+  month-filled = ap (λ (s : Statement). s .rows) (passed g e .is)
+
+  pub month-front : take (settling g .count) (settling g .rows) ≡ rowsSettled g
+  month-front =
+      let m : settling g .count ≡ length (rowsSettled g) =
+      ap (λ (s : Statement). s .count) (passed g e .is) ∙ sym (length-map (limitedIn g) (λ (l : LimitedLine). l .line)) ∙ sym (length-rows _ _ _ _ _) in
+      (λ i. take (m i) (month-filled i)) ∙ front-rows (rowsSettled g)
+
 -- A MONTH THAT WAS SETTLED HAS SUCH A STATEMENT: a row for each member, 64 at most, and every number fits its bits.
 pub month-settled : (g : MonthGiven) → HoursCounted g → settling g .fault ≡ NoFault → Settled (settling g)
 month-settled g n e =
-    let p = passed g e in
-    let rs = rowsSettled g in
-    let w : settling g .rows ≡ filledRows rs = ap (λ (s : Statement). s .rows) (p .is) in
-    let m : settling g .count ≡ length rs = ap (λ (s : Statement). s .count) (p .is) ∙ sym (length-rows _ _ _ _ _) in
-    let many : settling g .count ≡ length (g .entries) = ap (λ (s : Statement). s .count) (p .is) ∙ length-in g in
-    let few = few-entries g e n in
-    let front : take (settling g .count) (settling g .rows) ≡ rs = (λ i. take (m i) (w i)) ∙ front-rows rs in
+    let many : settling g .count ≡ length (g .entries) = ap (λ (s : Statement). s .count) (passed g e .is) ∙ length-limited g in
+    let few = few-entries g e in
+    let rows : length (rowsSettled g) ≡ length (g .entries) = length-rows _ _ _ _ _ ∙ length-in g in
+    let front = month-front g e in
     record {
       fault = e;
       few = omega arith;
-      long = ap length w ∙ filled-long rs (omega arith);
-      filled = w ∙ ap (λ (us : List Row). filledRows us) (sym front);
-      head = month-head g e n;
+      long = ap length (month-filled g e) ∙ filled-long (rowsSettled g) (omega arith);
+      filled = month-filled g e ∙ ap (λ (us : List Row). filledRows us) (sym front);
+      head = month-head g e;
       fit = rw front (month-rows g e n);
-      gap = month-gap g e n;
-      user = month-user g e n;
+      gap = small-fits (settling g .gap .0) 100000000000 (month-gap g e) (omega arith);
+      user = small-fits (settling g .user .0) 100000000000 (month-user g e) (omega arith);
     }
 
 -- SETTLED, WRITTEN, READ: whatever month is settled, its statement's text reads back as that statement, and as nothing else;

@@ -18,11 +18,12 @@ use Rattle.register.specs.Register.{mostEntries}
 use Rattle.posted.specs.declared.line.Heads.{Heads}
 use Rattle.posted.specs.declared.line.Earned.{Earned}
 use Rattle.posted.specs.declared.line.Carried.{Carried}
+use Rattle.posted.specs.declared.line.Got.{Got}
 use Rattle.posted.specs.declared.line.HeadLine.{HeadLine}
 use Rattle.posted.specs.declared.line.RowLine.{RowLine}
 use Rattle.posted.specs.declared.line.SumLine.{SumLine}
 use Rattle.posted.specs.declared.line.RowLines.{RowLines}
-use Rattle.posted.specs.Posted.{headText, earnedText, carriedText, rowText, rowsText}
+use Rattle.posted.specs.Posted.{headText, earnedText, carriedText, gotText, rowText, rowsText}
 use Rattle.posted.specs.Reading.{HeadFits, RowFits, RowsFit, BeginsHead, BeginsRow}
 use Rattle.posted.specs.declared.taken.Number.{Number}
 use Rattle.posted.specs.declared.taken.SignedNumber.{SignedNumber}
@@ -102,7 +103,7 @@ pub record Begins (text : List ℕ) (at : ℕ) (w : List ℕ) (r : Bool) : Type 
   pub yes : r ≡ true → (at + length w ≤ length text) × (drop at text ≡ w ++ drop (at + length w) text)
   pub no : r ≡ false → (rest : List ℕ) → drop at text ≡ w ++ rest → ⊥
 
--- the numbers of half a line are those of a row
+-- the numbers of a part of a line are those of a row
 pub record EarnedSame (e : Earned) (r : Row) : Type 0 where
   pub number : e .number ≡ r .number
   pub hours : e .hours ≡ r .hours
@@ -114,16 +115,24 @@ pub record CarriedSame (c : Carried) (r : Row) : Type 0 where
   pub energy : c .energy ≡ r .energy .0
   pub weight : c .weight ≡ r .weight
   pub share : c .share ≡ r .share .0
-  pub amount : c .amount ≡ r .amount .0
 
--- where the first half of a member's line stands from a place on: its numbers, and what is behind it
+pub record GotSame (g : Got) (r : Row) : Type 0 where
+  pub uncollected : g .uncollected ≡ r .uncollected .0
+  pub given : g .given ≡ r .given .0
+  pub amount : g .amount ≡ r .amount .0
+
+-- where the first part of a member's line stands from a place on: its numbers, and what is behind it
 pub record EarnedIs (text : List ℕ) (at : ℕ) (e : Earned) : Type 0 where
   pub within : e .next ≤ length text
   pub reads : (r : Row) (rest : List ℕ) → RowFits r → startsDigit rest ≡ false → drop at text ≡ earnedText r ++ rest → EarnedSame e r × (drop (e .next) text ≡ rest)
 
--- the same of the second half
+-- the same of the second, and of the third, which ends the line
 pub record CarriedIs (text : List ℕ) (at : ℕ) (c : Carried) : Type 0 where
-  pub reads : (r : Row) (rest : List ℕ) → RowFits r → drop at text ≡ carriedText r ++ rest → CarriedSame c r
+  pub within : c .next ≤ length text
+  pub reads : (r : Row) (rest : List ℕ) → RowFits r → startsDigit rest ≡ false → drop at text ≡ carriedText r ++ rest → CarriedSame c r × (drop (c .next) text ≡ rest)
+
+pub record GotIs (text : List ℕ) (at : ℕ) (g : Got) : Type 0 where
+  pub reads : (r : Row) (rest : List ℕ) → RowFits r → drop at text ≡ gotText r ++ rest → GotSame g r
 
 -- where a first line, a member's or that of one number stands from a place on: what it says
 pub record HeadIs (text : List ℕ) (at : ℕ) (h : Heads) : Type 0 where

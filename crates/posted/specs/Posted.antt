@@ -23,14 +23,17 @@ earnedText r =
     field "member " (r .number) ++ field " hours " (r .hours)
     ++ field " grains " (r .grains .0) ++ field " compensation " (r .compensation .0) ++ field " assessment " (r .assessment .0)
 
--- what it carries and gets: MWh, its weight, fen
+-- what it carries: MWh, its weight, and its share of the first sharing, in fen
 unfoldable pub carriedText : Row → List ℕ
-carriedText r =
-    field " energy " (r .energy .0) ++ field " weight " (r .weight) ++ signedField " share " (r .share .0) ++ signedField " amount " (r .amount .0) ++ word "\n"
+carriedText r = field " energy " (r .energy .0) ++ field " weight " (r .weight) ++ signedField " share " (r .share .0)
+
+-- what is not collected of it, what it gives up, and what it gets, in fen
+unfoldable pub gotText : Row → List ℕ
+gotText r = field " uncollected " (r .uncollected .0) ++ field " given " (r .given .0) ++ signedField " amount " (r .amount .0) ++ word "\n"
 
 -- a member's line
 unfoldable pub rowText : Row → List ℕ
-rowText r = earnedText r ++ carriedText r
+rowText r = earnedText r ++ carriedText r ++ gotText r
 
 -- the members' lines, one behind the other
 unfoldable pub rowsText : List Row → List ℕ
@@ -72,10 +75,13 @@ abbrev pub mostEarned : ℕ
 mostEarned = 48 + 5 * mostDecimal
 
 abbrev pub mostCarried : ℕ
-mostCarried = 32 + 4 * mostDecimal
+mostCarried = 23 + 3 * mostDecimal
+
+abbrev pub mostGot : ℕ
+mostGot = 29 + 3 * mostDecimal
 
 abbrev pub mostRow : ℕ
-mostRow = mostEarned + mostCarried
+mostRow = mostEarned + mostCarried + mostGot
 
 abbrev pub mostTotal : ℕ
 mostTotal = 7 + mostDecimal

@@ -35,6 +35,8 @@ pub record RowFits (r : Row) : Type 0 where
   pub energy : r .energy .0 < 2 ^ 32
   pub weight : r .weight < 2 ^ 64
   pub share : SFits w64 (r .share .0)
+  pub uncollected : r .uncollected .0 < 2 ^ 64
+  pub given : r .given .0 < 2 ^ 64
   pub amount : SFits w64 (r .amount .0)
 
 pub data RowsFit : List Row → Type 0 where

@@ -31,8 +31,8 @@ pub struct Posted {
     pub reading: Reading,
 }
 
-// The most bytes: 132 of the first line, 27 of R, 26 of the user's amount, and 260 for each of 64 members.
-pub const MOST_POSTED: usize = 16825;
+// The most bytes: 132 of the first line, 27 of R, 26 of the user's amount, and 320 for each of 64 members.
+pub const MOST_POSTED: usize = 20665;
 
 fn is_settled(fault: Fault) -> bool
     ensures { λ r. ⌜ r ≡ isSettled fault ⌝ }

@@ -18,7 +18,7 @@ use units::Thousandths;
 ghost use mathlib.Core.Path.{_≡_};
 ghost use Prim.Native.Nat.{_^_, _≤_, _<_};
 ghost use lib.ListN.{length};
-ghost use Rattle.posted.specs.Inner.{EarnedIs, CarriedIs, HeadIs, RowIs, SumIs, HeadAt, RowAt, SumAt, RowsAt};
+ghost use Rattle.posted.specs.Inner.{EarnedIs, CarriedIs, GotIs, HeadIs, RowIs, SumIs, HeadAt, RowAt, SumAt, RowsAt};
 
 // The numbers of a first line.
 pub struct Heads {
@@ -27,7 +27,7 @@ pub struct Heads {
     pub header: Header,
 }
 
-// The numbers of the two halves of a member's line.
+// The numbers of the three parts of a member's line.
 pub struct Earned {
     pub number: u64,
     pub hours: u64,
@@ -41,6 +41,12 @@ pub struct Carried {
     pub energy: u64,
     pub weight: u64,
     pub share: i64,
+    pub next: usize,
+}
+
+pub struct Got {
+    pub uncollected: u64,
+    pub given: u64,
     pub amount: i64,
 }
 
@@ -137,12 +143,25 @@ fn carried_at(text: &[u8], at: usize) -> Carried
     let a = field_at(text, at, 8);
     let b = field_at(text, a.next, 8);
     let c = signed_field_at(text, b.next, 7);
-    let d = signed_field_at(text, c.next, 8);
     Carried {
         energy: a.value,
         weight: b.value,
         share: c.value,
-        amount: d.value,
+        next: c.next,
+    }
+}
+
+fn got_at(text: &[u8], at: usize) -> Got
+    requires { ⌜ at ≤ length (now text) ⌝ }
+    ensures { λ r. ⌜ GotIs (now (text .entry)) at r ⌝ }
+{
+    let a = field_at(text, at, 13);
+    let b = field_at(text, a.next, 7);
+    let c = signed_field_at(text, b.next, 8);
+    Got {
+        uncollected: a.value,
+        given: b.value,
+        amount: c.value,
     }
 }
 
@@ -152,12 +171,15 @@ fn numbers_at(text: &[u8], at: usize) -> Row
 {
     let e = earned_at(text, at);
     let c = carried_at(text, e.next);
+    let g = got_at(text, c.next);
     Row {
         grains: Grains(e.grains),
         compensation: Fen(e.compensation),
         weight: c.weight,
         share: SignedFen(c.share),
-        amount: SignedFen(c.amount),
+        uncollected: Fen(g.uncollected),
+        given: Fen(g.given),
+        amount: SignedFen(g.amount),
         assessment: Thousandths(in_32(e.assessment)),
         energy: Mwh(in_32(c.energy)),
         number: in_16(e.number),
@@ -189,7 +211,7 @@ pub fn row_at(text: &[u8], at: usize) -> RowLine
     ensures { λ r. ⌜ RowAt (now (text .entry)) at r ⌝ }
 {
     let row = numbers_at(text, at);
-    let mut line = [0u8; 260];
+    let mut line = [0u8; 320];
     let k = put_row(&mut line, 0, row);
     let is = begins(text, at, &line[..k]);
     let next = behind(text, at, k);

@@ -13,9 +13,9 @@ ghost use lib.ListN.{length, take};
 ghost use Rattle.register.specs.Register.{mostEntries};
 ghost use Rattle.render.specs.Inner.{Puts};
 ghost use Rattle.render.specs.Room.{mostDecimal};
-ghost use Rattle.posted.specs.Posted.{headText, earnedText, carriedText, rowText, rowsText, totalText, userText};
+ghost use Rattle.posted.specs.Posted.{headText, earnedText, carriedText, gotText, rowText, rowsText, totalText, userText};
 ghost use Rattle.posted.specs.Inner.{dateText, mostDate, whoText, mostWho, loadText, mostLoad, sumText};
-ghost use Rattle.posted.specs.Posted.{mostHead, mostEarned, mostCarried, mostRow, mostPosted};
+ghost use Rattle.posted.specs.Posted.{mostHead, mostEarned, mostCarried, mostGot, mostRow, mostPosted};
 
 fn put_date(out: &mut [u8], at: usize, h: Header) -> usize
     requires { ⌜ at + mostDate ≤ length (now out) ⌝ }
@@ -71,9 +71,19 @@ fn put_carried(out: &mut [u8], at: usize, r: Row) -> usize
     ensures { λ next. ⌜ Puts mostCarried (now (out .entry)) at (carriedText r) (now (out .exit)) next ⌝ }
 {
     let share = r.share;
-    let amount = r.amount;
     let a = put_load(out, at, r);
-    let b = put_money(out, a, b" share ", share);
+    put_money(out, a, b" share ", share)
+}
+
+fn put_got(out: &mut [u8], at: usize, r: Row) -> usize
+    requires { ⌜ at + mostGot ≤ length (now out) ⌝ }
+    ensures { λ next. ⌜ Puts mostGot (now (out .entry)) at (gotText r) (now (out .exit)) next ⌝ }
+{
+    let uncollected = r.uncollected;
+    let given = r.given;
+    let amount = r.amount;
+    let a = put_field(out, at, b" uncollected ", uncollected.0);
+    let b = put_field(out, a, b" given ", given.0);
     let c = put_money(out, b, b" amount ", amount);
     put_word(out, c, b"\n")
 }
@@ -82,8 +92,9 @@ pub fn put_row(out: &mut [u8], at: usize, r: Row) -> usize
     requires { ⌜ at + mostRow ≤ length (now out) ⌝ }
     ensures { λ next. ⌜ Puts mostRow (now (out .entry)) at (rowText r) (now (out .exit)) next ⌝ }
 {
-    let next = put_earned(out, at, r);
-    put_carried(out, next, r)
+    let a = put_earned(out, at, r);
+    let b = put_carried(out, a, r);
+    put_got(out, b, r)
 }
 
 // The first `count` members.

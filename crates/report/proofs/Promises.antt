@@ -9,8 +9,8 @@ use lib.IntN.{ℤ, pos, negsuc, negℤ, natAbs, _+ℤ_, _-ℤ_, +ℤ-assoc, +ℤ
 use lib.ListN.{length, getD, take, replicate, length-append}
 use lib.Seq.{take-suc, take-at}
 use Rattle.share.proofs.Promises.{sumℤ}
-use Rattle.share.proofs.Outcomes.{taken-list}
-use Rattle.share.specs.Sharing.{below, sharing}
+use Rattle.share.specs.Sharing.{below}
+use Rattle.ceiling.proofs.Outcomes.{taken-list}
 use Rattle.render.specs.Decimal.{word, decimalIn, decimal}
 use Rattle.render.specs.Room.{Renders}
 use Rattle.render.specs.Yuan.{twoPlaces, yuan}
@@ -18,8 +18,8 @@ use Rattle.month.specs.declared.Fault.the-variants.{NoFault}
 use Rattle.month.specs.declared.Row.{Row}
 use Rattle.month.specs.declared.Statement.{Statement}
 use Rattle.month.specs.Settling.{MonthGiven, blankRow, filledRows, settling}
-use Rattle.month.specs.Outcomes.{linesIn, grainsIn}
-use Rattle.month.proofs.Accepted.{rowsSettled, passed, length-rows}
+use Rattle.month.specs.Outcomes.{limitedIn, linesIn, grainsIn, sharedIn}
+use Rattle.month.proofs.Accepted.{rowsSettled, passed, length-rows, length-in, length-limited}
 use Rattle.month.proofs.Promises.{amounts-zero}
 use Rattle.report.specs.declared.totals.Totals.{Totals}
 use Rattle.report.specs.Totals.{fenPlus, dueOf, owedOf, withRow, withUser, totalsOf}
@@ -39,10 +39,10 @@ abbrev owedAll : List Row → ℕ
 owedAll [] = 0
 owedAll (r ∷ rs) = owedOf (r .amount .0) + owedAll rs
 
-abbrev top : ℕ
+abbrev pub top : ℕ
 top = 2 ^ 64 - 1
 
-held : (a x : ℕ) → min (min a top + x) top ≡ min (a + x) top
+pub held : (a x : ℕ) → min (min a top + x) top ≡ min (a + x) top
 held a x = omega arith
 
 due-append : (xs ys : List Row) → dueAll (xs ++ ys) ≡ dueAll xs + dueAll ys
@@ -83,7 +83,7 @@ owed-told rows (suc n) h =
 
 -- Amounts are what is due less what is owed
 
-one-more : (z : ℤ) (d o : ℕ) → z +ℤ (pos d -ℤ pos o) ≡ pos (dueOf z + d) -ℤ pos (owedOf z + o)
+pub one-more : (z : ℤ) (d o : ℕ) → z +ℤ (pos d -ℤ pos o) ≡ pos (dueOf z + d) -ℤ pos (owedOf z + o)
 unfolding dueOf owedOf
 one-more (pos n) d o =
     sym (+ℤ-assoc (pos n) (pos d) (negℤ (pos o))) ∙ ap (λ (x : ℤ). x -ℤ pos o) (pos-+ℤ-pos n d) ∙ ap (λ (m : ℕ). pos (n + d) -ℤ pos m) (sym (zero-add o))
@@ -97,14 +97,14 @@ balance : (rows : List Row) → sumℤ (map (λ r. r .amount .0) rows) ≡ pos (
 balance [] = refl
 balance (r ∷ rs) = ap (λ (z : ℤ). r .amount .0 +ℤ z) (balance rs) ∙ one-more (r .amount .0) (dueAll rs) (owedAll rs)
 
-level : (d o : ℕ) → pos d -ℤ pos o ≡ pos 0 → d ≡ o
+pub level : (d o : ℕ) → pos d -ℤ pos o ≡ pos 0 → d ≡ o
 level d o e = ap natAbs (sym (-ℤ-+ℤ-cancel (pos d) (pos o)) ∙ ap (λ (z : ℤ). z +ℤ pos o) e ∙ +ℤ-idl (pos o))
 
 none-left : yuan 0 ≡ word "0.00"
 unfolding yuan twoPlaces decimal decimalIn
 none-left = refl
 
-even : (m : ℕ) → balanceText m m ≡ word "0.00"
+pub even : (m : ℕ) → balanceText m m ≡ word "0.00"
 unfolding balanceText
 even m =
     let z : m - m ≡ 0 = omega arith in
@@ -124,10 +124,11 @@ amounts-told g none =
     let zs = replicate (64 - length xs) blankRow in
     let all = settling g .rows in
     let user = settling g .user .0 in
-    let long : length xs ≡ length ls = length-rows (below ls) ls (grainsIn g) (g .ramped) (sharing (g .part) ls .parts) in
-    let few : length ls ≤ 64 = taken-list (g .part) ls (p .shared) .few in
+    let long : length xs ≡ length ls = length-rows (below ls) ls (grainsIn g) (g .ramped) (sharedIn g .parts) in
+    let many : length ls ≡ length (limitedIn g) = length-in g ∙ sym (length-limited g) in
+    let few : length (limitedIn g) ≤ 64 = taken-list (g .part) (limitedIn g) (p .shared) .few in
     let rows : all ≡ xs ++ zs = ap (λ (s : Statement). s .rows) (p .is) in
-    let said : settling g .count ≡ length ls = ap (λ (s : Statement). s .count) (p .is) in
+    let said : settling g .count ≡ length (limitedIn g) = ap (λ (s : Statement). s .count) (p .is) in
     let count : min (settling g .count) 64 ≡ length xs = omega arith in
     let room : length xs ≤ length (xs ++ zs) = omega (arith, length-append xs zs) in
     let front : take (length xs) (xs ++ zs) ≡ xs = take-at xs zs (length xs) refl in

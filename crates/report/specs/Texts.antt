@@ -27,13 +27,17 @@ earnedText r = whoText r ++ pointsField " points " (grainsToFen (r .grains .0)) 
 unfoldable pub carriedText : Row → List ℕ
 carriedText r = yuanField " assessment " (r .assessment .0 * fenPerThousandth) ++ field " energy " (r .energy .0) ++ field " weight " (r .weight)
 
--- its share, and its amount
+-- its share, what is not collected of it, and what it gives up
+unfoldable pub sharedText : Row → List ℕ
+sharedText r = signedYuanField " share " (r .share .0) ++ yuanField " uncollected " (r .uncollected .0) ++ yuanField " given " (r .given .0)
+
+-- its amount
 unfoldable pub amountText : Row → List ℕ
-amountText r = signedYuanField " share " (r .share .0) ++ signedYuanField " amount " (r .amount .0) ++ word "\n"
+amountText r = signedYuanField " amount " (r .amount .0) ++ word "\n"
 
 -- a member's line
 unfoldable pub rowText : Row → List ℕ
-rowText r = earnedText r ++ carriedText r ++ amountText r
+rowText r = earnedText r ++ carriedText r ++ sharedText r ++ amountText r
 
 -- the lines of so many members
 unfoldable pub rowsText : List Row → ℕ → List ℕ
@@ -85,11 +89,14 @@ mostEarned = mostWho + 22 + mostPoints + mostYuan
 abbrev pub mostCarried : ℕ
 mostCarried = 28 + mostYuan + 2 * mostDecimal
 
+abbrev pub mostShared : ℕ
+mostShared = 27 + mostSignedYuan + 2 * mostYuan
+
 abbrev pub mostAmount : ℕ
-mostAmount = 16 + 2 * mostSignedYuan
+mostAmount = 9 + mostSignedYuan
 
 abbrev pub mostRow : ℕ
-mostRow = mostEarned + mostCarried + mostAmount
+mostRow = mostEarned + mostCarried + mostShared + mostAmount
 
 abbrev pub mostUser : ℕ
 mostUser = 13 + mostSignedYuan

@@ -18,8 +18,9 @@ ghost use Rattle.io.specs.Counts.{Counts};
 ghost use Rattle.render.specs.Inner.{Puts};
 ghost use Rattle.render.specs.Room.{Renders};
 ghost use Rattle.render.specs.Yuan.{mostSignedYuan};
-ghost use Rattle.report.specs.Texts.{whoText, earnedText, carriedText, amountText, rowText, rowsText, userText, balanceText, sumsText, totalsText, monthOf, monthText, noLineText, aboveText};
-ghost use Rattle.report.specs.Texts.{mostWho, mostEarned, mostCarried, mostAmount, mostRow, mostUser, mostSums, mostTotals, mostMonth, mostNoLine, mostAbove};
+ghost use Rattle.report.specs.Texts.{whoText, earnedText, carriedText, sharedText, amountText, rowText, rowsText, userText, balanceText, sumsText, totalsText};
+ghost use Rattle.report.specs.Texts.{monthOf, monthText, noLineText, aboveText};
+ghost use Rattle.report.specs.Texts.{mostWho, mostEarned, mostCarried, mostShared, mostAmount, mostRow, mostUser, mostSums, mostTotals, mostMonth, mostNoLine, mostAbove};
 
 pub mod hourly;
 pub mod totals;
@@ -29,8 +30,8 @@ use totals::Totals;
 use totals::totals_of;
 use totals::with_user;
 
-// The most bytes of a month: 280 for each of 64 members, 37 of the user's line, and 162 of the sums.
-pub const MOST_MONTH: usize = 18119;
+// The most bytes of a month: 346 for each of 64 members, 37 of the user's line, and 162 of the sums.
+pub const MOST_MONTH: usize = 22343;
 
 // The most bytes besides the register's name.
 pub const MOST_NO_LINE: usize = 50;
@@ -69,15 +70,25 @@ fn put_carried(out: &mut [u8], at: usize, r: Row) -> usize
     put_field(out, b, b" weight ", r.weight)
 }
 
+fn put_shared(out: &mut [u8], at: usize, r: Row) -> usize
+    requires { ⌜ at + mostShared ≤ length (now out) ⌝ }
+    ensures { λ res. ⌜ Puts mostShared (now (out .entry)) at (sharedText r) (now (out .exit)) res ⌝ }
+{
+    let share = r.share;
+    let uncollected = r.uncollected;
+    let given = r.given;
+    let a = put_signed_yuan_field(out, at, b" share ", share.0);
+    let b = put_yuan_field(out, a, b" uncollected ", uncollected.0);
+    put_yuan_field(out, b, b" given ", given.0)
+}
+
 fn put_amount(out: &mut [u8], at: usize, r: Row) -> usize
     requires { ⌜ at + mostAmount ≤ length (now out) ⌝ }
     ensures { λ res. ⌜ Puts mostAmount (now (out .entry)) at (amountText r) (now (out .exit)) res ⌝ }
 {
-    let share = r.share;
     let amount = r.amount;
-    let a = put_signed_yuan_field(out, at, b" share ", share.0);
-    let b = put_signed_yuan_field(out, a, b" amount ", amount.0);
-    put_word(out, b, b"\n")
+    let a = put_signed_yuan_field(out, at, b" amount ", amount.0);
+    put_word(out, a, b"\n")
 }
 
 fn put_row(out: &mut [u8], at: usize, r: Row) -> usize
@@ -86,7 +97,8 @@ fn put_row(out: &mut [u8], at: usize, r: Row) -> usize
 {
     let a = put_earned(out, at, r);
     let b = put_carried(out, a, r);
-    put_amount(out, b, r)
+    let c = put_shared(out, b, r);
+    put_amount(out, c, r)
 }
 
 fn put_rows(out: &mut [u8], rows: [Row; MOST_ENTRIES], count: usize) -> usize

@@ -12,12 +12,6 @@ slice-aggregate-put-signed-yuan-field c = search needs
 put-signed-yuan-field-requires : tie.Need-put-signed-yuan-field-requires
 put-signed-yuan-field-requires c κs = search needs
 
-slice-aggregate-put-signed-yuan-field-2 : tie.Need-slice-aggregate-put-signed-yuan-field-2
-slice-aggregate-put-signed-yuan-field-2 c = search needs
-
-put-signed-yuan-field-requires-2 : tie.Need-put-signed-yuan-field-requires-2
-put-signed-yuan-field-requires-2 c κs = search needs
-
 slice-aggregate-put-word : tie.Need-slice-aggregate-put-word
 slice-aggregate-put-word c = search needs
 
@@ -30,14 +24,10 @@ same-length c = search needs
 returns : tie.Need-returns
 unfolding amountText
 returns c =
-    let p = c .before .before .before .before .before .before .before .before .before .before .before .before .before .before .before .before .before .before .before .before .args .r .share .0 in
-    let q = c .before .before .before .before .before .before .before .before .before .before .before .before .before .before .struct-told .given .0 .1 in
-    let s = c .before .before .before .before .before .before .before .before .before .before .before .before .before .put-signed-yuan-field .ensures in
-    let t = c .before .before .before .before .before .before .before .before .before .before .before .before .before .before .before .before .before .before .before .before .args .r .amount .0 in
-    let u = c .before .before .before .before .before .before .before .before .struct-told2 .given .0 .1 in
-    let v = c .before .before .before .before .before .before .before .put-signed-yuan-field2 .ensures in
-    let w = c .before .before .put-word .ensures in
-    and-then (and-then (rw (toZ-ofZ w64 p (record { sfits = q })) at s) (rw (toZ-ofZ w64 t (record { sfits = u })) at v)) w
+    let s = c .before .before .before .before .before .before .before .before .struct-told .given .0 .1 in
+    let u = c .before .before .before .before .before .before .before .before .before .before .before .before .before .args .r .amount .0 in
+    let t = c .before .before .before .before .before .before .before .put-signed-yuan-field .ensures in
+    and-then (rw (toZ-ofZ w64 u (record { sfits = s })) at t) (c .before .before .put-word .ensures)
 
 pub put-amount-spec : {M : Type 1} → statement M
 put-amount-spec =
@@ -45,8 +35,6 @@ put-amount-spec =
     (tie.spec
     slice-aggregate-put-signed-yuan-field
     put-signed-yuan-field-requires
-    slice-aggregate-put-signed-yuan-field-2
-    put-signed-yuan-field-requires-2
     slice-aggregate-put-word
     put-word-requires
     same-length

@@ -12,20 +12,10 @@ field-at-requires-2 c κs = search needs
 signed-field-at-requires : tie.Need-signed-field-at-requires
 signed-field-at-requires c κs = search needs
 
-signed-field-at-requires-2 : tie.Need-signed-field-at-requires-2
-signed-field-at-requires-2 c κs = search needs
-
 returns : tie.Need-returns
-returns c =
-    carried-reads _ _ _ _ _ _ (c .before .before .before .before .before .field-at .ensures) (c .before .before .before .before .field-at2 .ensures)
-    (c .before .before .before .signed-field-at .ensures) (c .before .before .signed-field-at2 .ensures)
+returns c = carried-reads _ _ _ _ _ (c .before .before .before .field-at .ensures) (c .before .before .field-at2 .ensures) (c .before .signed-field-at .ensures)
 
 pub carried-at-spec : {M : Type 1} → statement M
 carried-at-spec =
     tie.close
-    (tie.spec
-    field-at-requires
-    field-at-requires-2
-    signed-field-at-requires
-    signed-field-at-requires-2
-    returns)
+    (tie.spec field-at-requires field-at-requires-2 signed-field-at-requires returns)

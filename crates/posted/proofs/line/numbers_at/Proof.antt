@@ -9,6 +9,9 @@ earned-at-requires c κs = search needs
 carried-at-requires : tie.Need-carried-at-requires
 carried-at-requires c κs = search needs
 
+got-at-requires : tie.Need-got-at-requires
+got-at-requires c κs = search needs
+
 in-32-requires : tie.Need-in-32-requires
 in-32-requires c κs = search needs
 
@@ -23,8 +26,9 @@ in-16-requires-2 c κs = search needs
 
 returns : tie.Need-returns
 returns c =
-    let e = c .before .before .before .before .before .before .before .earned-at .result in
-    let k = c .before .before .before .before .before .before .carried-at .result in
+    let e = c .before .before .before .before .before .before .before .before .earned-at in
+    let k = c .before .before .before .before .before .before .before .carried-at in
+    let m = c .before .before .before .before .before .before .got-at in
     record {
       fits =
           record {
@@ -36,9 +40,11 @@ returns c =
             energy = search needs;
             weight = search needs;
             share = search needs;
+            uncollected = search needs;
+            given = search needs;
             amount = search needs;
           };
-      reads = row-reads _ _ e k _ _ _ _ (c .before .before .before .before .before .before .before .earned-at .ensures) (c .before .before .before .before .before .before .carried-at .ensures)
+      reads = row-reads _ _ (e .result) (k .result) (m .result) _ _ _ _ (e .ensures) (k .ensures) (m .ensures)
           (c .before .in-16 .ensures) (c .in-162 .ensures) (c .before .before .before .in-32 .ensures) (c .before .before .in-322 .ensures);
     }
 
@@ -48,6 +54,7 @@ numbers-at-spec =
     (tie.spec
     earned-at-requires
     carried-at-requires
+    got-at-requires
     in-32-requires
     in-32-requires-2
     in-16-requires

@@ -13,38 +13,14 @@ slice-aggregate-put-money c = search needs
 put-money-requires : tie.Need-put-money-requires
 put-money-requires c κs = search needs
 
-slice-aggregate-put-money-2 : tie.Need-slice-aggregate-put-money-2
-slice-aggregate-put-money-2 c = search needs
-
-put-money-requires-2 : tie.Need-put-money-requires-2
-put-money-requires-2 c κs = search needs
-
-slice-aggregate-put-word : tie.Need-slice-aggregate-put-word
-slice-aggregate-put-word c = search needs
-
-put-word-requires : tie.Need-put-word-requires
-put-word-requires c κs = search needs
-
 same-length : tie.Need-same-length
 same-length c = search needs
 
 returns : tie.Need-returns
 unfolding carriedText
-returns c =
-    and-then (and-then (and-then (c .before .before .before .before .before .before .before .before .before .before .before .before .before .before .before .before .before .put-load .ensures)
-    (c .before .before .before .before .before .before .before .before .before .before .before .before .put-money .ensures))
-    (c .before .before .before .before .before .before .before .put-money2 .ensures)) (c .before .before .put-word .ensures)
+returns c = and-then (c .before .before .before .before .before .before .before .put-load .ensures) (c .before .before .put-money .ensures)
 
 pub put-carried-spec : {M : Type 1} → statement M
 put-carried-spec =
     tie.close
-    (tie.spec
-    put-load-requires
-    slice-aggregate-put-money
-    put-money-requires
-    slice-aggregate-put-money-2
-    put-money-requires-2
-    slice-aggregate-put-word
-    put-word-requires
-    same-length
-    returns)
+    (tie.spec put-load-requires slice-aggregate-put-money put-money-requires same-length returns)
