@@ -21,6 +21,7 @@ use ledger::change::revise;
 use ledger::change::withdraw;
 use tally::member::score_member;
 use tally::minutes::reckon_member;
+use yearly::tell_year;
 
 enum Command {
     Check,
@@ -35,6 +36,7 @@ enum Command {
     Reckon,
     Ramp,
     Month,
+    Year,
     Explain,
     Help,
     Version,
@@ -101,6 +103,9 @@ fn rows(usage: bool, word: &[u8]) -> Command {
     if row(usage, word, month, 7, MANY) {
         return Command::Month;
     }
+    if row(usage, word, b"year STATEMENT..", 3, MANY) {
+        return Command::Year;
+    }
     let why = b"explain MEMBER REGISTER SERIES-FOLDER BOOK..";
     if row(usage, word, why, 6, MANY) {
         return Command::Explain;
@@ -153,6 +158,7 @@ fn run(word: &[u8]) {
         Command::Reckon => reckon_member(),
         Command::Ramp => ramping::ramp_member(),
         Command::Month => settle::settle_month(),
+        Command::Year => tell_year(),
         Command::Explain => why::explain_member(),
         Command::Help => help_with(),
         Command::Version => tell_version(),

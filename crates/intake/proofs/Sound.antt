@@ -16,14 +16,13 @@ use Rattle.book.specs.declared.Header.{Header}
 use Rattle.book.specs.Book.{version, mostRecords, mostArea, firstYear, lastYear}
 use Rattle.book.specs.Check.{headerIsSound}
 use Rattle.share.specs.Sharing.{mostNumber, mostStatus, mostEnergy, mostCompensation, mostAssessment, mostPart}
-use Rattle.hours.specs.Hours.{mostHours}
 use Rattle.month.specs.declared.Row.{Row}
 use Rattle.month.specs.declared.Statement.{Statement}
 use Rattle.register.specs.Register.{mostEntries}
 use Rattle.year.specs.declared.YearLine.{YearLine}
-use Rattle.year.specs.Year.{isWithin, dateIsSound, yearLineIsSound, linesAreSound, linesIn, addsToZero, statementIsSound}
+use Rattle.year.specs.Year.{mostEitherWay, isWithin, dateIsSound, yearLineIsSound, linesAreSound, linesIn, addsToZero, statementIsSound}
 use Rattle.year.proofs.Statements.{by-lines}
-use Rattle.intake.specs.Limits.{headIsWithin, mostWeight, rowIsWithin, gapIsWithin, firstBeyond, lineBeyond, statementIsWithin}
+use Rattle.intake.specs.Limits.{headIsWithin, mostHours, mostWeight, rowIsWithin, gapIsWithin, firstBeyond, lineBeyond, statementIsWithin}
 use Rattle.intake.specs.Intake.{yearLine, yearLines, monthStatement}
 use Rattle.intake.proofs.Walks.{at-head, at-row, at-gap, at-user, row-step, row-stop}
 
@@ -33,7 +32,8 @@ use Rattle.intake.proofs.Walks.{at-head, at-row, at-gap, at-user, row-s
 abbrev pub rowTests : Row → List Bool
 rowTests r =
     leb (r .number) mostNumber ∷ leb 0 mostStatus ∷ leb (r .energy .0) mostEnergy ∷ leb (r .compensation .0) mostCompensation ∷ leb (r .assessment .0) mostAssessment
-    ∷ leb (r .hours) mostHours ∷ leb (grainsToFen (r .grains .0)) mostCompensation ∷ leb (r .weight) mostWeight ∷ isWithin (r .share .0) ∷ isWithin (r .amount .0) ∷ []
+    ∷ leb (r .hours) mostHours ∷ leb (grainsToFen (r .grains .0)) mostCompensation ∷ leb (r .weight) mostWeight ∷ isWithin (r .share .0)
+    ∷ leb (r .uncollected .0) mostEitherWay ∷ leb (r .given .0) mostEitherWay ∷ isWithin (r .amount .0) ∷ []
 
 abbrev lineTests : YearLine → List Bool
 lineTests l =
@@ -45,7 +45,7 @@ row-sound before r h =
     let e = each (ltb before (r .number)) (rowTests r) h .1 in
     let first = each (ltb before (r .number)) (rowTests r) h .0 in
     all (ltb before (r .number)) (lineTests (yearLine r))
-    (first, (e .0, (e .1 .1 .1 .0, (e .1 .1 .1 .1 .0, (e .1 .1 .1 .1 .1 .1 .1 .1 .0, (e .1 .1 .1 .1 .1 .1 .1 .1 .1 .0, tt))))))
+    (first, (e .0, (e .1 .1 .1 .0, (e .1 .1 .1 .1 .0, (e .1 .1 .1 .1 .1 .1 .1 .1 .0, (e .1 .1 .1 .1 .1 .1 .1 .1 .1 .1 .1 .0, tt))))))
 
 -- no more rows are beyond than there are
 beyond-le : (before : ℕ) (rs : List Row) → firstBeyond before rs ≤ length rs
@@ -67,7 +67,7 @@ rows-sound before (r ∷ rs) h = go (rowIsWithin before r) refl (rows-sound (r .
     go true e rec = rw (row-sound before r e, rec (omega (arith, h, row-step before r rs e)))
     go false e rec = absurd (omega (arith, h, row-stop before r rs e))
 
-take-mapped : {A B : Type 0} (f : A → B) (n : ℕ) (xs : List A) → take n (map f xs) ≡ map f (take n xs)
+pub take-mapped : {A B : Type 0} (f : A → B) (n : ℕ) (xs : List A) → take n (map f xs) ≡ map f (take n xs)
 take-mapped f zero xs = refl
 take-mapped f (suc n) [] = refl
 take-mapped {B = B} f (suc n) (x ∷ xs) = ap (λ (ys : List B). f x ∷ ys) (take-mapped f n xs)

@@ -10,26 +10,29 @@ use Rattle.book.specs.declared.Header.{Header}
 use Rattle.book.specs.Book.{version, mostRecords}
 use Rattle.book.specs.Check.{headerIsSound}
 use Rattle.share.specs.Sharing.{mostEnergy, mostCompensation, mostPart, numbersAreSound}
-use Rattle.hours.specs.Hours.{mostHours}
 use Rattle.month.specs.declared.Row.{Row}
 use Rattle.month.specs.declared.Statement.{Statement}
-use Rattle.year.specs.Year.{isWithin}
+use Rattle.year.specs.Year.{mostEitherWay, isWithin}
 
 -- the first line: area 1 to 99, year and month in their ranges, no more calls than a book has, a part of at most 10,000
 unfoldable pub headIsWithin : Header → ℕ → ℕ → Bool
 headIsWithin h calls part = headerIsSound h && leb calls (mostRecords version) && leb part mostPart
+
+-- the hours of 31 days: no month has more
+abbrev pub mostHours : ℕ
+mostHours = 744
 
 -- the largest factor of a weight is 12
 abbrev pub mostWeight : ℕ
 mostWeight = 12 * mostEnergy
 
 -- a member's line after the number `before`: number, energy, compensation and assessment as a sharing line has them, whose status is not told; no more hours than a
--- month has; grains whose fen is within a compensation's limit; a weight; a share and an amount of at most 2 × 10^11 fen either way
+-- month has; grains whose fen is within a compensation's limit; a weight; a share, what is not collected, what is given up and an amount of at most 2 × 10^11 fen either way
 unfoldable pub rowIsWithin : ℕ → Row → Bool
 rowIsWithin before r =
     numbersAreSound before (r .number) 0 (r .energy .0) (r .compensation .0) (r .assessment .0)
     && leb (r .hours) mostHours && leb (grainsToFen (r .grains .0)) mostCompensation && leb (r .weight) mostWeight
-    && isWithin (r .share .0) && isWithin (r .amount .0)
+    && isWithin (r .share .0) && leb (r .uncollected .0) mostEitherWay && leb (r .given .0) mostEitherWay && isWithin (r .amount .0)
 
 -- R is at most 10^11 fen either way, as the sum of all compensations is
 unfoldable pub gapIsWithin : ℤ → Bool

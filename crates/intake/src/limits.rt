@@ -2,7 +2,6 @@
 use book::Header;
 use book::VERSION;
 use book::most_records;
-use hours::MOST_HOURS;
 use month::Row;
 use month::Statement;
 use register::MOST_ENTRIES;
@@ -18,8 +17,14 @@ ghost use lib.ListN.{take};
 ghost use Rattle.register.specs.Register.{mostEntries};
 ghost use Rattle.intake.specs.Limits.{headIsWithin, rowIsWithin, gapIsWithin, firstBeyond, lineBeyond, statementIsWithin};
 
+// The hours of 31 days: no month has more.
+const MOST_HOURS: u16 = 744;
+
 // A weight is at most so much: 5,000,000 MWh by the factor 12.
 const MOST_WEIGHT: u64 = 60_000_000;
+
+// What is not collected and what is given up are at most so many fen, as a share and an amount either way.
+const MOST_EITHER_WAY: u64 = 200_000_000_000;
 
 fn head_is_within(h: Header, calls: usize, part: u32) -> bool
     ensures { λ r. ⌜ r ≡ headIsWithin h calls part ⌝ }
@@ -31,6 +36,8 @@ fn head_is_within(h: Header, calls: usize, part: u32) -> bool
 fn row_is_within(before: u16, r: Row) -> bool
     ensures { λ is. ⌜ is ≡ rowIsWithin before r ⌝ }
 {
+    let uncollected = r.uncollected;
+    let given = r.given;
     let grains = r.grains;
     let fen = grains.to_fen();
     let energy = r.energy;
@@ -45,10 +52,12 @@ fn row_is_within(before: u16, r: Row) -> bool
         assessment.0 as u64,
     );
     is_line
-        & (r.hours <= MOST_HOURS as u16)
+        & (r.hours <= MOST_HOURS)
         & (fen.0 <= MOST_COMPENSATION)
         & (r.weight <= MOST_WEIGHT)
         & is_within(r.share)
+        & (uncollected.0 <= MOST_EITHER_WAY)
+        & (given.0 <= MOST_EITHER_WAY)
         & is_within(r.amount)
 }
 

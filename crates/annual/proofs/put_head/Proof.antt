@@ -33,7 +33,10 @@ same-length c = search needs
 
 returns : tie.Need-returns
 unfolding headText
-returns c = and-then (and-then (and-then (c .before .before .before .before .before .before .before .before .before .before .before .before .before .before .before .before .before .put-field .ensures) (c .before .before .before .before .before .before .before .before .before .before .before .before .put-field2 .ensures)) (c .before .before .before .before .before .before .before .put-field3 .ensures)) (c .before .before .put-word .ensures)
+returns c =
+    and-then (and-then (and-then (c .before .before .before .before .before .before .before .before .before .before .before .before .before .before .before .before .before .put-field .ensures)
+    (c .before .before .before .before .before .before .before .before .before .before .before .before .put-field2 .ensures))
+    (c .before .before .before .before .before .before .before .put-field3 .ensures)) (c .before .before .put-word .ensures)
 
 pub put-head-spec : {M : Type 1} → statement M
 put-head-spec =

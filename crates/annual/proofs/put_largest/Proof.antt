@@ -33,9 +33,10 @@ same-length c = search needs
 returns : tie.Need-returns
 unfolding largestText
 returns c =
-    let z = c .before .before .before .before .before .before .before .before .before .before .before .before .before .before .before .before .before .before .before .before .before .before .args .g .amount .0 in
-    let f = c .before .before .before .before .before .before .before .before .before .before .before .before .before .before .before .before .before .struct-told .given .0 .1 in
-    let p = c .before .before .before .before .before .before .before .before .before .before .before .before .before .before .before .before .put-signed-yuan-field .ensures in
+    let d = c .before .before .before .before .before .before .before .before .before .before .before .before .before .before .before .before in
+    let z = d .before .before .before .before .before .before .args .g .amount .0 in
+    let f = d .before .struct-told .given .0 .1 in
+    let p = d .put-signed-yuan-field .ensures in
     let q = c .before .before .before .before .before .before .before .before .before .before .before .put-word .ensures in
     let r = c .before .before .before .before .before .before .before .put-month .ensures in
     and-then (and-then (and-then (rw (toZ-ofZ w64 z (record { sfits = f })) at p) q) r) (c .before .before .put-word2 .ensures)

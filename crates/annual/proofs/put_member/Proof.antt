@@ -21,7 +21,10 @@ same-length c = search needs
 
 returns : tie.Need-returns
 unfolding memberText
-returns c = and-then (and-then (and-then (c .before .before .before .before .before .before .before .before .before .before .before .before .before .before .put-who .ensures) (c .before .before .before .before .before .before .before .before .before .before .put-earned .ensures)) (c .before .before .before .before .before .before .put-got .ensures)) (c .before .before .put-largest .ensures)
+returns c =
+    and-then (and-then (and-then (c .before .before .before .before .before .before .before .before .before .before .before .before .before .before .put-who .ensures)
+    (c .before .before .before .before .before .before .before .before .before .before .put-earned .ensures)) (c .before .before .before .before .before .before .put-got .ensures))
+    (c .before .before .put-largest .ensures)
 
 pub put-member-spec : {M : Type 1} → statement M
 put-member-spec =

@@ -36,7 +36,8 @@ same-length c = search needs
 returns-2 : tie.Need-returns-2
 returns-2 c =
     let a = c .before .before .before .before .before .before .before .before .before .args in
-    one-month (a .i) (a .is) (not-false _ (c .before .before .before .before .before .before .before .if1 .left)) (c .before .before .before .before .before .before .short-months .result) (c .before .before .before .before .before .before .short-months .ensures) ((4 * a .i + 4) - 4 * a .i) (omega arith) (c .before .before .put-word .ensures)
+    one-month (a .i) (a .is) (not-false _ (c .before .before .before .before .before .before .before .if1 .left)) (c .before .before .before .before .before .before .short-months .result)
+    (c .before .before .before .before .before .before .short-months .ensures) ((4 * a .i + 4) - 4 * a .i) (omega arith) (c .before .before .put-word .ensures)
 
 pub put-present-spec : {M : Type 1} → statement M
 put-present-spec =

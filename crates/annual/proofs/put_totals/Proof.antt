@@ -37,8 +37,9 @@ same-length c = search needs
 returns : tie.Need-returns
 unfolding totalsText
 returns c =
-    let p = c .before .before .before .before .before .before .before .before .before .before .before .before .before .before .before .before .before .before .before .before .before .put-yuan-field .ensures in
-    let q = c .before .before .before .before .before .before .before .before .before .before .before .before .before .before .before .before .put-yuan-field2 .ensures in
+    let d = c .before .before .before .before .before .before .before .before .before .before .before .before .before .before .before .before in
+    let p = d .before .before .before .before .before .put-yuan-field .ensures in
+    let q = d .put-yuan-field2 .ensures in
     let r = c .before .before .before .before .before .before .before .before .before .before .before .put-word .ensures in
     let s = c .before .before .before .before .before .before .before .put-balance .ensures in
     and-then (and-then (and-then (and-then p q) r) s) (c .before .before .put-word2 .ensures)

@@ -24,7 +24,9 @@ same-length c = search needs
 
 returns : tie.Need-returns
 unfolding whoText
-returns c = and-then (and-then (c .before .before .before .before .before .before .before .before .before .before .before .put-field .ensures) (c .before .before .before .before .before .before .put-word .ensures)) (c .before .before .put-months .ensures)
+returns c =
+    and-then (and-then (c .before .before .before .before .before .before .before .before .before .before .before .put-field .ensures)
+    (c .before .before .before .before .before .before .put-word .ensures)) (c .before .before .put-months .ensures)
 
 pub put-who-spec : {M : Type 1} → statement M
 put-who-spec =

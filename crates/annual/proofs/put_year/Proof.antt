@@ -35,7 +35,9 @@ returns c =
     let p = c .before .before .before .before .before .before .before .before .before .before .before .before .before .before .put-head .ensures in
     let q = c .before .before .before .before .before .before .before .before .before .before .put-members .ensures in
     let r = c .before .before .before .before .before .before .put-user .ensures in
-    let s = c .before .before .before .before .before .before .before .before .before .before .before .before .before .before .before .before .with-user .ensures ∙ ap (λ (t : Totals). withUser t (y .users .0)) (c .before .before .before .before .before .before .before .before .before .before .before .before .before .before .before .before .before .year-totals .ensures) in
+    let s = c .before .before .before .before .before .before .before .before .before .before .before .before .before .before .before .before .with-user .ensures ∙ ap (λ
+    (t : Totals). withUser t (y .users .0))
+    (c .before .before .before .before .before .before .before .before .before .before .before .before .before .before .before .before .before .year-totals .ensures) in
     and-then (and-then (and-then p q) r) (same-put (ap totalsText s) (c .before .before .put-totals .ensures))
 
 pub put-year-spec : {M : Type 1} → statement M

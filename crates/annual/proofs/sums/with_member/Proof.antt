@@ -34,7 +34,8 @@ unfolding withMember
 returns c =
     let a = c .before .before .before .before .before .before .before .before .before .before .before .before .before .args in
     let z = a .m .sums .amount .0 in
-    let p = c .before .before .before .before .before .before .plus2 .ensures ∙ ap (λ (n : ℕ). fenPlus (a .t .assessment) n) (c .before .before .before .before .before .before .before .before .to-fen .ensures) in
+    let p = c .before .before .before .before .before .before .plus2 .ensures ∙ ap (λ (n : ℕ). fenPlus (a .t .assessment) n)
+    (c .before .before .before .before .before .before .before .before .to-fen .ensures) in
     let f = c .before .before .before .before .before .struct-told .given .0 .1 in
     let d = c .before .before .before .before .due-of .ensures in
     let q = c .before .before .before .plus3 .ensures ∙ ap (λ (n : ℕ). fenPlus (a .t .due) n) (rw (toZ-ofZ w64 z (record { sfits = f })) at d) in

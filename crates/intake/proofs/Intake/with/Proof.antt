@@ -21,7 +21,8 @@ returns c =
     record {
       posted = p .result;
       read = p .ensures;
-      is = goes-on-so (c .before .before .before .before .before .before .args .self) (p .result) _ (c .before .before .as-statement .result) _ (c .before .before .before .area-after .ensures) (c .before .before .as-statement .ensures) (c .with .ensures .1);
+      is = goes-on-so (c .before .before .before .before .before .before .args .self) (p .result) _ (c .before .before .as-statement .result) _ (c .before .before .before .area-after .ensures)
+          (c .before .before .as-statement .ensures) (c .with .ensures .1);
     }
 
 pub with-spec : {M : Type 1} → statement M

@@ -31,8 +31,7 @@ returns : tie.Need-returns Inv-loop μ-loop
 returns c =
     let l = c .before .before .before .before .loop in
     let a = c .before .before .before .before .before .args in
-    let long : length (a .t1) ≡ 64 = search needs in
-    (
+    let long : length (a .t1) ≡ 64 = search needs in (
       beyond-off (a .t1) (a .count) (omega arith) (l .i) (omega arith) _ (l .before) (sym (c .before .row-is-within .ensures) ∙ not-true _ (c .if1 .taken)) (l .inv .1),
       omega arith,
     )
@@ -47,8 +46,7 @@ loop-again : tie.Need-loop-again Inv-loop μ-loop
 loop-again c =
     let l = c .before .before .before .before .loop in
     let a = c .before .before .before .before .before .args in
-    let long : length (a .t1) ≡ 64 = search needs in
-    (
+    let long : length (a .t1) ≡ 64 = search needs in (
       omega arith,
       beyond-on (a .t1) (a .count) (omega arith) (l .i) (omega arith) _ (l .before) (sym (c .before .row-is-within .ensures) ∙ not-false _ (c .if1 .left)) (l .inv .1),
     )

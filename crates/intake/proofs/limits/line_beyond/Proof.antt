@@ -35,7 +35,8 @@ returns-3 : tie.Need-returns-3
 returns-3 c =
     let b = c .before .before .before .before .first-beyond .ensures .0 in
     let head = sym (c .before .before .before .before .before .before .before .head-is-within .ensures) ∙ not-false _ (c .before .before .before .before .before .before .if1 .left) in
-    at-gap (c .before .before .before .before .before .before .before .before .before .args .s) head (omega (arith, b, c .before .before .before .if2 .left)) (sym (c .before .gap-is-within .ensures) ∙ not-true _ (c .if3 .taken))
+    at-gap (c .before .before .before .before .before .before .before .before .before .args .s) head (omega (arith, b, c .before .before .before .if2 .left)) (sym
+    (c .before .gap-is-within .ensures) ∙ not-true _ (c .if3 .taken))
 
 is-within-requires : tie.Need-is-within-requires
 is-within-requires c κs = search needs
@@ -46,9 +47,11 @@ add-result-3 c = search needs
 returns-4 : tie.Need-returns-4
 returns-4 c =
     let b = c .before .before .before .before .before .before .before .first-beyond .ensures .0 in
-    let head = sym (c .before .before .before .before .before .before .before .before .before .before .head-is-within .ensures) ∙ not-false _ (c .before .before .before .before .before .before .before .before .before .if1 .left) in
+    let head = sym (c .before .before .before .before .before .before .before .before .before .before .head-is-within .ensures) ∙ not-false _
+    (c .before .before .before .before .before .before .before .before .before .if1 .left) in
     let gap = sym (c .before .before .before .before .gap-is-within .ensures) ∙ not-false _ (c .before .before .before .if3 .left) in
-    at-user (c .before .before .before .before .before .before .before .before .before .before .before .before .args .s) head (omega (arith, b, c .before .before .before .before .before .before .if2 .left)) gap (sym (c .before .is-within .ensures) ∙ not-true _ (c .if4 .taken))
+    at-user (c .before .before .before .before .before .before .before .before .before .before .before .before .args .s) head
+    (omega (arith, b, c .before .before .before .before .before .before .if2 .left)) gap (sym (c .before .is-within .ensures) ∙ not-true _ (c .if4 .taken))
 
 add-result-4 : tie.Need-add-result-4
 add-result-4 c = search needs
@@ -56,9 +59,11 @@ add-result-4 c = search needs
 returns-5 : tie.Need-returns-5
 returns-5 c =
     let b = c .before .before .before .before .before .before .before .first-beyond .ensures .0 in
-    let head = sym (c .before .before .before .before .before .before .before .before .before .before .head-is-within .ensures) ∙ not-false _ (c .before .before .before .before .before .before .before .before .before .if1 .left) in
+    let head = sym (c .before .before .before .before .before .before .before .before .before .before .head-is-within .ensures) ∙ not-false _
+    (c .before .before .before .before .before .before .before .before .before .if1 .left) in
     let gap = sym (c .before .before .before .before .gap-is-within .ensures) ∙ not-false _ (c .before .before .before .if3 .left) in
-    at-none (c .before .before .before .before .before .before .before .before .before .before .before .before .args .s) head (omega (arith, b, c .before .before .before .before .before .before .if2 .left)) gap (sym (c .before .is-within .ensures) ∙ not-false _ (c .if4 .left))
+    at-none (c .before .before .before .before .before .before .before .before .before .before .before .before .args .s) head
+    (omega (arith, b, c .before .before .before .before .before .before .if2 .left)) gap (sym (c .before .is-within .ensures) ∙ not-false _ (c .if4 .left))
 
 pub line-beyond-spec : {M : Type 1} → statement M
 line-beyond-spec =

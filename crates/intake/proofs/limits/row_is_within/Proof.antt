@@ -18,9 +18,6 @@ cast-numbers-are-sound-3 c = search needs
 numbers-are-sound-requires : tie.Need-numbers-are-sound-requires
 numbers-are-sound-requires c κs = search needs
 
-cast-result : tie.Need-cast-result
-cast-result c = search needs
-
 is-within-requires : tie.Need-is-within-requires
 is-within-requires c κs = search needs
 
@@ -29,7 +26,9 @@ is-within-requires-2 c κs = search needs
 
 returns : tie.Need-returns
 unfolding rowIsWithin
-returns c = rw (c .before .before .before .before .before .numbers-are-sound .ensures, c .before .before .before .before .before .before .before .before .before .before .before .before .to-fen .ensures, c .before .is-within .ensures, c .is-within2 .ensures)
+returns c =
+    let n = c .before .before .before .before .before .before .before in
+    rw (n .numbers-are-sound .ensures, n .before .before .before .before .before .before .before .to-fen .ensures, c .before .before .before .is-within .ensures, c .is-within2 .ensures)
 
 pub row-is-within-spec : {M : Type 1} → statement M
 row-is-within-spec =
@@ -40,7 +39,6 @@ row-is-within-spec =
     cast-numbers-are-sound-2
     cast-numbers-are-sound-3
     numbers-are-sound-requires
-    cast-result
     is-within-requires
     is-within-requires-2
     returns)

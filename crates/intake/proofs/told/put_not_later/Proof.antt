@@ -22,7 +22,9 @@ same-length c = search needs
 
 returns : tie.Need-returns
 unfolding notLaterText
-returns c = looser _ (omega arith) (and-then (and-then (c .before .before .before .before .before .before .before .before .before .before .before .put-month .ensures) (c .before .before .before .before .before .before .put-word .ensures)) (c .before .before .put-month2 .ensures))
+returns c =
+    looser _ (omega arith) (and-then (and-then (c .before .before .before .before .before .before .before .before .before .before .before .put-month .ensures)
+    (c .before .before .before .before .before .before .put-word .ensures)) (c .before .before .put-month2 .ensures))
 
 pub put-not-later-spec : {M : Type 1} → statement M
 put-not-later-spec =

@@ -22,7 +22,9 @@ same-length c = search needs
 
 returns : tie.Need-returns
 unfolding otherText
-returns c = looser _ (omega arith) (and-then (and-then (c .before .before .before .before .before .before .before .before .before .before .before .put-field .ensures) (c .before .before .before .before .before .before .put-word .ensures)) (c .before .before .put-field2 .ensures))
+returns c =
+    looser _ (omega arith) (and-then (and-then (c .before .before .before .before .before .before .before .before .before .before .before .put-field .ensures)
+    (c .before .before .before .before .before .before .put-word .ensures)) (c .before .before .put-field2 .ensures))
 
 pub put-other-spec : {M : Type 1} → statement M
 put-other-spec =

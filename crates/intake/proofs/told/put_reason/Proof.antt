@@ -79,7 +79,8 @@ returns-2 : tie.Need-returns-2
 unfolding reasonText
 returns-2 c =
     let a = c .before .before .before .before .before .before .before .before .before .args in
-    same-put (sym (ap (reasonText (a .area) (a .year) (a .month)) (c .before .before .before .before .before .before .reason .given .1))) (looser mostReason (omega arith) (c .before .before .put-line .ensures))
+    same-put (sym (ap (reasonText (a .area) (a .year) (a .month)) (c .before .before .before .before .before .before .reason .given .1))) (looser mostReason (omega arith)
+    (c .before .before .put-line .ensures))
 
 same-length-2 : tie.Need-same-length-2
 same-length-2 c = search needs
@@ -88,7 +89,8 @@ returns-3 : tie.Need-returns-3
 unfolding reasonText
 returns-3 c =
     let a = c .before .before .before .before .before .before .before .before .before .args in
-    same-put (sym (ap (reasonText (a .area) (a .year) (a .month)) (c .before .before .before .before .before .before .reason2 .given .1))) (looser mostReason (omega arith) (c .before .before .put-line2 .ensures))
+    same-put (sym (ap (reasonText (a .area) (a .year) (a .month)) (c .before .before .before .before .before .before .reason2 .given .1))) (looser mostReason (omega arith)
+    (c .before .before .put-line2 .ensures))
 
 same-length-3 : tie.Need-same-length-3
 same-length-3 c = search needs
@@ -97,7 +99,8 @@ returns-4 : tie.Need-returns-4
 unfolding reasonText
 returns-4 c =
     let a = c .before .before .before .before .before .before .before .before .before .args in
-    same-put (sym (ap (reasonText (a .area) (a .year) (a .month)) (c .before .before .before .before .before .before .reason3 .given .1))) (looser mostReason (omega arith) (c .before .before .put-other .ensures))
+    same-put (sym (ap (reasonText (a .area) (a .year) (a .month)) (c .before .before .before .before .before .before .reason3 .given .1))) (looser mostReason (omega arith)
+    (c .before .before .put-other .ensures))
 
 same-length-4 : tie.Need-same-length-4
 same-length-4 c = search needs
@@ -106,7 +109,8 @@ returns-5 : tie.Need-returns-5
 unfolding reasonText
 returns-5 c =
     let a = c .before .before .before .before .before .before .before .before .before .args in
-    same-put (sym (ap (reasonText (a .area) (a .year) (a .month)) (c .before .before .before .before .before .before .reason4 .given .1))) (looser mostReason (omega arith) (c .before .before .put-other2 .ensures))
+    same-put (sym (ap (reasonText (a .area) (a .year) (a .month)) (c .before .before .before .before .before .before .reason4 .given .1))) (looser mostReason (omega arith)
+    (c .before .before .put-other2 .ensures))
 
 same-length-5 : tie.Need-same-length-5
 same-length-5 c = search needs
@@ -115,7 +119,8 @@ returns-6 : tie.Need-returns-6
 unfolding reasonText
 returns-6 c =
     let a = c .before .before .before .before .before .before .before .before .args in
-    same-put (sym (ap (reasonText (a .area) (a .year) (a .month)) (c .before .before .before .before .before .reason5 .given .1))) (looser mostReason (omega arith) (c .before .before .put-not-later .ensures))
+    same-put (sym (ap (reasonText (a .area) (a .year) (a .month)) (c .before .before .before .before .before .reason5 .given .1))) (looser mostReason (omega arith)
+    (c .before .before .put-not-later .ensures))
 
 same-length-6 : tie.Need-same-length-6
 same-length-6 c = search needs
@@ -124,7 +129,8 @@ returns-7 : tie.Need-returns-7
 unfolding reasonText
 returns-7 c =
     let a = c .before .before .before .before .before .before .before .before .args in
-    same-put (sym (ap (reasonText (a .area) (a .year) (a .month)) (c .before .before .before .before .before .enum-told2 .given .1))) (looser mostReason (omega arith) (c .before .before .put-word .ensures))
+    same-put (sym (ap (reasonText (a .area) (a .year) (a .month)) (c .before .before .before .before .before .enum-told2 .given .1))) (looser mostReason (omega arith)
+    (c .before .before .put-word .ensures))
 
 pub put-reason-spec : {M : Type 1} → statement M
 put-reason-spec =
