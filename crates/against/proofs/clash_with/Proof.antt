@@ -43,7 +43,8 @@ loop-again : tie.Need-loop-again Inv-loop μ-loop
 loop-again c =
     let l = c .before .before .before .before .loop in
     let a = c .before .before .before .before .before .before .before .args in
-    (omega arith, l .inv .1, not-this (recordAt (a .b .now)) (a .i) (l .j) _ (l .inv .2) (as-clash _ _ _ _ _ (c .before .clashes .ensures) (l .inv .1) (c .before .before .record-at2 .ensures)) (c .if1 .left))
+    let e = as-clash _ _ _ _ _ (c .before .clashes .ensures) (l .inv .1) (c .before .before .record-at2 .ensures) in
+    (omega arith, l .inv .1, not-this (recordAt (a .b .now)) (a .i) (l .j) _ (l .inv .2) e (c .if1 .left))
 
 returns-2 : tie.Need-returns-2 Inv-loop μ-loop
 returns-2 c =

@@ -30,7 +30,11 @@ same-length c = search needs
 
 returns : tie.Need-returns
 unfolding askedText
-returns c = and-then (and-then (and-then (c .before .before .before .before .before .before .before .before .before .before .before .before .before .before .before .put-field .ensures) (c .before .before .before .before .before .before .before .before .before .before .put-word .ensures)) (c .before .before .before .before .before .before .put-service .ensures)) (c .before .before .put-with .ensures)
+returns c =
+    let p = c .before .before .before .before .before .before .before .before .before .before .before .before .before .before .before .put-field .ensures in
+    let q = c .before .before .before .before .before .before .before .before .before .before .put-word .ensures in
+    let r = c .before .before .before .before .before .before .put-service .ensures in
+    and-then (and-then (and-then p q) r) (c .before .before .put-with .ensures)
 
 pub put-asked-spec : {M : Type 1} → statement M
 put-asked-spec =

@@ -37,7 +37,11 @@ same-length-2 : tie.Need-same-length-2
 same-length-2 c = search needs
 
 returns-2 : tie.Need-returns-2
-returns-2 c = same-put (a-second _ _ (c .before .before .before .before .before .before .before .before .before .before .before .before .before .before .before .if1 .left)) (looser mostOverlap (omega arith) (and-then (and-then (c .before .before .before .before .before .before .before .before .before .before .before .before .before .put-second .ensures) (c .before .before .before .before .before .before .before .put-field .ensures)) (c .before .before .put-word .ensures)))
+returns-2 c =
+    let p = c .before .before .before .before .before .before .before .before .before .before .before .before .before .before .before .if1 .left in
+    let q = c .before .before .before .before .before .before .before .before .before .before .before .before .before .put-second .ensures in
+    let r = c .before .before .before .before .before .before .before .put-field .ensures in
+    same-put (a-second _ _ p) (looser mostOverlap (omega arith) (and-then (and-then q r) (c .before .before .put-word .ensures)))
 
 pub put-clash-spec : {M : Type 1} → statement M
 put-clash-spec =

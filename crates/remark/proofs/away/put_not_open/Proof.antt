@@ -21,7 +21,10 @@ same-length c = search needs
 
 returns : tie.Need-returns
 unfolding notOpenText
-returns c = and-then (and-then (c .before .before .before .before .before .before .before .before .before .before .before .put-asked .ensures) (c .before .before .before .before .before .before .before .put-closed .ensures)) (c .before .before .put-word .ensures)
+returns c =
+    let p = c .before .before .before .before .before .before .before .before .before .before .before .put-asked .ensures in
+    let q = c .before .before .before .before .before .before .before .put-closed .ensures in
+    and-then (and-then p q) (c .before .before .put-word .ensures)
 
 pub put-not-open-spec : {M : Type 1} → statement M
 put-not-open-spec =

@@ -36,7 +36,11 @@ same-length c = search needs
 
 returns : tie.Need-returns
 unfolding overlapText
-returns c = and-then (and-then (and-then (c .before .before .before .before .before .before .before .before .before .before .before .before .before .before .before .before .before .put-field .ensures) (c .before .before .before .before .before .before .before .before .before .before .before .put-field2 .ensures)) (c .before .before .before .before .before .before .before .put-runs .ensures)) (c .before .before .put-word .ensures)
+returns c =
+    let p = c .before .before .before .before .before .before .before .before .before .before .before .before .before .before .before .before .before .put-field .ensures in
+    let q = c .before .before .before .before .before .before .before .before .before .before .before .put-field2 .ensures in
+    let r = c .before .before .before .before .before .before .before .put-runs .ensures in
+    and-then (and-then (and-then p q) r) (c .before .before .put-word .ensures)
 
 pub put-overlap-spec : {M : Type 1} → statement M
 put-overlap-spec =

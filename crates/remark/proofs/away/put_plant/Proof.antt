@@ -27,7 +27,10 @@ same-length c = search needs
 
 returns : tie.Need-returns
 unfolding plantText
-returns c = and-then (and-then (c .before .before .before .before .before .before .before .before .before .before .before .before .before .put-kind .ensures) (c .before .before .before .before .before .before .before .put-field .ensures)) (c .before .before .put-word .ensures)
+returns c =
+    let p = c .before .before .before .before .before .before .before .before .before .before .before .before .before .put-kind .ensures in
+    let q = c .before .before .before .before .before .before .before .put-field .ensures in
+    and-then (and-then p q) (c .before .before .put-word .ensures)
 
 pub put-plant-spec : {M : Type 1} → statement M
 put-plant-spec =

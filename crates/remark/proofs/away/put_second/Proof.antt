@@ -27,7 +27,10 @@ same-length c = search needs
 
 returns : tie.Need-returns
 unfolding secondText
-returns c = and-then (and-then (c .before .before .before .before .before .before .before .before .before .before .before .put-field .ensures) (c .before .before .before .before .before .before .put-word .ensures)) (c .before .before .put-service .ensures)
+returns c =
+    let p = c .before .before .before .before .before .before .before .before .before .before .before .put-field .ensures in
+    let q = c .before .before .before .before .before .before .put-word .ensures in
+    and-then (and-then p q) (c .before .before .put-service .ensures)
 
 pub put-second-spec : {M : Type 1} → statement M
 put-second-spec =

@@ -54,8 +54,11 @@ same-length-2 c = search needs
 
 returns-3 : tie.Need-returns-3
 returns-3 c =
-    let p = rw (toZ-ofZ w32 _ (a-fits-2 (c .before .before .before .before .before .before .before .before .before))) at (c .before .before .before .before .before .before .before .before .put-signed-field322 .ensures) in
-    same-put (with-both _ (c .before .before .before .before .before .before .before .before .before .before .before .before .before .before .if1 .left) (c .before .before .before .before .before .before .before .before .before .before .before .before .if2 .left)) (and-then p (c .before .before .put-field .ensures))
+    let dp = c .before .before .before .before .before .before .before .before in
+    let p = rw (toZ-ofZ w32 _ (a-fits-2 (dp .before))) at (dp .put-signed-field322 .ensures) in
+    let q = c .before .before .before .before .before .before .before .before .before .before .before .before .before .before .if1 .left in
+    let r = c .before .before .before .before .before .before .before .before .before .before .before .before .if2 .left in
+    same-put (with-both _ q r) (and-then p (c .before .before .put-field .ensures))
 
 pub put-with-spec : {M : Type 1} → statement M
 put-with-spec =

@@ -35,9 +35,12 @@ high-fits c = search needs
 
 returns : tie.Need-returns
 returns c =
-    let low = rw (toZ-ofZ w32 _ (low-fits (c .before .before .before .before .before .before .before .before .before))) at (c .before .before .before .before .before .before .before .before .put-signed-field32 .ensures) in
+    let dlow = c .before .before .before .before .before .before .before .before in
+    let low = rw (toZ-ofZ w32 _ (low-fits (dlow .before))) at (dlow .put-signed-field32 .ensures) in
     let high = rw (toZ-ofZ w32 _ (high-fits (c .before .before .before))) at (c .before .before .put-signed-field322 .ensures) in
-    same-put (a-beyond _ _ (rw (toZ-ofZ w32 _ (test-fits (c .before .before .before .before .before .before .before .before .before .before .before .before .before))) at (c .before .before .before .before .before .before .before .before .before .before .before .before .if1 .taken))) (looser mostWhy (omega arith) (and-then low high))
+    let p = c .before .before .before .before .before .before .before .before .before .before .before .before .before in
+    let q = c .before .before .before .before .before .before .before .before .before .before .before .before .if1 .taken in
+    same-put (a-beyond _ _ (rw (toZ-ofZ w32 _ (test-fits p)) at q)) (looser mostWhy (omega arith) (and-then low high))
 
 put-not-named-requires : tie.Need-put-not-named-requires
 put-not-named-requires c κs = search needs
@@ -46,7 +49,10 @@ same-length-2 : tie.Need-same-length-2
 same-length-2 c = search needs
 
 returns-2 : tie.Need-returns-2
-returns-2 c = same-put (a-unnamed _ _ (rw (toZ-ofZ w32 _ (test-fits (c .before .before .before .before .before))) at (c .before .before .before .before .if1 .left))) (looser mostWhy (omega arith) (c .before .before .put-not-named .ensures))
+returns-2 c =
+    let p = c .before .before .before .before .before in
+    let q = c .before .before .before .before .if1 .left in
+    same-put (a-unnamed _ _ (rw (toZ-ofZ w32 _ (test-fits p)) at q)) (looser mostWhy (omega arith) (c .before .before .put-not-named .ensures))
 
 pub put-a-why-spec : {M : Type 1} → statement M
 put-a-why-spec =

@@ -25,7 +25,10 @@ same-length-2 : tie.Need-same-length-2
 same-length-2 c = search needs
 
 returns-2 : tie.Need-returns-2
-returns-2 c = same-put (length-uneven _ _ (c .before .before .before .before .before .before .before .before .if1 .left) (c .before .before .before .before .before .if2 .taken)) (looser mostWhy (omega arith) (c .before .before .put-word .ensures))
+returns-2 c =
+    let p = c .before .before .before .before .before .before .before .before .if1 .left in
+    let q = c .before .before .before .before .before .if2 .taken in
+    same-put (length-uneven _ _ p q) (looser mostWhy (omega arith) (c .before .before .put-word .ensures))
 
 slice-aggregate-put-field : tie.Need-slice-aggregate-put-field
 slice-aggregate-put-field c = search needs
@@ -40,7 +43,11 @@ same-length-3 : tie.Need-same-length-3
 same-length-3 c = search needs
 
 returns-3 : tie.Need-returns-3
-returns-3 c = same-put (length-short _ _ (c .before .before .before .before .before .before .before .before .before .before .before .before .if1 .left) (c .before .before .before .before .before .before .before .before .before .if2 .left) (c .before .before .before .before .before .before .if3 .taken)) (looser mostWhy (omega arith) (c .before .before .put-field .ensures))
+returns-3 c =
+    let p = c .before .before .before .before .before .before .before .before .before .before .before .before .if1 .left in
+    let q = c .before .before .before .before .before .before .before .before .before .if2 .left in
+    let r = c .before .before .before .before .before .before .if3 .taken in
+    same-put (length-short _ _ p q r) (looser mostWhy (omega arith) (c .before .before .put-field .ensures))
 
 slice-aggregate-put-field-2 : tie.Need-slice-aggregate-put-field-2
 slice-aggregate-put-field-2 c = search needs
@@ -61,7 +68,12 @@ same-length-4 : tie.Need-same-length-4
 same-length-4 c = search needs
 
 returns-4 : tie.Need-returns-4
-returns-4 c = same-put (length-beyond _ _ (c .before .before .before .before .before .before .before .before .before .before .before .before .before .before .before .before .before .if1 .left) (c .before .before .before .before .before .before .before .before .before .before .before .before .before .before .if2 .left) (c .before .before .before .before .before .before .before .before .before .before .before .if3 .left)) (and-then (c .before .before .before .before .before .before .before .put-field2 .ensures) (c .before .before .put-word2 .ensures))
+returns-4 c =
+    let p = c .before .before .before .before .before .before .before .before .before .before .before .before .before .before .before .before .before .if1 .left in
+    let q = c .before .before .before .before .before .before .before .before .before .before .before .before .before .before .if2 .left in
+    let r = c .before .before .before .before .before .before .before .before .before .before .before .if3 .left in
+    let s = c .before .before .before .before .before .before .before .put-field2 .ensures in
+    same-put (length-beyond _ _ p q r) (and-then s (c .before .before .put-word2 .ensures))
 
 pub put-length-why-spec : {M : Type 1} → statement M
 put-length-why-spec =

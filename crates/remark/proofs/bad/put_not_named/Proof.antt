@@ -31,7 +31,10 @@ same-length-2 : tie.Need-same-length-2
 same-length-2 c = search needs
 
 returns-2 : tie.Need-returns-2
-returns-2 c = same-put (of-service _ (c .before .before .before .before .before .before .before .before .before .if1 .left)) (looser mostNotNamed (omega arith) (and-then (c .before .before .before .before .before .before .put-word2 .ensures) (c .before .before .put-service .ensures)))
+returns-2 c =
+    let p = c .before .before .before .before .before .before .before .before .before .if1 .left in
+    let q = c .before .before .before .before .before .before .put-word2 .ensures in
+    same-put (of-service _ p) (looser mostNotNamed (omega arith) (and-then q (c .before .before .put-service .ensures)))
 
 pub put-not-named-spec : {M : Type 1} → statement M
 put-not-named-spec =

@@ -31,7 +31,11 @@ same-length c = search needs
 
 returns : tie.Need-returns
 unfolding outsideText
-returns c = looser _ (omega arith) (and-then (and-then (and-then (c .before .before .before .before .before .before .before .before .before .before .before .before .before .before .before .before .before .put-word .ensures) (c .before .before .before .before .before .before .before .before .before .before .before .before .put-field .ensures)) (c .before .before .before .before .before .before .before .put-field2 .ensures)) (c .before .before .put-field3 .ensures))
+returns c =
+    let p = c .before .before .before .before .before .before .before .before .before .before .before .before .before .before .before .before .before .put-word .ensures in
+    let q = c .before .before .before .before .before .before .before .before .before .before .before .before .put-field .ensures in
+    let r = c .before .before .before .before .before .before .before .put-field2 .ensures in
+    looser _ (omega arith) (and-then (and-then (and-then p q) r) (c .before .before .put-field3 .ensures))
 
 pub put-outside-spec : {M : Type 1} → statement M
 put-outside-spec =

@@ -28,7 +28,11 @@ same-length c = search needs
 
 returns : tie.Need-returns
 unfolding recordText
-returns c = looser _ (omega arith) (and-then (and-then (and-then (c .before .before .before .before .before .before .before .before .before .before .before .before .before .before .before .before .put-numbered .ensures) (c .before .before .before .before .before .before .before .before .before .before .before .put-word .ensures)) (c .before .before .before .before .before .before .before .put-word2 .ensures)) (c .before .before .put-word3 .ensures))
+returns c =
+    let p = c .before .before .before .before .before .before .before .before .before .before .before .before .before .before .before .before .put-numbered .ensures in
+    let q = c .before .before .before .before .before .before .before .before .before .before .before .put-word .ensures in
+    let r = c .before .before .before .before .before .before .before .put-word2 .ensures in
+    looser _ (omega arith) (and-then (and-then (and-then p q) r) (c .before .before .put-word3 .ensures))
 
 pub put-record-spec : {M : Type 1} → statement M
 put-record-spec =

@@ -122,35 +122,50 @@ same-length-5 c = search needs
 
 returns-6 : tie.Need-returns-6
 unfolding whyText
-returns-6 c = same-put (by-limits startWhy _ (c .before .before .before .before .before .before .limits-of .ensures) ∙ why-of _ (c .before .before .before .before .enum-told6 .given .1)) (looser mostWhy (omega arith) (c .before .before .put-start-why .ensures))
+returns-6 c =
+    let p = c .before .before .before .before .before .before .limits-of .ensures in
+    let q = c .before .before .before .before .enum-told6 .given .1 in
+    same-put (by-limits startWhy _ p ∙ why-of _ q) (looser mostWhy (omega arith) (c .before .before .put-start-why .ensures))
 
 same-length-6 : tie.Need-same-length-6
 same-length-6 c = search needs
 
 returns-7 : tie.Need-returns-7
 unfolding whyText
-returns-7 c = same-put (by-limits lengthWhy _ (c .before .before .before .before .before .before .limits-of .ensures) ∙ why-of _ (c .before .before .before .before .enum-told7 .given .1)) (looser mostWhy (omega arith) (c .before .before .put-length-why .ensures))
+returns-7 c =
+    let p = c .before .before .before .before .before .before .limits-of .ensures in
+    let q = c .before .before .before .before .enum-told7 .given .1 in
+    same-put (by-limits lengthWhy _ p ∙ why-of _ q) (looser mostWhy (omega arith) (c .before .before .put-length-why .ensures))
 
 same-length-7 : tie.Need-same-length-7
 same-length-7 c = search needs
 
 returns-8 : tie.Need-returns-8
 unfolding whyText
-returns-8 c = same-put (by-limits aWhy _ (c .before .before .before .before .before .before .limits-of .ensures) ∙ why-of _ (c .before .before .before .before .enum-told8 .given .1)) (looser mostWhy (omega arith) (c .before .before .put-a-why .ensures))
+returns-8 c =
+    let p = c .before .before .before .before .before .before .limits-of .ensures in
+    let q = c .before .before .before .before .enum-told8 .given .1 in
+    same-put (by-limits aWhy _ p ∙ why-of _ q) (looser mostWhy (omega arith) (c .before .before .put-a-why .ensures))
 
 same-length-8 : tie.Need-same-length-8
 same-length-8 c = search needs
 
 returns-9 : tie.Need-returns-9
 unfolding whyText
-returns-9 c = same-put (by-most-b _ (c .before .before .before .before .before .before .limits-of .ensures) ∙ why-of _ (c .before .before .before .before .enum-told9 .given .1)) (looser mostWhy (omega arith) (c .before .before .put-bound .ensures))
+returns-9 c =
+    let p = c .before .before .before .before .before .before .limits-of .ensures in
+    let q = c .before .before .before .before .enum-told9 .given .1 in
+    same-put (by-most-b _ p ∙ why-of _ q) (looser mostWhy (omega arith) (c .before .before .put-bound .ensures))
 
 same-length-9 : tie.Need-same-length-9
 same-length-9 c = search needs
 
 returns-10 : tie.Need-returns-10
 unfolding whyText
-returns-10 c = same-put (by-most-c _ (c .before .before .before .before .before .before .limits-of .ensures) ∙ why-of _ (c .before .before .before .before .enum-told10 .given .1)) (looser mostWhy (omega arith) (c .before .before .put-bound2 .ensures))
+returns-10 c =
+    let p = c .before .before .before .before .before .before .limits-of .ensures in
+    let q = c .before .before .before .before .enum-told10 .given .1 in
+    same-put (by-most-c _ p ∙ why-of _ q) (looser mostWhy (omega arith) (c .before .before .put-bound2 .ensures))
 
 same-length-10 : tie.Need-same-length-10
 same-length-10 c = search needs

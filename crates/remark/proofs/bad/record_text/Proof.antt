@@ -21,7 +21,9 @@ sub-if3-2 : tie.Need-sub-if3-2
 sub-if3-2 c = search needs
 
 returns-3 : tie.Need-returns-3
-returns-3 c = let a = c .before .before .before .before .before .before .args in no-room (mostRecord (a .what .now) (a .why .now)) _ (a .out .now) (omega (arith, c .if3 .taken, c .before .if2 .left, c .before .before .if1 .left))
+returns-3 c =
+    let a = c .before .before .before .before .before .before .args in
+    no-room (mostRecord (a .what .now) (a .why .now)) _ (a .out .now) (omega (arith, c .if3 .taken, c .before .if2 .left, c .before .before .if1 .left))
 
 put-record-requires : tie.Need-put-record-requires
 put-record-requires c κs = search needs
@@ -30,7 +32,12 @@ same-length : tie.Need-same-length
 same-length c = search needs
 
 returns-4 : tie.Need-returns-4
-returns-4 c = let a = c .before .before .before .before .before .before .before .before .before .before .args in rendered (mostRecord (a .what .now) (a .why .now)) (omega (arith, c .before .before .before .before .if3 .left, c .before .before .before .before .before .if2 .left, c .before .before .before .before .before .before .if1 .left)) (c .before .before .put-record .ensures)
+returns-4 c =
+    let a = c .before .before .before .before .before .before .before .before .before .before .args in
+    let p = c .before .before .before .before .if3 .left in
+    let q = c .before .before .before .before .before .if2 .left in
+    let r = c .before .before .before .before .before .before .if1 .left in
+    rendered (mostRecord (a .what .now) (a .why .now)) (omega (arith, p, q, r)) (c .before .before .put-record .ensures)
 
 pub record-text-spec : {M : Type 1} → statement M
 record-text-spec =

@@ -28,7 +28,11 @@ same-length c = search needs
 
 returns : tie.Need-returns
 unfolding otherMonthText
-returns c = looser _ (omega arith) (and-then (and-then (and-then (c .before .before .before .before .before .before .before .before .before .before .before .before .before .before .before .before .put-this .ensures) (c .before .before .before .before .before .before .before .before .before .before .before .put-word .ensures)) (c .before .before .before .before .before .before .before .put-of .ensures)) (c .before .before .put-word2 .ensures))
+returns c =
+    let p = c .before .before .before .before .before .before .before .before .before .before .before .before .before .before .before .before .put-this .ensures in
+    let q = c .before .before .before .before .before .before .before .before .before .before .before .put-word .ensures in
+    let r = c .before .before .before .before .before .before .before .put-of .ensures in
+    looser _ (omega arith) (and-then (and-then (and-then p q) r) (c .before .before .put-word2 .ensures))
 
 pub put-other-spec : {M : Type 1} → statement M
 put-other-spec =

@@ -22,7 +22,10 @@ same-length c = search needs
 
 returns : tie.Need-returns
 unfolding thisText
-returns c = looser _ (omega arith) (and-then (and-then (c .before .before .before .before .before .before .before .before .before .before .before .put-word .ensures) (c .before .before .before .before .before .before .put-word2 .ensures)) (c .before .before .put-of .ensures))
+returns c =
+    let p = c .before .before .before .before .before .before .before .before .before .before .before .put-word .ensures in
+    let q = c .before .before .before .before .before .before .put-word2 .ensures in
+    looser _ (omega arith) (and-then (and-then p q) (c .before .before .put-of .ensures))
 
 pub put-this-spec : {M : Type 1} → statement M
 put-this-spec =
