@@ -191,6 +191,10 @@ module _ (part : ℕ) (ls : List LimitedLine) (none : ceiling part ls .number �
       ≡ getD (first .parts) i p .amount +ℤ pos (beyond (getD ls i d .limit) (getD (first .parts) i p .amount)) -ℤ pos (getD (givenUp ls (first .parts)) i 0)
   amount-after i d c p h = rw (line-gets i c p h, uncollected-at ls (first .parts) i d p long h)
 
+  uncollected-is : (i : ℕ) (d : LimitedLine) (c : CeiledPart) (p : Part) → i < length ls
+      → getD (ceiling part ls .parts) i c .uncollected ≡ beyond (getD ls i d .limit) (getD (first .parts) i p .amount)
+  uncollected-is i d c p h = ap (λ (q : CeiledPart). q .uncollected) (line-gets i c p h) ∙ uncollected-at ls (first .parts) i d p long h
+
   -- NO AMOUNT TAKES THE OPPOSITE SIGN: it keeps its sign, or comes to zero,
   pub sign-kept : (i : ℕ) (c : CeiledPart) (p : Part) → i < length ls → SignOf (getD (first .parts) i p .amount) (getD (ceiling part ls .parts) i c .amount)
   sign-kept i c p h =
@@ -217,6 +221,35 @@ module _ (part : ℕ) (ls : List LimitedLine) (none : ceiling part ls .number �
         after-paid (getD ls i d .limit) z (getD (givenUp ls (first .parts)) i 0) (gives-up i (partIn blankLine) h),
         beyond-is (getD ls i d .limit) z _ t refl,
       )
+
+  -- WHAT LIES BEYOND A LIMIT IS NOT COLLECTED, that and no more: what is paid in the first sharing, less the limit;
+  pub beyond-uncollected : (i : ℕ) (d : LimitedLine) (c : CeiledPart) (p : Part) → i < length ls → getD ls i d .limit .none ≡ false
+      → getD (ceiling part ls .parts) i c .uncollected ≡ paid (getD (first .parts) i p .amount) - getD ls i d .limit .fen .0
+  beyond-uncollected i d c p h t = uncollected-is i d c p h ∙ sym (beyond-is (getD ls i d .limit) (getD (first .parts) i p .amount) _ t refl)
+
+  -- of a member without a limit, or who pays no more than it, all is collected;
+  pub all-collected : (i : ℕ) (d : LimitedLine) (c : CeiledPart) (p : Part) → i < length ls
+      → (getD ls i d .limit .none ≡ true) ⊎ (paid (getD (first .parts) i p .amount) ≤ getD ls i d .limit .fen .0)
+      → getD (ceiling part ls .parts) i c .uncollected ≡ 0
+  all-collected i d c p h w = uncollected-is i d c p h ∙ none-beyond (getD ls i d .limit) (getD (first .parts) i p .amount) w
+
+  -- and each line pays what it pays in the first sharing less that: who would pay more than the limit pays exactly the limit.
+  pub paid-less : (i : ℕ) (c : CeiledPart) (p : Part) → i < length ls
+      → paid (getD (ceiling part ls .parts) i c .amount) + getD (ceiling part ls .parts) i c .uncollected ≡ paid (getD (first .parts) i p .amount)
+  paid-less i c p h =
+      let l = getD ls i blankLimited .limit in
+      let z = getD (first .parts) i p .amount in
+      omega (
+        arith,
+        ap paid (amount-after i blankLimited c p h),
+        after-paid l z (getD (givenUp ls (first .parts)) i 0) (gives-up i p h),
+        uncollected-is i blankLimited c p h,
+        beyond-paid l z,
+      )
+
+  pub limit-paid : (i : ℕ) (d : LimitedLine) (c : CeiledPart) (p : Part) → i < length ls → getD ls i d .limit .none ≡ false
+      → getD ls i d .limit .fen .0 < paid (getD (first .parts) i p .amount) → paid (getD (ceiling part ls .parts) i c .amount) ≡ getD ls i d .limit .fen .0
+  limit-paid i d c p h t m = omega (arith, paid-less i c p h, beyond-uncollected i d c p h t)
 
   -- A MEMBER WHOSE AMOUNT IS ZERO OR BELOW, and who pays no more than the limit, or has none, keeps its amount.
   pub amount-kept : (i : ℕ) (d : LimitedLine) (c : CeiledPart) (p : Part) → i < length ls → positive (getD (first .parts) i p .amount) ≡ 0
