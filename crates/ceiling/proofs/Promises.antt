@@ -185,6 +185,9 @@ module _ (part : ℕ) (ls : List LimitedLine) (none : ceiling part ls .number �
         getD-mapped (λ (p : Part). positive (p .amount)) (first .parts) i p 0 k,
       )
 
+  pub given-most : (i : ℕ) (c : CeiledPart) (p : Part) → i < length ls → getD (ceiling part ls .parts) i c .given ≤ positive (getD (first .parts) i p .amount)
+  given-most i c p h = omega (arith, ap (λ (q : CeiledPart). q .given) (line-gets i c p h), gives-up i p h)
+
   -- what the amount at a place comes to
   amount-after : (i : ℕ) (d : LimitedLine) (c : CeiledPart) (p : Part) → i < length ls
       → getD (ceiling part ls .parts) i c .amount
@@ -272,7 +275,16 @@ module _ (part : ℕ) (ls : List LimitedLine) (none : ceiling part ls .number �
       (ap (λ (z : ℤ). z +ℤ pos (getD (uncollectedOf ls (first .parts)) i 0) -ℤ pos (getD (givenUp ls (first .parts)) i 0))
       (S.amount-is part (plainLines ls) (taken-list part ls none .first) i blankLine (partIn blankLine) (rw (length-map ls (λ (l : LimitedLine). l .line)) h)))
 
-  -- No amount grows: a share is at most 10^11 fen; an amount, what is not collected of it and what it gives up are at most twice that.
+  -- NO AMOUNT GROWS by a limit,
+  pub none-grows : (i : ℕ) (c : CeiledPart) (p : Part) → i < length ls → natAbs (getD (ceiling part ls .parts) i c .amount) ≤ natAbs (getD (first .parts) i p .amount)
+  none-grows i c p h =
+      omega (
+        arith,
+        ap natAbs (amount-after i blankLimited c p h),
+        after-most (getD ls i blankLimited .limit) (getD (first .parts) i p .amount) (getD (givenUp ls (first .parts)) i 0) (gives-up i p h),
+      )
+
+  -- and each has a bound: a share is at most 10^11 fen; an amount, what is not collected of it and what it gives up are at most twice that.
   pub part-within : (i : ℕ) (c : CeiledPart) → i < length ls → let q = getD (ceiling part ls .parts) i c in
       (natAbs (q .share) ≤ 100000000000) × (natAbs (q .amount) ≤ 200000000000) × (q .uncollected ≤ 200000000000) × (q .given ≤ 200000000000)
   part-within i c h =
@@ -281,14 +293,9 @@ module _ (part : ℕ) (ls : List LimitedLine) (none : ceiling part ls .number �
       let e = line-gets i c (partIn blankLine) h in
       let w = S.part-within part (plainLines ls) (taken-list part ls none .first) i (partIn blankLine) (rw (length-map ls (λ (l : LimitedLine). l .line)) h) in (
         omega (arith, ap (λ (x : CeiledPart). natAbs (x .share)) e, w .0),
-        omega (
-          arith,
-          ap natAbs (amount-after i blankLimited c (partIn blankLine) h),
-          w .1,
-          after-most l z (getD (givenUp ls (first .parts)) i 0) (gives-up i (partIn blankLine) h),
-        ),
-        omega (arith, ap (λ (x : CeiledPart). x .uncollected) e, uncollected-at ls (first .parts) i blankLimited (partIn blankLine) long h, beyond-le l z, w .1),
-        omega (arith, ap (λ (x : CeiledPart). x .given) e, gives-up i (partIn blankLine) h, positive-le z, w .1),
+        omega (arith, none-grows i c (partIn blankLine) h, w .1),
+        omega (arith, uncollected-is i blankLimited c (partIn blankLine) h, beyond-le l z, w .1),
+        omega (arith, given-most i c (partIn blankLine) h, positive-le z, w .1),
       )
 
   pub user-within : natAbs (ceiling part ls .user) ≤ mostCompensation
