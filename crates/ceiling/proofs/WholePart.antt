@@ -1,11 +1,10 @@
--- With the whole part there is always enough to give up: 17 never comes. Assumes nothing.
+-- 17 comes only where the user's amount is above zero: with the whole part never. Assumes nothing.
 use mathlib.Core.Path.{_≡_, refl, sym, ap, ap₂, _∙_}
 use mathlib.Core.Bool.{true}
 use mathlib.Core.List.{List, [], _∷_, map}
 use mathlib.Core.Logic.{_≢_}
-use Prim.Native.Nat.{ℕ, suc, _+_, _-_, _≤_, _<_}
+use Prim.Native.Nat.{ℕ, zero, suc, _+_, _-_, _≤_, _<_}
 use native.Mathlib.Omega.{arith}
-use native.Mathlib.Decide.{decLt}
 use lib.IntN.{ℤ, pos, negsuc, negℤ, _+ℤ_, _-ℤ_, +ℤ-idr, +ℤ-idl, pos-ne-negsuc}
 use Rattle.apportion.specs.Apportion.{total}
 use Rattle.share.specs.Sharing.{mostPart, parts, Part, SharingOutcome, sharing}
@@ -42,29 +41,29 @@ uncollected-paid [] ps = omega arith
 uncollected-paid (l ∷ ls) [] = omega arith
 uncollected-paid (l ∷ ls) (p ∷ ps) = omega (arith, beyond-paid (l .limit) (p .amount), uncollected-paid ls ps)
 
-no-difference : (a b : ℕ) → pos a -ℤ pos b ≡ pos 0 → b ≤ a
-no-difference a b e = go (decLt a b)
+-- where less is got than is paid, and the last amount brings all to zero, that one is above zero
+last-above : (a b : ℕ) (z : ℤ) → pos a -ℤ pos b +ℤ z ≡ pos 0 → a < b → 0 < positive z
+last-above a b z e l = go z (sym (ap (λ (y : ℤ). y +ℤ z) (diff-down a b l)) ∙ e)
   where
-    go : Dec (a < b) → b ≤ a
-    go (no f) = omega arith
-    go (yes l) = absurd (pos-ne-negsuc 0 (b - suc a) (sym e ∙ diff-down a b l))
+    go : (z : ℤ) → negsuc (b - suc a) +ℤ z ≡ pos 0 → 0 < positive z
+    go (pos zero) k = absurd (pos-ne-negsuc 0 (b - suc a) (sym k ∙ +ℤ-idr (negsuc (b - suc a))))
+    go (pos (suc n)) k = omega (arith, positive-pos (suc n))
+    go (negsuc n) k = absurd (pos-ne-negsuc 0 _ (sym k))
 
--- WITH THE WHOLE PART 17 NEVER COMES: what is paid and what is got are as much, and no more is uncollected than is paid.
+-- 17 COMES ONLY BY THE USER: the user's amount, which gives up nothing, is above zero in the first sharing,
+pub seventeen-by-the-user : (part : ℕ) (ls : List LimitedLine) → ceiling part ls .number ≡ 17 → 0 < positive (sharing part (plainLines ls) .user)
+seventeen-by-the-user part ls n =
+    let s = seventeen-only part ls n in
+    let o = sharing part (plainLines ls) in
+    let e = first-done part ls (s .0) in
+    let none : sharing part (plainLines ls) .number ≡ 0 = sym (ap (λ (o : SharingOutcome). o .number) e) in
+    let ps = parts part (plainLines ls) in
+    last-above (total (positives ps)) (total (payments ps)) (o .user)
+    (ap (λ (z : ℤ). z +ℤ o .user) (sym (sum-sides ps) ∙ ap (λ (o : SharingOutcome). sumℤ (map (λ p. p .amount) (o .parts))) e)
+    ∙ sym (sum-last (map (λ p. p .amount) (o .parts)) (o .user)) ∙ adds-to-zero part (plainLines ls) none)
+    (omega (arith, s .1, uncollected-paid ls ps))
+
+-- so with the whole part, where the user gets and pays nothing, 17 never comes.
 pub whole-never-17 : (ls : List LimitedLine) → ceiling mostPart ls .number ≢ 17
 whole-never-17 ls n =
-    let s = seventeen-only mostPart ls n in
-    let e = first-done mostPart ls (s .0) in
-    let none : sharing mostPart (plainLines ls) .number ≡ 0 = sym (ap (λ (o : SharingOutcome). o .number) e) in
-    let zero : pos (total (positives (parts mostPart (plainLines ls)))) -ℤ pos (total (payments (parts mostPart (plainLines ls)))) ≡ pos 0 =
-    sym (sum-sides (parts mostPart (plainLines ls))) ∙ ap (λ (o : SharingOutcome). sumℤ (map (λ p. p .amount) (o .parts))) e
-    ∙ sym (+ℤ-idr (sumℤ (map (λ p. p .amount) (sharing mostPart (plainLines ls) .parts))))
-    ∙ ap (λ (z : ℤ). sumℤ (map (λ p. p .amount) (sharing mostPart (plainLines ls) .parts)) +ℤ z) (sym (ap (λ (o : SharingOutcome). o .user) (whole-part (plainLines ls))))
-    ∙ sym (sum-last (map (λ p. p .amount) (sharing mostPart (plainLines ls) .parts)) (sharing mostPart (plainLines ls) .user))
-    ∙ adds-to-zero mostPart (plainLines ls) none in
-    absurd
-    (omega (
-      arith,
-      s .1,
-      no-difference (total (positives (parts mostPart (plainLines ls)))) (total (payments (parts mostPart (plainLines ls)))) zero,
-      uncollected-paid ls (parts mostPart (plainLines ls)),
-    ))
+    absurd (omega (arith, seventeen-by-the-user mostPart ls n, ap (λ (o : SharingOutcome). positive (o .user)) (whole-part (plainLines ls)), positive-pos 0))
