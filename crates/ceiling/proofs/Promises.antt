@@ -134,6 +134,20 @@ by-total (p ∷ ps) (u ∷ us) (g ∷ gs) h k =
     ∙ by-parts (p .amount) (pos u) (negℤ (pos g)) (sumℤ (map (λ p. p .amount) ps)) (pos (total us)) (negℤ (pos (total gs)))
     ∙ ap (λ (z : ℤ). p .amount +ℤ sumℤ (map (λ p. p .amount) ps) +ℤ pos (u + total us) +ℤ z) (signed-add true g (total gs))
 
+by-uncollected : (ps : List Part) (us gs : List ℕ) → length us ≡ length ps → length gs ≡ length ps → map (λ q. q .uncollected) (ceiledBy ps us gs) ≡ us
+by-uncollected [] [] gs h k = refl
+by-uncollected [] (u ∷ us) gs h k = absurd (omega arith)
+by-uncollected (p ∷ ps) [] gs h k = absurd (omega arith)
+by-uncollected (p ∷ ps) (u ∷ us) [] h k = absurd (omega arith)
+by-uncollected (p ∷ ps) (u ∷ us) (g ∷ gs) h k = ap (λ (xs : List ℕ). u ∷ xs) (by-uncollected ps us gs (omega arith) (omega arith))
+
+by-given : (ps : List Part) (us gs : List ℕ) → length us ≡ length ps → length gs ≡ length ps → map (λ q. q .given) (ceiledBy ps us gs) ≡ gs
+by-given [] us [] h k = refl
+by-given [] us (g ∷ gs) h k = absurd (omega arith)
+by-given (p ∷ ps) [] gs h k = absurd (omega arith)
+by-given (p ∷ ps) (u ∷ us) [] h k = absurd (omega arith)
+by-given (p ∷ ps) (u ∷ us) (g ∷ gs) h k = ap (λ (xs : List ℕ). g ∷ xs) (by-given ps us gs (omega arith) (omega arith))
+
 there-and-back : (z : ℤ) (n : ℕ) → z +ℤ pos n -ℤ pos n ≡ z
 there-and-back z n = +ℤ-assoc z (pos n) (negℤ (pos n)) ∙ ap (λ (y : ℤ). z +ℤ y) (diff-up n n (omega arith) ∙ ap pos (omega arith)) ∙ +ℤ-idr z
 
@@ -164,14 +178,25 @@ module _ (part : ℕ) (ls : List LimitedLine) (none : ceiling part ls .number �
   unfolding ceiling
   user-kept = ap (λ (o : CeilingOutcome). o .user) (taken-list part ls none .is)
 
+  long-uncollected : length (uncollectedOf ls (first .parts)) ≡ length (first .parts)
+  long-uncollected = length-uncollected ls (first .parts) long ∙ sym long
+
+  long-given : length (givenUp ls (first .parts)) ≡ length (first .parts)
+  unfolding givenUp
+  long-given = each-one (uncollectedSum ls (first .parts)) (positives (first .parts)) ∙ length-map (first .parts) (λ (p : Part). positive (p .amount))
+
+  all-given : total (givenUp ls (first .parts)) ≡ uncollectedSum ls (first .parts)
+  unfolding givenUp
+  all-given =
+      adds-up (uncollectedSum ls (first .parts)) (positives (first .parts)) (way (uncollectedSum ls (first .parts)) (total (positives (first .parts))) (taken-list part ls none .room))
+
   -- what the line at a place gets
   pub line-gets : (i : ℕ) (c : CeiledPart) (p : Part) → i < length ls
       → getD (ceiling part ls .parts) i c ≡ ceiledPart (getD (first .parts) i p) (getD (uncollectedOf ls (first .parts)) i 0) (getD (givenUp ls (first .parts)) i 0)
-  unfolding ceiledParts givenUp
+  unfolding ceiledParts
   line-gets i c p h =
       ap (λ (ps : List CeiledPart). getD ps i c) parts-is
-      ∙ by-at (first .parts) (uncollectedOf ls (first .parts)) (givenUp ls (first .parts)) i p c (length-uncollected ls (first .parts) long ∙ sym long)
-      (each-one (uncollectedSum ls (first .parts)) (positives (first .parts)) ∙ length-map (first .parts) (λ (p : Part). positive (p .amount))) (omega (arith, long))
+      ∙ by-at (first .parts) (uncollectedOf ls (first .parts)) (givenUp ls (first .parts)) i p c long-uncollected long-given (omega (arith, long))
 
   -- no one gives up more than its positive amount
   pub gives-up : (i : ℕ) (p : Part) → i < length ls → getD (givenUp ls (first .parts)) i 0 ≤ positive (getD (first .parts) i p .amount)
@@ -309,6 +334,13 @@ module _ (part : ℕ) (ls : List LimitedLine) (none : ceiling part ls .number �
       rw (share-kept i c (partIn blankLine) h)
       (S.one-fen part (plainLines ls) (taken-list part ls none .first) i d (partIn blankLine) some (rw (length-map ls (λ (l : LimitedLine). l .line)) h))
 
+  -- Where the sum of weights is 0, the generators' R is 0 with it, and so is every share.
+  pub one-fen-none : (i : ℕ) (c : CeiledPart) → allWeights (plainLines ls) ≡ 0 → i < length ls
+      → (generatorsGap part (plainLines ls) ≡ pos 0) × (getD (ceiling part ls .parts) i c .share ≡ pos 0)
+  one-fen-none i c z h =
+      let s = S.one-fen-none part (plainLines ls) (taken-list part ls none .first) i (partIn blankLine) z (rw (length-map ls (λ (l : LimitedLine). l .line)) h) in
+      (s .0, share-kept i c (partIn blankLine) h ∙ s .1)
+
   -- THE ONE-FEN RULE of the second: what is given up, times all positive amounts, lies less than these away from the uncollected sum times the amount.
   pub one-fen-given : (i : ℕ) (c : CeiledPart) (p : Part) → i < length ls → 0 < total (positives (first .parts))
       → let given = getD (ceiling part ls .parts) i c .given in
@@ -338,21 +370,29 @@ module _ (part : ℕ) (ls : List LimitedLine) (none : ceiling part ls .number �
         ),
       )
 
+  -- AS MUCH IS GIVEN UP AS IS NOT COLLECTED: over all lines the two sums are one.
+  pub as-much-given : total (map (λ q. q .given) (ceiling part ls .parts)) ≡ total (map (λ q. q .uncollected) (ceiling part ls .parts))
+  unfolding ceiledParts
+  as-much-given =
+      let us = uncollectedOf ls (first .parts) in
+      let gs = givenUp ls (first .parts) in
+      ap (λ (qs : List CeiledPart). total (map (λ q. q .given) qs)) parts-is
+      ∙ ap total (by-given (first .parts) us gs long-uncollected long-given)
+      ∙ all-given
+      ∙ sym (ap (λ (qs : List CeiledPart). total (map (λ q. q .uncollected) qs)) parts-is ∙ ap total (by-uncollected (first .parts) us gs long-uncollected long-given))
+
   -- ALL AMOUNTS ADD UP TO ZERO, the user's among them.
   pub adds-to-zero : sumℤ (allCeiled (ceiling part ls)) ≡ pos 0
-  unfolding ceiledParts givenUp
+  unfolding ceiledParts
   adds-to-zero =
       let us = uncollectedOf ls (first .parts) in
       let gs = givenUp ls (first .parts) in
-      let same : total (givenUp ls (first .parts)) ≡ uncollectedSum ls (first .parts) =
-      adds-up (uncollectedSum ls (first .parts)) (positives (first .parts)) (way (uncollectedSum ls (first .parts)) (total (positives (first .parts))) (taken-list part ls none .room)) in
       sum-last (map (λ q. q .amount) (ceiling part ls .parts)) (ceiling part ls .user)
       ∙ ap (λ (z : ℤ). sumℤ (map (λ q. q .amount) (ceiling part ls .parts)) +ℤ z) user-kept
       ∙ ap (λ (z : ℤ). z +ℤ first .user)
       {y = sumℤ (map (λ p. p .amount) (first .parts))}
       (ap (λ (qs : List CeiledPart). sumℤ (map (λ q. q .amount) qs)) parts-is
-      ∙ by-total (first .parts) us gs (length-uncollected ls (first .parts) long ∙ sym long)
-      (each-one (uncollectedSum ls (first .parts)) (positives (first .parts)) ∙ length-map (first .parts) (λ (p : Part). positive (p .amount)))
-      ∙ rw same (there-and-back (sumℤ (map (λ p. p .amount) (first .parts))) (uncollectedSum ls (first .parts))))
+      ∙ by-total (first .parts) us gs long-uncollected long-given
+      ∙ rw all-given (there-and-back (sumℤ (map (λ p. p .amount) (first .parts))) (uncollectedSum ls (first .parts))))
       ∙ sym (sum-last (map (λ p. p .amount) (first .parts)) (first .user))
       ∙ S.adds-to-zero part (plainLines ls) (taken-list part ls none .first)
