@@ -88,9 +88,13 @@ cases =
     ∷ case 5000 (two (upTo 100000000000)) (accepted (pos 99000) (pos 49500) (got (pos 24750) (negsuc 75249) 0 0 ∷ got (pos 24750) (pos 25750) 0 0 ∷ []))
     ∷ case 10000 (three unlimited (upTo 100000000001) unlimited) (ceilingRefused 10 1)
     ∷ case 5000 (two (noneBeside 100000000001)) (accepted (pos 99000) (pos 49500) (got (pos 24750) (negsuc 75249) 0 0 ∷ got (pos 24750) (pos 25750) 0 0 ∷ []))
-    -- 15 and 16 come before 17, and a limit's 10 before 15
+    -- a limit is judged in turn with the lines' other numbers: a bad limit before a line with a bad status, and behind it
+    ∷ case 10000 (limited 1 0 1 0 0 (upTo 100000000001) ∷ limited 2 3 1 0 0 unlimited ∷ []) (ceilingRefused 10 0)
+    ∷ case 10000 (limited 1 0 1 0 0 unlimited ∷ limited 2 3 1 0 0 unlimited ∷ limited 3 0 1 0 0 (upTo 100000000001) ∷ []) (ceilingRefused 10 1)
+    -- 15, and a limit's 10 before it
     ∷ case 10000 (limited 1 0 1 60000000000 0 unlimited ∷ limited 2 0 1 60000000000 0 unlimited ∷ []) (ceilingRefused 15 0)
     ∷ case 10000 (limited 1 0 1 60000000000 0 unlimited ∷ limited 2 0 1 60000000000 0 (upTo 100000000001) ∷ []) (ceilingRefused 10 1)
+    -- 16 comes before 17: without a share the line would pay 100000 beyond its limit, and nobody gets anything
     ∷ case 10000 (limited 1 0 0 0 1000 (upTo 0) ∷ []) (ceilingRefused 16 0)
     ∷ []
 
@@ -98,7 +102,7 @@ pub worked : Holds cases
 unfolding
     ceiling ceilingInTurn bothSharings secondSharing ceiledParts givenUp positive beyond paid limitedIsSound limitIsSound
     sharingInTurn settled parts userAmount generatorsAmount gap lineIsSound apportion fenPerThousandth
-worked = (refl, (refl, (refl, (refl, (refl, (refl, (refl, (refl, (refl, (refl, (refl, (refl, (refl, (refl, (refl, tt)))))))))))))))
+worked = (refl, (refl, (refl, (refl, (refl, (refl, (refl, (refl, (refl, (refl, (refl, (refl, (refl, (refl, (refl, (refl, (refl, tt)))))))))))))))))
 
 -- The promises meet such a sum: their conditions can be met.
 none-refused : ceiling 5000 (two (upTo 50000)) .number ≡ 0
