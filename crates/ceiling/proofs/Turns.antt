@@ -6,6 +6,7 @@ use Prim.Native.Nat.{ℕ, suc, min, _≤_, _<_}
 use native.Mathlib.Decide.{decLt}
 use native.Mathlib.Omega.{arith}
 use borrow.Author.Tests.{lt-ltb, le-ltb, eq-eqb, ne-eqb}
+use lib.Dec.{ltb}
 use lib.ListN.{length}
 use Rattle.apportion.specs.Apportion.{total}
 use Rattle.share.specs.Sharing.{mostNumber, mostPart, partPlace, lineIsSound, firstBadLine, SharingOutcome, sharing}
@@ -66,11 +67,18 @@ pub both-on : (ls : List LimitedLine) (o : SharingOutcome) → o .number ≡ 0 �
 unfolding bothSharings
 both-on ls o e = rw (eq-eqb (o .number) 0 e)
 
--- 17
+-- 17, by the test alone
+
+below-yes : {A : Type 0} (a b : ℕ) (x y : A) → a < b → x ≡ cond (ltb a b) x y
+below-yes a b x y h = rw (lt-ltb a b h)
+
+below-no : {A : Type 0} (a b : ℕ) (x y : A) → b ≤ a → y ≡ cond (ltb a b) x y
+below-no a b x y h = rw (le-ltb a b h)
+
 pub second-17 : (ls : List LimitedLine) (o : SharingOutcome) → total (positives (o .parts)) < uncollectedSum ls (o .parts) → ceilingRefused 17 0 ≡ secondSharing ls o
 unfolding secondSharing
-second-17 ls o h = rw (lt-ltb (total (positives (o .parts))) (uncollectedSum ls (o .parts)) h)
+second-17 ls o h = below-yes _ _ (ceilingRefused 17 0) (ceilingAccepted ls o) h
 
 pub second-on : (ls : List LimitedLine) (o : SharingOutcome) → uncollectedSum ls (o .parts) ≤ total (positives (o .parts)) → ceilingAccepted ls o ≡ secondSharing ls o
 unfolding secondSharing
-second-on ls o h = rw (le-ltb (total (positives (o .parts))) (uncollectedSum ls (o .parts)) h)
+second-on ls o h = below-no _ _ (ceilingRefused 17 0) (ceilingAccepted ls o) h

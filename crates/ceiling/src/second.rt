@@ -33,10 +33,10 @@ fn paid(amount: SignedFen) -> u64
 fn beyond(l: Limit, amount: SignedFen) -> u64
     ensures { λ r. ⌜ r ≡ beyond l (amount .0) ⌝ }
 {
+    let p = paid(amount);
     if l.none {
         return 0;
     }
-    let p = paid(amount);
     let most = l.fen.0;
     if p < most { 0 } else { p - most }
 }
