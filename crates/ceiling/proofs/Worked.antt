@@ -2,7 +2,7 @@
 use mathlib.Core.Path.{_≡_, refl}
 use mathlib.Core.Bool.{true, false}
 use mathlib.Core.List.{List, [], _∷_}
-use Prim.Native.Nat.{ℕ, _≤_}
+use Prim.Native.Nat.{ℕ, _≤_, _<_}
 use lib.Dec.{lit<}
 use lib.IntN.{ℤ, pos, negsuc}
 use Rattle.apportion.specs.Apportion.{apportion}
@@ -14,7 +14,8 @@ use Rattle.ceiling.specs.declared.Limit.{Limit}
 use Rattle.ceiling.specs.declared.LimitedLine.{LimitedLine}
 use Rattle.ceiling.specs.Ceiling.{limitIsSound, limitedIsSound, paid, beyond, positive, givenUp, CeiledPart, ceiledParts}
 use Rattle.ceiling.specs.Ceiling.{CeilingOutcome, ceilingRefused, secondSharing, bothSharings, ceilingInTurn, ceiling}
-use Rattle.ceiling.proofs.Promises.{allCeiled, adds-to-zero, within-limit}
+use Rattle.ceiling.proofs.Promises.{allCeiled, adds-to-zero, within-limit, limit-paid}
+use Rattle.ceiling.proofs.WholePart.{seventeen-by-the-user}
 
 abbrev pub upTo : ℕ → Limit
 upTo fen = record { none = false; fen = record { 0 = fen } }
@@ -119,3 +120,18 @@ unfolding
     ceiling ceilingInTurn bothSharings secondSharing ceiledParts givenUp positive beyond paid limitedIsSound limitIsSound
     sharingInTurn settled parts userAmount generatorsAmount gap lineIsSound apportion fenPerThousandth
 two-within = within-limit 5000 (two (upTo 50000)) none-refused 0 (limited 1 0 0 0 0 unlimited) (got (pos 0) (pos 0) 0 0) (lit< tt) refl
+
+-- of 75250 exactly the limit is paid
+pub two-exactly : paid (negsuc 49999) ≡ 50000
+unfolding
+    ceiling ceilingInTurn bothSharings secondSharing ceiledParts givenUp positive beyond paid limitedIsSound limitIsSound
+    sharingInTurn settled parts userAmount generatorsAmount gap lineIsSound apportion fenPerThousandth
+two-exactly =
+    limit-paid 5000 (two (upTo 50000)) none-refused 0 (limited 1 0 0 0 0 unlimited) (got (pos 0) (pos 0) 0 0) (record { share = pos 0; amount = pos 0 }) (lit< tt) refl (lit< tt)
+
+-- and where 17 comes, the user gets 49500
+pub two-by-the-user : 0 < positive (pos 49500)
+unfolding
+    ceiling ceilingInTurn bothSharings secondSharing ceiledParts givenUp positive beyond paid limitedIsSound limitIsSound
+    sharingInTurn settled parts userAmount generatorsAmount gap lineIsSound apportion fenPerThousandth
+two-by-the-user = seventeen-by-the-user 5000 (two (upTo 49499)) refl
