@@ -169,7 +169,8 @@ unfolding earnedMonth
 earned-refused part es book ramped earned fault h e = rw (lt-ltb _ _ h, e) refl
 
 pub earned-shared : (part : ℕ) (entries : List Entry) (book : List ℕ) (ramped : List Ramped) (earned : List MemberEarned) (count : ℕ)
-    → (grains : List Grains) (fens : List Fen) (lines : List LimitedLine) → firstRefusedMember earned ≡ length earned → take count grains ≡ map earnedGrains earned → fens ≡ compensations grains → lines ≡ limitedFor entries fens
+    → (grains : List Grains) (fens : List Fen) (lines : List LimitedLine) → firstRefusedMember earned ≡ length earned → take count grains ≡ map earnedGrains earned
+    → fens ≡ compensations grains → lines ≡ limitedFor entries fens
     → sharedMonth part book (take count lines) (take count grains) ramped (ceiling part (take count lines)) ≡ earnedMonth part (take count entries) book ramped earned
 unfolding earnedMonth monthLines
 earned-shared part entries book ramped earned count grains fens lines none eg ef el =
