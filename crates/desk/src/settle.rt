@@ -247,6 +247,14 @@ fn no_register() -> Register {
     none
 }
 
+// A register that is refused: a line for each of its faults, then its refusal.
+fn tell_bad(number: u32, place: usize, name: &[u8], text: &[u8]) {
+    if number != 0 {
+        tell_register(name, text);
+        print::refused(number, place, name);
+    }
+}
+
 // The register. Where its number is not 0, its last line has said why, behind a line for each of its faults.
 pub fn open_register() -> Register {
     let mut name = io::buffer();
@@ -258,10 +266,12 @@ pub fn open_register() -> Register {
         return no_register();
     };
     let register = read_register(first(&text, size));
-    if register.number != 0 {
-        tell_register(first(&name, n), first(&text, size));
-        print::refused(register.number, register.place, first(&name, n));
-    }
+    tell_bad(
+        register.number,
+        register.place,
+        first(&name, n),
+        first(&text, size),
+    );
     register
 }
 
