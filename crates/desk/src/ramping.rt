@@ -1,7 +1,4 @@
 // Ramping files: what a member's hours pay, told by themselves, and for the month and its explanation.
-use crate::series::Name;
-use crate::series::in_folder;
-use book::header_of;
 use clerk::args::Held;
 use clerk::args::first;
 use clerk::args::path;
@@ -10,41 +7,26 @@ use clerk::wrong::tell_member;
 use hours::Hours;
 use hours::HoursFault;
 use hours::MOST_HOURS;
-use hours::name::ramping_name;
 use hours_file::Found;
 use hours_file::HoursFile;
-use hours_file::given::hours_of;
 use hours_file::given::ramped_of;
 use hours_file::read_file;
-use month::Ramped;
+pub use month_files::ramps::Ramps;
+pub use month_files::ramps::month_hours;
+pub use month_files::ramps::ramped_at;
+pub use month_files::ramps::ramping_file_of;
+pub use month_files::ramps::read_ramping;
+pub use month_files::ramps::read_ramps;
+use month_files::told::tell_unramped;
 use pay::Member;
-use register::Entry;
-use register::MOST_ENTRIES;
 use report::hourly::hour_text;
 use report::hourly::hours_text;
 use tally::member::Given;
 use tally::member::member_given;
 use units::Grains;
-ghost use Prim.Native.Nat.{_<_, _≤_};
 
 // The argument that names the file of `ramp`.
 const FILE: usize = 5;
-
-// What each member's ramping file gives; where `whole` is not set, one line has said why.
-pub struct Ramps {
-    pub each: [Ramped; MOST_ENTRIES],
-    pub whole: bool,
-}
-
-// No ramping file.
-pub fn no_ramping() -> Ramped {
-    Ramped {
-        grains: Grains(0),
-        place: 0,
-        number: 0,
-        hours: 0,
-    }
-}
 
 // The hours of no ramping file.
 pub fn no_hours() -> Hours {
@@ -56,19 +38,6 @@ pub fn no_hours() -> Hours {
         grains: [none; MOST_HOURS],
         actions: [0; MOST_HOURS],
     }
-}
-
-// The ramping file of a member.
-pub fn ramping_file_of(member: u16) -> Name {
-    let name = ramping_name(member);
-    in_folder(&name)
-}
-
-// The hours of a sound book's month; of any other book none.
-pub fn month_hours(book: &[u8]) -> u16 {
-    let o = header_of(book);
-    let h = o.header;
-    hours_of(h.year, h.month)
 }
 
 // One hour, where it has an action, on a page.
@@ -112,11 +81,6 @@ fn tell_hours(hours: Hours, path: &[u8]) {
     print::finish(&mut page, end);
 }
 
-// That a kind does not ramp, and what that is told of.
-pub fn tell_unramped(what: &[u8]) {
-    print::note(what, b"only coal, gas and hydro ramp");
-}
-
 // Why a member's hours are not judged, in words: it is no register line, or of a kind that does not ramp.
 fn tell_no_hours(member: Member, number: u32) {
     if number == 12 {
@@ -154,71 +118,4 @@ pub fn ramp_member() {
     };
     let path = first(&name, n);
     tell_file(member, read_file(path, member, MOST_HOURS as u16), path);
-}
-
-// What became of a member's ramping file; that it could not be read is told.
-pub fn read_ramping(member: Member, hours: u16) -> HoursFile {
-    let name = ramping_file_of(member.number);
-    let bytes = name.bytes;
-    let path = first(&bytes, name.size);
-    let file = read_file(path, member, hours);
-    let found = file.found;
-    if let Found::Failed = found {
-        print::failed(path, b"cannot be read");
-    }
-    file
-}
-
-fn no_ramps() -> Ramps {
-    let none = no_ramping();
-    Ramps {
-        each: [none; MOST_ENTRIES],
-        whole: true,
-    }
-}
-
-// What the ramping file of line i's member gives: nothing where there is none.
-fn read_next(e: Entry, i: usize, hours: u16, before: Ramps) -> Ramps
-    requires { ⌜ i < 64 ⌝ }
-{
-    if !before.whole {
-        return before;
-    }
-    let mut each = before.each;
-    let file = read_ramping(e.member, hours);
-    let found = file.found;
-    match found {
-        Found::Missing => {}
-        Found::Failed => {
-            return Ramps { each, whole: false };
-        }
-        Found::Whole => {
-            let h = file.hours;
-            each[i] = ramped_of(h);
-        }
-    }
-    Ramps { each, whole: true }
-}
-
-// The ramping files of the first entries' members, in turn, up to the first that cannot be read.
-pub fn read_ramps(entries: [Entry; MOST_ENTRIES], count: usize, hours: u16) -> Ramps
-    requires { ⌜ count ≤ 64 ⌝ }
-{
-    let mut ramps = no_ramps();
-    let mut i: usize = 0;
-    while i < count {
-        let e = entries[i];
-        ramps = read_next(e, i, hours, ramps);
-        i += 1;
-    }
-    ramps
-}
-
-// What the ramping file of line i's member gives.
-pub fn ramped_at(ramps: Ramps, i: usize) -> Ramped {
-    let each = ramps.each;
-    if i < MOST_ENTRIES {
-        return each[i];
-    }
-    no_ramping()
 }

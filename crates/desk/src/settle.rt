@@ -8,7 +8,6 @@ use crate::ramping::month_hours;
 use crate::ramping::ramped_at;
 use crate::ramping::ramping_file_of;
 use crate::ramping::read_ramps;
-use crate::ramping::tell_unramped;
 use crate::series::Lengths;
 use crate::series::entry_at;
 use crate::series::file_of;
@@ -24,13 +23,14 @@ use clerk::args::number_at;
 use clerk::args::path;
 use clerk::print;
 use clerk::shelf::load;
-use clerk::shelf::note_at;
 use clerk::shelf::refused_at;
 use clerk::shelf::save_new;
 use month::Fault;
 use month::Ramped;
 use month::Statement;
 use month::members::member_compensation;
+use month_files::told::tell_sums;
+use month_files::told::tell_unramped;
 use posted::posted_text;
 use register::Entry;
 use report::above_text;
@@ -126,28 +126,6 @@ fn tell_unlisted(book: &[u8], i: usize) {
     }
 }
 
-// What is wrong with the sums of all members, in words.
-fn tell_sums(number: u32) {
-    if number == 15 {
-        note_at(
-            register_at(),
-            b"the compensations of all members are together above 1000000000.00 yuan",
-        );
-    }
-    if number == 16 {
-        note_at(
-            register_at(),
-            b"the members have a part of the gap to share, and none has a weight to share it by",
-        );
-    }
-    if number == 17 {
-        note_at(
-            register_at(),
-            b"what is not collected above the members' limits is more than all that members get",
-        );
-    }
-}
-
 // Sharing's refusal. A compensation above a line's limit is told in words before it.
 fn tell_sharing(e: Entry, number: u32, place: usize, book: &[u8], series: &[u32], ramped: Ramped) {
     if number == 10 {
@@ -224,10 +202,10 @@ fn settle_book(part: u32, register: Register, book: &[u8]) {
     let entries = register.entries;
     let count = seen(register.count);
     let mut series = room();
-    let lengths = read_all(entries, count, &mut series);
-    if lengths.whole {
-        let ramps = read_ramps(entries, count, month_hours(book));
-        if ramps.whole {
+    let lengths = read_all(entries, count, false, &mut series);
+    if lengths.bad == 0 {
+        let ramps = read_ramps(entries, count, month_hours(book), false);
+        if ramps.bad == 0 {
             settle_with(part, register, book, &series, lengths, ramps);
         }
     }

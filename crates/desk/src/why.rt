@@ -8,6 +8,7 @@ use crate::ramping::no_hours;
 use crate::ramping::put_each;
 use crate::ramping::read_ramping;
 use crate::series::entry_at;
+use crate::series::line_of;
 use crate::series::read_member;
 use crate::settle::open_register;
 use crate::settle::tell_member;
@@ -26,25 +27,11 @@ use hours::Hours;
 use hours_file::Found;
 use hours_file::given::ramped_of;
 use register::Entry;
-use register::MOST_ENTRIES;
 use report::why::explained_text;
 use report::why::part_text;
 use tally::outputs::SERIES_ROOM;
 use tally::outputs::Values;
 use tally::outputs::part;
-
-// The line of a member, or count where it has none.
-fn line_of(entries: [Entry; MOST_ENTRIES], count: usize, number: u16) -> usize {
-    let mut i: usize = 0;
-    while i < count {
-        let e = entry_at(entries, i);
-        if e.member.number == number {
-            return i;
-        }
-        i += 1;
-    }
-    count
-}
 
 // A call and what it was paid by, on a page.
 fn put_part(page: &mut [u8], at: usize, p: CallPart, book: &[u8]) -> usize {
@@ -120,10 +107,10 @@ fn explain_hours(e: Entry, line: usize, book: &[u8], series: &[u32], hours: Hour
 // The member's own series and ramping file, if it has one.
 fn explain_with(e: Entry, line: usize, book: &[u8]) {
     let mut series = [0u32; SERIES_ROOM];
-    let Values::Read(n) = read_member(e.member.number, &mut series) else {
+    let Values::Read(n) = read_member(e.member.number, false, &mut series) else {
         return;
     };
-    let file = read_ramping(e.member, month_hours(book));
+    let file = read_ramping(e.member, month_hours(book), false);
     let found = file.found;
     match found {
         Found::Failed => {}

@@ -1,7 +1,7 @@
 use Prim.Native.Nat.{_-_, _≤_}
 use borrow.Author.Needs.{needs}
-use Rattle.desk.proofs.why.line_of.Statement.{statement}
-use Rattle.desk.proofs.why.line_of.Tie as tie
+use Rattle.month_files.proofs.series.line_of.Statement.{statement}
+use Rattle.month_files.proofs.series.line_of.Tie as tie
 
 abbrev Inv-loop : tie.InvT-loop
 Inv-loop entries count number i₀ i = i ≤ count

@@ -4,20 +4,21 @@ use Prim.Native.Nat.{_*_, _-_, _≤_}
 use lib.ListN.{length}
 use Rattle.tally.specs.Room.{seriesRoom}
 use borrow.Author.Needs.{needs}
-use Rattle.desk.proofs.series.read_all.Statement.{statement}
-use Rattle.desk.proofs.series.read_all.Tie as tie
+use Rattle.month_files.proofs.series.read_all.Statement.{statement}
+use Rattle.month_files.proofs.series.read_all.Tie as tie
 
 abbrev Inv-loop : tie.InvT-loop
-Inv-loop count series₀ entries lengths₀ i₀ series lengths i = (i ≤ count) × (lengths .all ≤ i * seriesRoom) × (length series ≡ length series₀)
+Inv-loop count goes-on series₀ entries lengths₀ i₀ series lengths i =
+    (i ≤ count) × (lengths .bad ≤ i) × (lengths .all ≤ i * seriesRoom) × (length series ≡ length series₀)
 
 abbrev μ-loop : tie.MeasureT-loop
-μ-loop count series₀ entries lengths₀ i₀ series lengths i = count - i
+μ-loop count goes-on series₀ entries lengths₀ i₀ series lengths i = count - i
 
 none-read-requires : tie.Need-none-read-requires Inv-loop μ-loop
 none-read-requires c κs = search needs
 
 loop-holds : tie.Need-loop-holds Inv-loop μ-loop
-loop-holds c = let z = c .none-read .ensures in (omega arith, omega arith, search needs)
+loop-holds c = let z = c .none-read .ensures in (omega arith, omega (arith, z .1), omega (arith, z .0), search needs)
 
 mul-e : tie.Need-mul-e Inv-loop μ-loop
 mul-e c = search needs
@@ -26,7 +27,7 @@ array-copy-out-e : tie.Need-array-copy-out-e Inv-loop μ-loop
 array-copy-out-e c = search needs
 
 read-next-requires : tie.Need-read-next-requires Inv-loop μ-loop
-read-next-requires c κs = let v = c .before .before .before .loop .inv in (omega arith, omega (arith, v .1, v .2))
+read-next-requires c κs = let v = c .before .before .before .loop .inv in (omega arith, (v .1, omega (arith, v .2, v .3)))
 
 add-i : tie.Need-add-i Inv-loop μ-loop
 add-i c = search needs
@@ -38,13 +39,13 @@ loop-again : tie.Need-loop-again Inv-loop μ-loop
 loop-again c =
     let l = c .before .before .before .before .before .before .loop in
     let r = c .before .before .read-next in
-    (omega arith, omega (arith, r .ensures .0, l .inv .1), r .ensures .1 ∙ l .inv .2)
+    (omega arith, omega (arith, r .ensures .1 .0, l .inv .1), omega (arith, r .ensures .0, l .inv .2), r .ensures .1 .1 ∙ l .inv .3)
 
 same-length : tie.Need-same-length Inv-loop μ-loop
 same-length c = search needs
 
 returns : tie.Need-returns Inv-loop μ-loop
-returns c = search needs
+returns c = let v = c .before .loop .inv in omega (arith, v .0, v .1)
 
 pub read-all-spec : {M : Type 1} → statement M
 read-all-spec =

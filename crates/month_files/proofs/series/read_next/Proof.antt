@@ -1,7 +1,7 @@
 use native.Mathlib.Omega.{arith}
 use borrow.Author.Needs.{needs}
-use Rattle.desk.proofs.series.read_next.Statement.{statement}
-use Rattle.desk.proofs.series.read_next.Tie as tie
+use Rattle.month_files.proofs.series.read_next.Statement.{statement}
+use Rattle.month_files.proofs.series.read_next.Tie as tie
 
 returns : tie.Need-returns
 returns c = search needs
@@ -24,11 +24,14 @@ part-read-member-end c = search needs
 read-member-requires : tie.Need-read-member-requires
 read-member-requires c κs = search needs
 
-enum-known-read : tie.Need-enum-known-read
-enum-known-read c = search needs
+enum-known-taken : tie.Need-enum-known-taken
+enum-known-taken c = search needs
 
 enum-told : tie.Need-enum-told
 enum-told c = search needs
+
+one-bad-requires : tie.Need-one-bad-requires
+one-bad-requires c κs = search needs
 
 same-length : tie.Need-same-length
 same-length c = search needs
@@ -48,14 +51,19 @@ mul-each c = search needs
 array-write-each : tie.Need-array-write-each
 array-write-each c = search needs
 
-add-t12 : tie.Need-add-t12
-add-t12 c = let got = rw (c .before .read .given .1) at (c .before .before .before .before .before .read-member .ensures) in omega arith
+array-write-read : tie.Need-array-write-read
+array-write-read c = search needs
+
+add-t17 : tie.Need-add-t17
+add-t17 c = let got = rw (c .before .before .before .before .taken .given .1) at (c .before .before .before .before .before .before .before .before .read-member .ensures) in omega arith
 
 same-length-2 : tie.Need-same-length-2
 same-length-2 c = search needs
 
 returns-3 : tie.Need-returns-3
-returns-3 c = let got = rw (c .before .read .given .1) at (c .before .before .before .before .before .read-member .ensures) in (omega arith, search needs)
+returns-3 c =
+    let got = rw (c .before .before .before .before .taken .given .1) at (c .before .before .before .before .before .before .before .before .read-member .ensures) in
+    (omega arith, (omega arith, search needs))
 
 pub read-next-spec : {M : Type 1} → statement M
 read-next-spec =
@@ -68,14 +76,16 @@ read-next-spec =
     part-read-member-start
     part-read-member-end
     read-member-requires
-    enum-known-read
+    enum-known-taken
     enum-told
+    one-bad-requires
     same-length
     returns-2
     mul-starts
     array-write-starts
     mul-each
     array-write-each
-    add-t12
+    array-write-read
+    add-t17
     same-length-2
     returns-3)
