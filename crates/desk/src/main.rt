@@ -11,6 +11,7 @@ use clerk::args::argument;
 use clerk::args::first;
 use clerk::args::is_word;
 use clerk::print;
+use closing::list_drawer;
 use ledger::books::check_book;
 use ledger::books::find_call;
 use ledger::books::join_books;
@@ -37,6 +38,7 @@ enum Command {
     Ramp,
     Month,
     Year,
+    Drawer,
     Explain,
     Help,
     Version,
@@ -106,6 +108,10 @@ fn rows(usage: bool, word: &[u8]) -> Command {
     if row(usage, word, b"year STATEMENT..", 3, MANY) {
         return Command::Year;
     }
+    let drawer = b"drawer PART REGISTER SERIES-FOLDER BOOK..";
+    if row(usage, word, drawer, 6, MANY) {
+        return Command::Drawer;
+    }
     let why = b"explain MEMBER REGISTER SERIES-FOLDER BOOK..";
     if row(usage, word, why, 6, MANY) {
         return Command::Explain;
@@ -159,6 +165,7 @@ fn run(word: &[u8]) {
         Command::Ramp => ramping::ramp_member(),
         Command::Month => settle::settle_month(),
         Command::Year => tell_year(),
+        Command::Drawer => list_drawer(),
         Command::Explain => why::explain_member(),
         Command::Help => help_with(),
         Command::Version => tell_version(),

@@ -1,0 +1,150 @@
+// What is in the way of the members: their series, their ramping files, a compensation above what a line may have.
+use clerk::args::first;
+use month::Ramped;
+use month::members::member_compensation;
+use month_files::ramps::Ramps;
+use month_files::ramps::ramped_at;
+use month_files::ramps::ramping_file_of;
+use month_files::series::Lengths;
+use month_files::series::Name;
+use month_files::series::entry_at;
+use month_files::series::file_of;
+use month_files::series::is_read;
+use month_files::series::part_of;
+use month_files::told::tell_unramped;
+use register::Entry;
+use register::MOST_ENTRIES;
+use report::above_text;
+use score::answer::Earned;
+use score::grains_earned;
+use share::limits::MOST_COMPENSATION;
+use tally::wrong::tell_series;
+use tray::books::more;
+use tray::books::note_refused;
+
+// That a file of a member is refused, and where.
+fn note_file(name: Name, number: u32, place: usize) {
+    let bytes = name.bytes;
+    note_refused(first(&bytes, name.size), number, place);
+}
+
+// What is wrong with a series, and that it is refused with 11.
+fn note_series(name: Name, place: usize, joined: &[u8]) {
+    let bytes = name.bytes;
+    tell_series(first(&bytes, name.size), place, joined);
+    note_file(name, 11, place);
+}
+
+// That a ramping file is refused: of another kind, or at its lowest bad line.
+fn note_ramping(name: Name, number: u32, place: usize) {
+    let bytes = name.bytes;
+    if number == 12 {
+        tell_unramped(first(&bytes, name.size));
+    }
+    note_file(name, number, place);
+}
+
+// Whether a series that was read is refused: with 11. That is told.
+fn is_refused(e: Entry, joined: &[u8], series: &[u32]) -> bool {
+    let earned = grains_earned(e.member, joined, series);
+    match earned {
+        Earned::Accepted(_) => false,
+        Earned::Refused(number, place) => {
+            if number == 11 {
+                note_series(file_of(e.member.number), place, joined);
+                return true;
+            }
+            false
+        }
+    }
+}
+
+// The series of line i's member, and one more where it is refused.
+fn list_own(
+    e: Entry,
+    i: usize,
+    joined: &[u8],
+    series: &[u32],
+    lengths: Lengths,
+    n: usize,
+) -> usize {
+    if !is_read(lengths, i) {
+        return n;
+    }
+    if is_refused(e, joined, part_of(lengths, i, series)) {
+        return more(n);
+    }
+    n
+}
+
+// The series that were read and are refused.
+pub fn list_series(
+    entries: [Entry; MOST_ENTRIES],
+    count: usize,
+    joined: &[u8],
+    series: &[u32],
+    lengths: Lengths,
+) -> usize {
+    let mut n: usize = 0;
+    let mut i: usize = 0;
+    while i < count {
+        n = list_own(entry_at(entries, i), i, joined, series, lengths, n);
+        i += 1;
+    }
+    n
+}
+
+// A member's ramping file, and one more where it is refused.
+fn list_ramped(e: Entry, ramped: Ramped, n: usize) -> usize {
+    if ramped.number == 0 {
+        return n;
+    }
+    note_ramping(
+        ramping_file_of(e.member.number),
+        ramped.number,
+        ramped.place,
+    );
+    more(n)
+}
+
+// The ramping files that were read and are refused.
+pub fn list_ramping(entries: [Entry; MOST_ENTRIES], count: usize, ramps: Ramps) -> usize {
+    let mut n: usize = 0;
+    let mut i: usize = 0;
+    while i < count {
+        n = list_ramped(entry_at(entries, i), ramped_at(ramps, i), n);
+        i += 1;
+    }
+    n
+}
+
+// A member's compensation, and one more where it is above what a line may have.
+fn list_high(e: Entry, joined: &[u8], series: &[u32], ramped: Ramped, n: usize) -> usize {
+    let fen = member_compensation(e.member, joined, series, ramped);
+    if fen.0 <= MOST_COMPENSATION {
+        return n;
+    }
+    let mut out = io::buffer();
+    let size = above_text(e.member.number, fen, &mut out);
+    say::text(&out[..size]);
+    more(n)
+}
+
+// The compensations above what a line may have.
+pub fn list_above(
+    entries: [Entry; MOST_ENTRIES],
+    count: usize,
+    joined: &[u8],
+    series: &[u32],
+    lengths: Lengths,
+    ramps: Ramps,
+) -> usize {
+    let mut n: usize = 0;
+    let mut i: usize = 0;
+    while i < count {
+        let own = part_of(lengths, i, series);
+        n = list_high(entry_at(entries, i), joined, own, ramped_at(ramps, i), n);
+        i += 1;
+    }
+    n
+}
