@@ -132,3 +132,13 @@ pub fn tell_book(name: &[u8], book: &[u8], number: u32, place: usize) {
         _ => {}
     }
 }
+
+// What a month of so many days has not.
+pub fn tell_no_day(i: usize, days: u32) {
+    match days {
+        28 => print::bad_argument(i, b"no such day: the month has 28"),
+        29 => print::bad_argument(i, b"no such day: the month has 29"),
+        30 => print::bad_argument(i, b"no such day: the month has 30"),
+        _ => print::bad_argument(i, b"no such day: the month has 31"),
+    }
+}

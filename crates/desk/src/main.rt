@@ -1,11 +1,4 @@
 // The desk's day, on files: `desk help` says how.
-mod books;
-mod places;
-mod ramping;
-mod series;
-mod settle;
-mod why;
-
 use clerk::args::Held;
 use clerk::args::argument;
 use clerk::args::first;
@@ -20,6 +13,9 @@ use ledger::change::enter;
 use ledger::change::new_book;
 use ledger::change::revise;
 use ledger::change::withdraw;
+use monthly::ramping::ramp_member;
+use monthly::settle::settle_month;
+use monthly::why::explain_member;
 use tally::member::score_member;
 use tally::minutes::reckon_member;
 use yearly::tell_year;
@@ -162,11 +158,11 @@ fn run(word: &[u8]) {
         Command::Find => find_call(),
         Command::Score => score_member(),
         Command::Reckon => reckon_member(),
-        Command::Ramp => ramping::ramp_member(),
-        Command::Month => settle::settle_month(),
+        Command::Ramp => ramp_member(),
+        Command::Month => settle_month(),
         Command::Year => tell_year(),
         Command::Drawer => list_drawer(),
-        Command::Explain => why::explain_member(),
+        Command::Explain => explain_member(),
         Command::Help => help_with(),
         Command::Version => tell_version(),
         Command::Unknown => unknown(),

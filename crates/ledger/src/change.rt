@@ -35,6 +35,7 @@ use clerk::shelf::put;
 use clerk::shelf::tell_failed;
 use clerk::wrong::tell_call;
 use clerk::wrong::tell_header;
+use clerk::wrong::tell_no_day;
 use units::calendar::days_of;
 use wish::Old;
 use wish::Verdict;
@@ -202,16 +203,6 @@ fn join_asked(wish: Wish, x: Call, given: bool, header: Header, book: &mut [u8],
         return Held::Nothing;
     };
     join_one(wish, y, header, book, n)
-}
-
-// What a month of so many days has not.
-pub fn tell_no_day(i: usize, days: u32) {
-    match days {
-        28 => print::bad_argument(i, b"no such day: the month has 28"),
-        29 => print::bad_argument(i, b"no such day: the month has 29"),
-        30 => print::bad_argument(i, b"no such day: the month has 30"),
-        _ => print::bad_argument(i, b"no such day: the month has 31"),
-    }
 }
 
 // Whether the day of the start that a wish has is one of the book's month; where it is not, one line has said so.

@@ -1,4 +1,3 @@
 // Books as files: looked at, joined, changed by one run at a time.
-pub mod away;
 pub mod books;
 pub mod change;

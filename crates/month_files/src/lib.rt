@@ -1,5 +1,4 @@
 // The files that a month is settled from besides its books: the members' series, and their ramping files.
-pub mod load;
 pub mod places;
 pub mod ramps;
 pub mod series;

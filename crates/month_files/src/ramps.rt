@@ -1,9 +1,9 @@
 // The members' ramping files.
-use crate::load::tell_of;
 use crate::series::Name;
 use crate::series::in_folder;
 use book::header_of;
 use clerk::args::first;
+use clerk::load::tell_of;
 use hours::name::ramping_name;
 use hours_file::Found;
 use hours_file::HoursFile;

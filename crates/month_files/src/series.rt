@@ -1,9 +1,9 @@
 // The members' series: a file each, read one behind the other into one array.
-use crate::load::load_or;
 use crate::places::folder_at;
 use clerk::args::Held;
 use clerk::args::first;
 use clerk::args::path;
+use clerk::load::load_or;
 use clerk::print;
 use register::Entry;
 use register::MOST_ENTRIES;

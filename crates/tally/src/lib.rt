@@ -1,4 +1,5 @@
-// One member's points at the desk: its score, and the same minute by minute with one of its days.
+// One member's points at the desk: its score, why a call is turned away, and the same minute by minute with one of its days.
+pub mod away;
 pub mod member;
 pub mod minutes;
 pub mod outputs;

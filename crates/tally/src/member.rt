@@ -1,4 +1,5 @@
 // One member's score.
+use crate::away::tell_away;
 use crate::outputs::SERIES_ROOM;
 use crate::outputs::Values;
 use crate::outputs::part;
@@ -17,7 +18,6 @@ use clerk::print;
 use clerk::shelf::open;
 use clerk::shelf::refused_at;
 use clerk::wrong::tell_member;
-use ledger::away::tell_away;
 use pay::Member;
 use score::answer::Score;
 use units::Kw;

@@ -4,12 +4,12 @@ use clerk::args::Held;
 use clerk::args::argument;
 use clerk::args::first;
 use clerk::args::is_word;
+use clerk::load::load_or;
 use clerk::print;
 use clerk::shelf::note_at;
 use clerk::shelf::other_month_at;
 use clerk::wrong::tell_book;
 use files::Loaded;
-use month_files::load::load_or;
 use notice::refused_with_text;
 
 // How long the joined book is, and how many books are not taken.

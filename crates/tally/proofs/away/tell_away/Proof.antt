@@ -2,8 +2,8 @@ use mathlib.Core.Path.{_≡_}
 use native.Mathlib.Omega.{arith}
 use Rattle.book.specs.Check.{accepted, check}
 use borrow.Author.Needs.{needs}
-use Rattle.ledger.proofs.away.tell_away.Statement.{statement}
-use Rattle.ledger.proofs.away.tell_away.Tie as tie
+use Rattle.tally.proofs.away.tell_away.Statement.{statement}
+use Rattle.tally.proofs.away.tell_away.Tie as tie
 
 -- behind the test of its number the book is sound
 sound : (c : tie.Else1) → check (c .before .before .before .before .args .book .now) ≡ accepted

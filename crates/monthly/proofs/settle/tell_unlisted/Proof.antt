@@ -2,8 +2,8 @@ use mathlib.Core.Path.{_≡_}
 use native.Mathlib.Omega.{arith}
 use Rattle.book.specs.Check.{accepted, check}
 use borrow.Author.Needs.{needs}
-use Rattle.desk.proofs.settle.tell_unlisted.Statement.{statement}
-use Rattle.desk.proofs.settle.tell_unlisted.Tie as tie
+use Rattle.monthly.proofs.settle.tell_unlisted.Statement.{statement}
+use Rattle.monthly.proofs.settle.tell_unlisted.Tie as tie
 
 -- behind the test of its number the book is sound
 sound : (c : tie.Else1) → check (c .before .before .before .before .args .book .now) ≡ accepted

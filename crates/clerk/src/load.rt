@@ -1,6 +1,6 @@
 // A file of a run that may go on without it.
-use clerk::args::Held;
-use clerk::print;
+use crate::args::Held;
+use crate::print;
 use files::Loaded;
 
 // What is in the way of a file: in the last line, or, where the run goes on, in a remark.

@@ -1,3 +1,0 @@
-// Which arguments name the files of a month.
-pub use month_files::places::books_at;
-pub use month_files::places::register_at;
