@@ -41,11 +41,13 @@ ghost use Rattle.closing.specs.Closing.{isSettled};
 
 pub mod calls;
 pub mod members;
+pub mod sound;
 
 use calls::list_calls;
 use members::list_above;
 use members::list_ramping;
 use members::list_series;
+use sound::sound_register;
 
 // The argument that gives the part.
 const PART: usize = 2;
@@ -113,7 +115,8 @@ fn list_part() -> u32 {
     MOST_PART + 1
 }
 
-// The register, and how many of its lines are bad: where there are any, or it could not be read, its number is not 0, and remarks have said why.
+// The register, and how many of its lines are bad: where there are any, or it could not be read, its number is not 0, and remarks have said why; its entries
+// are then its sound lines.
 pub struct Roll {
     pub register: Register,
     pub bad: usize,
@@ -145,7 +148,7 @@ fn count_faults(text: &[u8]) -> usize {
     n
 }
 
-// What a register's text says; where it is refused, every fault of it is told.
+// What a register's text says; where it is refused, every fault of it is told, and its sound lines are its entries.
 fn list_lines(name: &[u8], text: &[u8]) -> Roll {
     let register = read_register(text);
     if register.number == 0 {
@@ -153,11 +156,19 @@ fn list_lines(name: &[u8], text: &[u8]) -> Roll {
     }
     tell_register(name, text);
     note_refused(name, register.number, register.place);
+    let mut sound = sound_register(text);
+    sound.number = register.number;
     let bad = count_faults(text);
     if bad == 0 {
-        return Roll { register, bad: 1 };
+        return Roll {
+            register: sound,
+            bad: 1,
+        };
     }
-    Roll { register, bad }
+    Roll {
+        register: sound,
+        bad,
+    }
 }
 
 // The register's file.
@@ -199,8 +210,11 @@ fn tell_end(c: Counted, settled: bool) {
     say::text(&last[..m]);
 }
 
-// What sharing refuses besides a compensation above a line's limit, which is told of each member.
-fn list_sharing(fault: Fault) -> usize {
+// What sharing refuses besides a compensation above a line's limit, which is told of each member; of a register with a bad line nothing is shared.
+fn list_sharing(refused: u32, fault: Fault) -> usize {
+    if refused != 0 {
+        return 0;
+    }
     match fault {
         Fault::InSharing(number, place) => {
             if number == 10 {
@@ -232,7 +246,7 @@ fn list_month(
     let ramped = ramps.each;
     let s = month::settle(part, entries, register.count, joined, series, each, ramped);
     let fault = s.fault;
-    c.sharing = sum(above, list_sharing(fault));
+    c.sharing = sum(above, list_sharing(register.number, fault));
     let read = (c.register == 0) & (c.books == 0) & (lengths.bad == 0) & (ramps.bad == 0);
     tell_end(c, is_settled(fault) & read);
 }
