@@ -186,20 +186,25 @@ fn findings_of(
     }
 }
 
-// The call itself: where a book has another record, all of them and why; else by a book that has it; or nothing, where nothing is to be told.
+// The call itself, what stands first: where a book has another record, all of them and why; else a book that has it; or nothing, where nothing is to be told.
 fn tell_head(from: usize, left: &[u8], joined: &[u8], x: Call, f: Findings) {
     if f.stale {
         tell_key(from, left, joined, x);
         return;
     }
     if f.contested | f.without | (f.number != 0) {
+        tell_call(b"stands", x);
         tell_standing(from, left, joined, x);
     }
 }
 
-fn list_contested(x: Call, before: Counted) -> Counted {
-    print::contested(x);
-    say::text(b"scoring refuses it with 14\n");
+// A call without a line is not scored.
+fn list_contested(f: Findings, before: Counted) -> Counted {
+    if !f.without {
+        say::text(
+            b"scoring refuses it with 14: a higher revision or a withdrawal ends the contest\n",
+        );
+    }
     let mut c = before;
     c.contested = more(c.contested);
     c
@@ -234,10 +239,18 @@ fn list_closed(register: Register, joined: &[u8], x: Call, before: Counted) -> C
     c
 }
 
-fn list_against(joined: &[u8], at: usize, x: Call, before: Counted) -> Counted {
+fn list_against(
+    from: usize,
+    left: &[u8],
+    joined: &[u8],
+    at: usize,
+    x: Call,
+    before: Counted,
+) -> Counted {
     let y = call_in(joined, at);
     print::clash(x, y);
-    tell_call(b"scoring refuses it with 13, against", y);
+    say::text(b"scoring refuses it with 13, against this call:\n");
+    tell_standing(from, left, joined, y);
     let mut c = before;
     c.against = more(c.against);
     c
@@ -245,6 +258,8 @@ fn list_against(joined: &[u8], at: usize, x: Call, before: Counted) -> Counted {
 
 // What scoring would refuse a live call with.
 fn list_number(
+    from: usize,
+    left: &[u8],
     register: Register,
     joined: &[u8],
     x: Call,
@@ -255,24 +270,32 @@ fn list_number(
         return list_closed(register, joined, x, before);
     }
     if f.number == 13 {
-        return list_against(joined, f.against, x, before);
+        return list_against(from, left, joined, f.against, x, before);
     }
     before
 }
 
 // What is told of x, and counted.
-fn list_found(register: Register, joined: &[u8], x: Call, f: Findings, before: Counted) -> Counted {
+fn list_found(
+    from: usize,
+    left: &[u8],
+    register: Register,
+    joined: &[u8],
+    x: Call,
+    f: Findings,
+    before: Counted,
+) -> Counted {
     let mut c = before;
     if f.stale {
         c.stale = more(c.stale);
     }
     if f.contested {
-        c = list_contested(x, c);
+        c = list_contested(f, c);
     }
     if f.without {
         c = list_without(x, c);
     }
-    list_number(register, joined, x, f, c)
+    list_number(from, left, register, joined, x, f, c)
 }
 
 // Record j of the joined book.
@@ -289,7 +312,7 @@ fn list_call(
     let x = call_in(joined, j);
     let f = findings_of(register, marks, refusals, j, x);
     tell_head(from, left, joined, x, f);
-    list_found(register, joined, x, f, before)
+    list_found(from, left, register, joined, x, f, before)
 }
 
 // The first so many.

@@ -17,12 +17,15 @@ use month_files::ramps::Ramps;
 use month_files::ramps::month_hours;
 use month_files::ramps::read_ramps;
 use month_files::series::Lengths;
+use month_files::series::folder_is_named;
 use month_files::series::read_all;
 use month_files::series::room;
 use month_files::told::tell_sums;
 use notice::Counted;
 use notice::counted_text;
 use notice::unsettled_text;
+use register::Entry;
+use register::MOST_ENTRIES;
 use share::array::seen;
 use share::limits::MOST_PART;
 use share::limits::PART_PLACE;
@@ -37,6 +40,7 @@ use tray::books::note_refused;
 use tray::books::note_refused_at;
 use tray::spare::tell_spare;
 ghost use mathlib.Core.Path.{_≡_};
+ghost use Prim.Native.Nat.{_≤_};
 ghost use Rattle.closing.specs.Closing.{isSettled};
 
 pub mod calls;
@@ -251,17 +255,46 @@ fn list_month(
     tell_end(c, is_settled(fault) & read);
 }
 
+// Of how many members the files are read: of none, where their folder has no name, and that is told.
+fn files_of(count: usize) -> usize
+    ensures { λ r. ⌜ r ≤ count ⌝ }
+{
+    if (count == 0) | folder_is_named() {
+        return count;
+    }
+    print::note(
+        b"SERIES-FOLDER",
+        b"no name, or too long for a folder's name",
+    );
+    0
+}
+
+// The members' ramping files; none, where no book says whose month it is.
+fn ramps_of(entries: [Entry; MOST_ENTRIES], count: usize, joined: &[u8]) -> Ramps
+    requires { ⌜ count ≤ 64 ⌝ }
+{
+    let hours = month_hours(joined);
+    if hours == 0 {
+        return read_ramps(entries, 0, 0, true);
+    }
+    read_ramps(entries, count, hours, true)
+}
+
 // The members' files, then the joined book's calls, then books that add nothing.
 fn list_joined(part: u32, register: Register, joined: &[u8], left: &[u8], before: Counted) {
     let mut c = before;
     let entries = register.entries;
     let count = seen(register.count);
+    let files = files_of(count);
+    if files < count {
+        c.series = 1;
+    }
     let mut series = room();
-    let lengths = read_all(entries, count, true, &mut series);
-    let bad = list_series(entries, count, joined, &series, lengths);
-    c.series = sum(lengths.bad, bad);
-    let ramps = read_ramps(entries, count, month_hours(joined), true);
-    c.ramping = sum(ramps.bad, list_ramping(entries, count, ramps));
+    let lengths = read_all(entries, files, true, &mut series);
+    let bad = list_series(entries, files, joined, &series, lengths);
+    c.series = sum(c.series, sum(lengths.bad, bad));
+    let ramps = ramps_of(entries, files, joined);
+    c.ramping = sum(ramps.bad, list_ramping(entries, files, ramps));
     let d = list_calls(books_at(), left, joined, register, c);
     list_rest(part, register, joined, &series, lengths, ramps, left, d);
 }

@@ -2,6 +2,7 @@
 use clerk::args::first;
 use month::Ramped;
 use month::members::member_compensation;
+use month_files::places::register_at;
 use month_files::ramps::Ramps;
 use month_files::ramps::ramped_at;
 use month_files::ramps::ramping_file_of;
@@ -21,6 +22,7 @@ use share::limits::MOST_COMPENSATION;
 use tally::wrong::tell_series;
 use tray::books::more;
 use tray::books::note_refused;
+use tray::books::note_refused_at;
 
 // That a file of a member is refused, and where.
 fn note_file(name: Name, number: u32, place: usize) {
@@ -118,8 +120,8 @@ pub fn list_ramping(entries: [Entry; MOST_ENTRIES], count: usize, ramps: Ramps) 
     n
 }
 
-// A member's compensation, and one more where it is above what a line may have.
-fn list_high(e: Entry, joined: &[u8], series: &[u32], ramped: Ramped, n: usize) -> usize {
+// The compensation of line i's member, and one more where it is above what a line may have.
+fn list_high(e: Entry, i: usize, joined: &[u8], series: &[u32], ramped: Ramped, n: usize) -> usize {
     let fen = member_compensation(e.member, joined, series, ramped);
     if fen.0 <= MOST_COMPENSATION {
         return n;
@@ -127,6 +129,7 @@ fn list_high(e: Entry, joined: &[u8], series: &[u32], ramped: Ramped, n: usize) 
     let mut out = io::buffer();
     let size = above_text(e.member.number, fen, &mut out);
     say::text(&out[..size]);
+    note_refused_at(register_at(), 10, i);
     more(n)
 }
 
@@ -143,7 +146,7 @@ pub fn list_above(
     let mut i: usize = 0;
     while i < count {
         let own = part_of(lengths, i, series);
-        n = list_high(entry_at(entries, i), joined, own, ramped_at(ramps, i), n);
+        n = list_high(entry_at(entries, i), i, joined, own, ramped_at(ramps, i), n);
         i += 1;
     }
     n

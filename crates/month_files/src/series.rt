@@ -1,6 +1,7 @@
 // The members' series: a file each, read one behind the other into one array.
 use crate::places::folder_at;
 use clerk::args::Held;
+use clerk::args::argument;
 use clerk::args::first;
 use clerk::args::path;
 use clerk::load::load_or;
@@ -55,6 +56,15 @@ fn put_name(name: &[u8], buf: &mut [u8], n: usize)
     requires { ⌜ n + length (now name) ≤ length (now buf) ⌝ }
 {
     bytes::copy(name, &mut buf[n..]);
+}
+
+// Whether the folder of the series has a name that leaves room for a file's.
+pub fn folder_is_named() -> bool {
+    let mut bytes = io::buffer();
+    match argument(folder_at(), &mut bytes) {
+        Held::Bytes(n) => (0 < n) & (n <= MOST_FOLDER),
+        Held::Nothing => false,
+    }
 }
 
 // A file in the folder of the series.

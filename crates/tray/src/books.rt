@@ -59,6 +59,10 @@ fn load_book(i: usize, book: &mut [u8]) -> Held {
         note_at(i, b"too long for a file's name");
         return Held::Nothing;
     };
+    if k == 0 {
+        print::note(b"BOOK", b"an argument is empty, and names no file");
+        return Held::Nothing;
+    }
     load_or(first(&name, k), true, book)
 }
 
@@ -216,9 +220,35 @@ pub fn join_others(from: usize, without: usize, left: &[u8], all: &mut [u8]) -> 
     n
 }
 
-// Whether the books are still what they were: joined again, they are the same bytes.
+// Whether the book that argument i names is still a sound one, unless it is left out.
+fn is_there(i: usize, left: &[u8]) -> bool {
+    if is_left(left, i) {
+        return true;
+    }
+    let mut book = io::large_buffer();
+    let Held::Bytes(n) = take_book(i, left, &mut book) else {
+        return false;
+    };
+    let o = header_of(first(&book, n));
+    o.number == 0
+}
+
+// Whether all of them are.
+fn are_there(from: usize, left: &[u8]) -> bool {
+    let count = os::arg_count();
+    let mut i = from;
+    while i < count {
+        if !is_there(i, left) {
+            return false;
+        }
+        i += 1;
+    }
+    true
+}
+
+// Whether the books are still what they were: all there, and joined again, the same bytes.
 pub fn is_unchanged(from: usize, left: &[u8], joined: &[u8]) -> bool {
     let mut again = io::large_buffer();
     let n = join_others(from, 0, left, &mut again);
-    is_word(first(&again, n), joined)
+    is_word(first(&again, n), joined) & are_there(from, left)
 }
