@@ -1,5 +1,6 @@
-// What every command of the desk needs: its arguments, the files that they name, and what it prints.
+// What every command of the desk needs: how it is called, its arguments, the files that they name, and what it prints.
 pub mod args;
 pub mod print;
 pub mod shelf;
+pub mod usage;
 pub mod wrong;
