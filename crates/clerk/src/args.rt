@@ -129,12 +129,31 @@ pub fn is_start(i: usize, days: u32) -> bool {
     }
 }
 
+// Whether a text is a date by its day, but no month has that day.
+fn is_no_day(text: &[u8]) -> bool {
+    let mark = bytes::scan::find(text, 0, text.len(), b'/');
+    if mark == text.len() {
+        return false;
+    }
+    let Told::Number(day) = tables::number(first(text, mark)) else {
+        return false;
+    };
+    (day == 0) | ((MOST_DAYS as u64) < day)
+}
+
 // Argument i, a start, in a month as long as any.
 pub fn start_at(i: usize) -> Short {
     let mut buf = io::buffer();
     let n = os::arg(i, &mut buf);
     if let Minutes::Number(start) = start_of(MOST_DAYS, &buf[0..n]) {
         return Short::Number(start);
+    }
+    if is_no_day(&buf[0..n]) {
+        print::bad_argument(
+            i,
+            b"no such day: days are counted from 1, and no month has more than 31",
+        );
+        return Short::Nothing;
     }
     print::bad_argument(
         i,

@@ -1,6 +1,8 @@
 // What the program prints, each line whole: at once, or, where lines stand before `ok`, collected on a page, which is written when it is full and at the end. Its last
 // line is `ok`, `unchanged WHY`, `refused N P FILE` or `failed ..`. What a line says is text's and remark's; a name of a file is at most 4,096 bytes, so that every line has room
 // here, and is printed without control characters.
+use crate::args::first;
+use crate::usage::name_of;
 use book::Header;
 use book::MOST_RECORDS;
 use call::Call;
@@ -21,6 +23,7 @@ use text::told::not_higher_text;
 use text::told::note_text;
 use text::told::refused_about_text;
 use text::told::shown_text;
+use text::told::takes_text;
 use text::told::unchanged_text;
 use text::told::usage_text;
 use units::Fen;
@@ -69,17 +72,28 @@ pub fn failed(what: &[u8], why: &[u8]) {
     say::text(&line[..n]);
 }
 
-// An argument that is not taken, and why.
+// An argument that is not taken, by its name in the command's usage, and why.
 pub fn bad_argument(i: usize, why: &[u8]) {
+    let own = name_of(i);
+    let name = own.bytes;
     let mut line = io::large_buffer();
-    let n = bad_argument_text(i, why, &mut line);
+    let n = bad_argument_text(i, first(&name, own.size), why, &mut line);
     say::text(&line[..n]);
 }
 
 // An argument that is no number, or one too large.
 pub fn no_number(i: usize, most: u64) {
+    let own = name_of(i);
+    let name = own.bytes;
     let mut line = io::buffer();
-    let n = no_number_text(i, most, &mut line);
+    let n = no_number_text(i, first(&name, own.size), most, &mut line);
+    say::text(&line[..n]);
+}
+
+// A command that is given more or fewer words than it takes.
+pub fn takes(name: &[u8], more: bool, least: usize, most: usize, given: usize) {
+    let mut line = io::buffer();
+    let n = takes_text(name, more, least, most, given, &mut line);
     say::text(&line[..n]);
 }
 

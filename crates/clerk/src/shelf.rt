@@ -1,6 +1,7 @@
 // Books and other files by their names in the arguments: loaded, checked, stored.
 use crate::args::Held;
 use crate::args::first;
+use crate::args::is_word;
 use crate::args::path;
 use crate::print;
 use crate::wrong::tell_book;
@@ -122,6 +123,22 @@ pub fn is_same(hold: Hold, i: usize) -> bool {
     let n = os::arg(i, &mut buf);
     let node = node_of(&buf[..n]);
     node.is_same(hold.node)
+}
+
+// Whether a whole file begins with a book's mark.
+fn is_marked(bytes: &[u8]) -> bool {
+    is_word(first(bytes, 3), b"NWB")
+}
+
+// The same of the file that argument i names. One that cannot be read, or is longer than any book, is none.
+pub fn is_marked_at(i: usize) -> bool {
+    let mut name = io::buffer();
+    let n = os::arg(i, &mut name);
+    let mut bytes = io::large_buffer();
+    let Loaded::Whole(m) = files::load(&name[..n], &mut bytes) else {
+        return false;
+    };
+    is_marked(first(&bytes, m))
 }
 
 // What the book that argument i names is found to be. A refusal is told.

@@ -1,10 +1,11 @@
--- What the desk prints of one run of a day, byte by byte. Assumes nothing.
+-- What the desk prints of one run of a day, and of the month behind the runs, byte by byte. Assumes nothing.
 use mathlib.Core.List.{List, _++_}
 use Prim.Native.Nat.{ℕ, _+_, _*_, _/_, _%_}
 use Rattle.clock.specs.Clock.{minutesPerHour, twoDigits}
 use Rattle.names.specs.Names.{serviceWord, mostWord}
 use Rattle.render.specs.Decimal.{word, field}
 use Rattle.render.specs.Room.{mostDecimal}
+use Rattle.render.specs.Yuan.{yuanField, pointsField, mostYuan, mostPoints}
 use Rattle.day_runs.specs.declared.runs.DayRun.{DayRun}
 
 -- a minute of the day as hours and minutes, two digits each; the day ends at 24:00
@@ -27,6 +28,18 @@ paysText r = field " output " (r .output .0) ++ field " minute " (r .minute .0) 
 unfoldable pub runText : DayRun → List ℕ
 runText r = spanText r ++ windowText r ++ paysText r
 
+-- what the month pays, behind the runs: its grains, and in points
+unfoldable pub grainsText : ℕ → ℕ → List ℕ
+grainsText grains fen = field "month grains " grains ++ pointsField " (" fen ++ word " points)\n"
+
+-- its fen, and in yuan
+unfoldable pub fenText : ℕ → List ℕ
+fenText fen = field "month fen " fen ++ yuanField " (" fen ++ word " yuan)\n"
+
+-- both, a line each
+unfoldable pub monthText : ℕ → ℕ → List ℕ
+monthText grains fen = grainsText grains fen ++ fenText fen
+
 -- The most bytes of each
 
 abbrev pub mostTime : ℕ
@@ -46,3 +59,13 @@ mostPays = 8 + mostDecimal + 8 + mostDecimal + 5 + mostDecimal + 1
 
 abbrev pub mostRun : ℕ
 mostRun = mostSpan + mostWindow + mostPays
+
+-- `month grains `, a number, points in brackets and a line feed; `month fen `, a number, yuan in brackets and a line feed
+abbrev pub mostGrains : ℕ
+mostGrains = 13 + mostDecimal + 2 + mostPoints + 9
+
+abbrev pub mostFen : ℕ
+mostFen = 10 + mostDecimal + 2 + mostYuan + 7
+
+abbrev pub mostMonth : ℕ
+mostMonth = mostGrains + mostFen

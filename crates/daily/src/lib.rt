@@ -1,9 +1,13 @@
-// What the desk prints of one run of a day: a line in a buffer that the caller lends. It answers how long the line is; 0, and the buffer is left alone, where that is
-// shorter than the most bytes that such a line may have.
+// What the desk prints of one run of a day, and of the month behind the runs: lines in a buffer that the caller lends. Each function answers how long its
+// text is; 0, and the buffer is left alone, where that is shorter than the most bytes that such a text may have.
 use day_runs::runs::DayRun;
 use names::put_service;
 use render::put_field;
 use render::put_word;
+use render::yuan::put_points_field;
+use render::yuan::put_yuan_field;
+use units::Fen;
+use units::Grains;
 ghost use mathlib.Core.Path.{_≡_};
 ghost use Prim.Native.Nat.{_+_, _%_, _≤_};
 ghost use lib.ListN.{length};
@@ -11,10 +15,14 @@ ghost use Rattle.io.specs.Counts.{Counts};
 ghost use Rattle.render.specs.Decimal.{digit};
 ghost use Rattle.render.specs.Inner.{Puts};
 ghost use Rattle.render.specs.Room.{Renders};
+ghost use Rattle.daily.specs.Daily.{grainsText, fenText, monthText, mostGrains, mostFen, mostMonth};
 ghost use Rattle.daily.specs.Daily.{timeText, spanText, windowText, paysText, runText, mostTime, mostSpan, mostWindow, mostPays, mostRun};
 
 // The most bytes of a run.
 pub const MOST_RUN: usize = 144;
+
+// The most bytes of the month's two lines.
+pub const MOST_MONTH: usize = 132;
 
 // The last digit of a number.
 fn last_digit(n: u16) -> u8
@@ -84,4 +92,41 @@ pub fn run_text(r: DayRun, out: &mut [u8]) -> usize
         return 0;
     }
     put_run(out, r)
+}
+
+fn put_grains(out: &mut [u8], grains: Grains, fen: Fen) -> usize
+    requires { ⌜ mostGrains ≤ length (now out) ⌝ }
+    ensures { λ q. ⌜ Puts mostGrains (now (out .entry)) 0 (grainsText (grains .0) (fen .0)) (now (out .exit)) q ⌝ }
+{
+    let a = put_field(out, 0, b"month grains ", grains.0);
+    let b = put_points_field(out, a, b" (", fen.0);
+    put_word(out, b, b" points)\n")
+}
+
+fn put_fen(out: &mut [u8], at: usize, fen: Fen) -> usize
+    requires { ⌜ at + mostFen ≤ length (now out) ⌝ }
+    ensures { λ q. ⌜ Puts mostFen (now (out .entry)) at (fenText (fen .0)) (now (out .exit)) q ⌝ }
+{
+    let a = put_field(out, at, b"month fen ", fen.0);
+    let b = put_yuan_field(out, a, b" (", fen.0);
+    put_word(out, b, b" yuan)\n")
+}
+
+fn put_month(out: &mut [u8], grains: Grains, fen: Fen) -> usize
+    requires { ⌜ mostMonth ≤ length (now out) ⌝ }
+    ensures { λ q. ⌜ Puts mostMonth (now (out .entry)) 0 (monthText (grains .0) (fen .0)) (now (out .exit)) q ⌝ }
+{
+    let a = put_grains(out, grains, fen);
+    put_fen(out, a, fen)
+}
+
+// What the month pays: its grains, in points too, and its fen, in yuan too, a line each.
+pub fn month_text(grains: Grains, fen: Fen, out: &mut [u8]) -> usize
+    ensures { λ q. ⌜ Renders mostMonth (monthText (grains .0) (fen .0)) (now (out .entry)) (now (out .exit)) q ⌝ }
+    ensures { λ q. ⌜ Counts q (now (out .exit)) ⌝ }
+{
+    if out.len() < MOST_MONTH {
+        return 0;
+    }
+    put_month(out, grains, fen)
 }

@@ -2,8 +2,12 @@
 use clerk::args::Held;
 use clerk::args::argument;
 use clerk::args::first;
-use clerk::args::is_word;
 use clerk::print;
+use clerk::usage::Command;
+use clerk::usage::command_of;
+use clerk::usage::is_called;
+use clerk::usage::tell_usage;
+use clerk::usage::tell_usages;
 use closing::list_drawer;
 use ledger::books::check_book;
 use ledger::books::find_call;
@@ -20,30 +24,6 @@ use tally::member::score_member;
 use tally::minutes::reckon_member;
 use yearly::tell_year;
 
-enum Command {
-    Check,
-    Show,
-    New,
-    Enter,
-    Revise,
-    Withdraw,
-    Join,
-    Find,
-    Score,
-    Reckon,
-    Ramp,
-    Month,
-    Year,
-    Drawer,
-    Explain,
-    Help,
-    Version,
-    Unknown,
-}
-
-// As many books as are named.
-const MANY: usize = 65536;
-
 fn main() {
     let mut word = io::buffer();
     if os::arg_count() < 2 {
@@ -51,103 +31,18 @@ fn main() {
         return;
     }
     let Held::Bytes(n) = argument(1, &mut word) else {
-        unknown();
+        unknown(b"");
         return;
     };
     run(first(&word, n));
 }
 
-// Every command, a row each: its usage, which begins with its word, and how many words there are with it at least and at most, `desk` among
-// them. Says which command a word is; or, where the usage is asked, prints the word's row, and all of them for no word.
-fn rows(usage: bool, word: &[u8]) -> Command {
-    if row(usage, word, b"check BOOK", 3, 3) {
-        return Command::Check;
-    }
-    if row(usage, word, b"show BOOK", 3, 3) {
-        return Command::Show;
-    }
-    if row(usage, word, b"new OUT AREA YEAR MONTH", 6, 6) {
-        return Command::New;
-    }
-    let entering = b"enter OUT BOOK MEMBER CALL SERVICE START LENGTH A B C";
-    if row(usage, word, entering, 12, 12) {
-        return Command::Enter;
-    }
-    let revising = b"revise OUT BOOK MEMBER CALL REVISION SERVICE START LENGTH A B C";
-    if row(usage, word, revising, 13, 13) {
-        return Command::Revise;
-    }
-    let withdrawing = b"withdraw OUT BOOK MEMBER CALL [REVISION]";
-    if row(usage, word, withdrawing, 6, 7) {
-        return Command::Withdraw;
-    }
-    if row(usage, word, b"join [-f] OUT BOOK..", 4, MANY) {
-        return Command::Join;
-    }
-    if row(usage, word, b"find FIRST SECOND MEMBER CALL", 6, 6) {
-        return Command::Find;
-    }
-    if row(usage, word, b"score MEMBER KIND RATED BOOK SERIES", 7, 7) {
-        return Command::Score;
-    }
-    let reckoning = b"reckon MEMBER KIND RATED BOOK SERIES DAY";
-    if row(usage, word, reckoning, 8, 8) {
-        return Command::Reckon;
-    }
-    if row(usage, word, b"ramp MEMBER KIND RATED FILE", 6, 6) {
-        return Command::Ramp;
-    }
-    let month = b"month STATEMENT PART REGISTER SERIES-FOLDER BOOK..";
-    if row(usage, word, month, 7, MANY) {
-        return Command::Month;
-    }
-    if row(usage, word, b"year STATEMENT..", 3, MANY) {
-        return Command::Year;
-    }
-    let drawer = b"drawer PART REGISTER SERIES-FOLDER BOOK..";
-    if row(usage, word, drawer, 6, MANY) {
-        return Command::Drawer;
-    }
-    let why = b"explain MEMBER REGISTER SERIES-FOLDER BOOK..";
-    if row(usage, word, why, 6, MANY) {
-        return Command::Explain;
-    }
-    last_rows(word)
-}
-
-// The rows that no usage has.
-fn last_rows(word: &[u8]) -> Command {
-    if row(false, word, b"help", 2, 3) {
-        return Command::Help;
-    }
-    if row(false, word, b"--help", 2, 3) {
-        return Command::Help;
-    }
-    if row(false, word, b"-h", 2, 3) {
-        return Command::Help;
-    }
-    if row(false, word, b"--version", 2, 2) {
-        return Command::Version;
-    }
-    Command::Unknown
-}
-
-// One row: whether the word is its, and the number of arguments too; where the usage is asked, it is printed for its word or for none.
-fn row(usage: bool, word: &[u8], line: &[u8], least: usize, most: usize) -> bool {
-    let name = first(line, bytes::scan::find(line, 0, line.len(), b' '));
-    let its = is_word(word, name);
-    if usage {
-        if its | (word.len() == 0) {
-            print::usage(line);
-        }
-        return its;
-    }
-    let count = os::arg_count();
-    its & (least <= count) & (count <= most)
-}
-
 fn run(word: &[u8]) {
-    match rows(false, word) {
+    let command = command_of(word);
+    if !is_called(command) {
+        return;
+    }
+    match command {
         Command::Check => check_book(),
         Command::Show => show_book(),
         Command::New => new_book(),
@@ -165,7 +60,7 @@ fn run(word: &[u8]) {
         Command::Explain => explain_member(),
         Command::Help => help_with(),
         Command::Version => tell_version(),
-        Command::Unknown => unknown(),
+        Command::Unknown => unknown(word),
     }
 }
 
@@ -183,7 +78,7 @@ fn tell_words() {
 }
 
 fn help() {
-    rows(true, b"");
+    tell_usages();
     tell_words();
     print::done();
 }
@@ -196,18 +91,15 @@ fn help_with() {
     }
     let mut word = io::buffer();
     let Held::Bytes(n) = argument(2, &mut word) else {
-        unknown();
+        unknown(b"");
         return;
     };
-    if n == 0 {
-        unknown();
-        return;
-    }
-    let command = rows(true, first(&word, n));
+    let command = command_of(first(&word, n));
     if let Command::Unknown = command {
-        unknown();
+        unknown(first(&word, n));
         return;
     }
+    tell_usage(command);
     print::done();
 }
 
@@ -216,7 +108,8 @@ fn tell_version() {
     print::done();
 }
 
-fn unknown() {
-    rows(true, b"");
-    print::failed(b"", b"unknown command, or not as many words as it takes");
+// A word that is no command.
+fn unknown(word: &[u8]) {
+    tell_usages();
+    print::failed(word, b"no such command");
 }

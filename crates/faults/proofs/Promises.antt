@@ -48,7 +48,7 @@ unfolding columnFault isSound
 column-split column least most n h = go (ltb ceiling n) (leb least n) refl (leb n most) refl h
   where
     go : (t u : Bool) → leb least n ≡ u → (v : Bool) → leb n most ≡ v
-        → isSound (cond t (Wrong.NoNumber column) (cond (u && v) Wrong.Sound (Wrong.Outside column n least most))) ≡ true → (leb least n ≡ true) × (leb n most ≡ true)
+        → isSound (cond t (Wrong.NoNumber column least most) (cond (u && v) Wrong.Sound (Wrong.Outside column n least most))) ≡ true → (leb least n ≡ true) × (leb n most ≡ true)
     go true u e v f k = absurd (holds-or-fails k refl)
     go false true e true f k = (e, f)
     go false true e false f k = absurd (holds-or-fails k refl)

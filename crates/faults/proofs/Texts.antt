@@ -5,7 +5,7 @@ use Prim.Native.Nat.{ℕ, _/_, _≤_, _<_}
 use borrow.Author.Tests.{eq-eqb, ne-eqb, lt-ltb, le-ltb}
 use Rattle.row.specs.Numbers.{ceiling}
 use Rattle.render.specs.Decimal.{word, decimal, field}
-use Rattle.faults.specs.Words.{columnName, numberText, cellsText, thousandText, grouped}
+use Rattle.faults.specs.Words.{columnName, numberText, cellsText, partedText, neitherText, linesText, thousandText, grouped}
 
 module _ (column : ℕ) where
   pub name-1 : column ≡ 1 → word "MEMBER" ≡ columnName column
@@ -69,3 +69,29 @@ module _ (n : ℕ) where
   pub grouped-large : 1000 ≤ n → decimal (n / 1000) ++ thousandText n ≡ grouped n
   unfolding grouped
   grouped-large h = rw (le-ltb n 1000 h)
+
+  pub lines-1 : n ≡ 1 → word " line, " ≡ linesText n
+  unfolding linesText
+  lines-1 e = rw (eq-eqb n 1 e)
+
+  pub lines-other : (n ≡ 1 → ⊥) → word " lines, " ≡ linesText n
+  unfolding linesText
+  lines-other n1 = rw (ne-eqb n 1 n1)
+
+module _ (n wanted : ℕ) where
+  pub parted-more : wanted < n → word " (a separator inside a number parts it, in quotes too)" ≡ partedText n wanted
+  unfolding partedText
+  parted-more h = rw (lt-ltb wanted n h)
+
+  pub parted-fewer : n ≤ wanted → [] ≡ partedText n wanted
+  unfolding partedText
+  parted-fewer h = rw (le-ltb wanted n h)
+
+module _ (column least most : ℕ) where
+  pub neither-limit : column ≡ 7 → field " is neither a number from " least ++ field " to " most ++ word " nor - for none" ≡ neitherText column least most
+  unfolding neitherText
+  neither-limit e = rw (eq-eqb column 7 e)
+
+  pub neither-other : (column ≡ 7 → ⊥) → field " is no number from " least ++ field " to " most ≡ neitherText column least most
+  unfolding neitherText
+  neither-other n7 = rw (ne-eqb column 7 n7)

@@ -25,7 +25,7 @@ use Rattle.faults.specs.declared.Found.{Found}
 
 -- what its cell says is a number, and within limits
 unfoldable pub columnFault : ℕ → ℕ → ℕ → ℕ → Wrong
-columnFault column least most n = cond (ltb ceiling n) (NoNumber column) (cond (leb least n && leb n most) Sound (Outside column n least most))
+columnFault column least most n = cond (ltb ceiling n) (NoNumber column least most) (cond (leb least n && leb n most) Sound (Outside column n least most))
 
 -- what the limit's cell says is none, or a number within limits
 unfoldable pub limitFault : ℕ → Wrong
@@ -36,7 +36,7 @@ unfoldable pub isSound : Wrong → Bool
 isSound Sound = true
 isSound Blank = false
 isSound (Columns n wanted) = false
-isSound (NoNumber column) = false
+isSound (NoNumber column least most) = false
 isSound (Outside column n least most) = false
 isSound (NotAbove n before) = false
 

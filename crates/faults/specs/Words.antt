@@ -40,13 +40,27 @@ limitsText least most = field " is none of " least ++ field " to " most
 unfoldable pub cellsText : ℕ → List ℕ
 cellsText n = decimal n ++ cond (eqb n 1) (word " cell") (cond (eqb n mostColumns) (word " cells or more") (word " cells"))
 
+-- where they are too many, that a separator parts a number, also where it is quoted
+unfoldable pub partedText : ℕ → ℕ → List ℕ
+partedText n wanted = cond (ltb wanted n) (word " (a separator inside a number parts it, in quotes too)") []
+
 -- more cells or fewer than a line has
 unfoldable pub columnsText : ℕ → ℕ → List ℕ
-columnsText n wanted = cellsText n ++ field ", a line has " wanted
+columnsText n wanted = cellsText n ++ field ", a line has " wanted ++ partedText n wanted
+
+-- the column of a register that may say that there is none, by `-`
+abbrev pub limitColumn : ℕ
+limitColumn = 7
+
+-- that a cell is no number, and which it could be
+unfoldable pub neitherText : ℕ → ℕ → ℕ → List ℕ
+neitherText column least most =
+    cond (eqb column limitColumn) (field " is neither a number from " least ++ field " to " most ++ word " nor - for none")
+    (field " is no number from " least ++ field " to " most)
 
 -- a cell that is no number
-unfoldable pub noNumberText : Table → ℕ → List ℕ
-noNumberText table column = columnText table column ++ word " is no number"
+unfoldable pub noNumberText : Table → ℕ → ℕ → ℕ → List ℕ
+noNumberText table column least most = columnText table column ++ neitherText column least most
 
 -- a number outside its limits
 unfoldable pub outsideText : Table → ℕ → ℕ → ℕ → ℕ → List ℕ
@@ -61,7 +75,7 @@ abbrev pub wrongText : Table → Wrong → List ℕ
 wrongText table Sound = []
 wrongText table Blank = word "blank, and a line stands behind it"
 wrongText table (Columns n wanted) = columnsText n wanted
-wrongText table (NoNumber column) = noNumberText table column
+wrongText table (NoNumber column least most) = noNumberText table column least most
 wrongText table (Outside column n least most) = outsideText table column n least most
 wrongText table (NotAbove n before) = notAboveText n before
 
@@ -95,9 +109,13 @@ whoseText year month = monthWord month ++ field " " year
 unfoldable pub wantedText : ℕ → ℕ → ℕ → List ℕ
 wantedText year month wanted = whoseText year month ++ hasText wanted ++ word "\n"
 
+-- one line, or more
+unfoldable pub linesText : ℕ → List ℕ
+linesText n = cond (eqb n 1) (word " line, ") (word " lines, ")
+
 -- A FILE OF SO MANY LINES, and so many the month has
 unfoldable pub countText : List ℕ → ℕ → ℕ → ℕ → ℕ → List ℕ
-countText name count year month wanted = name ++ hasText count ++ word " lines, " ++ wantedText year month wanted
+countText name count year month wanted = name ++ hasText count ++ linesText count ++ wantedText year month wanted
 
 -- The most bytes of each
 
@@ -116,8 +134,14 @@ mostLimits = 16 + 2 * mostDecimal
 abbrev pub mostCells : ℕ
 mostCells = 14 + mostDecimal
 
+abbrev pub mostParted : ℕ
+mostParted = 54
+
+abbrev pub mostNeither : ℕ
+mostNeither = 26 + mostDecimal + 4 + mostDecimal + 15
+
 abbrev pub mostWrong : ℕ
-mostWrong = mostColumn + mostNumber + mostLimits
+mostWrong = mostColumn + mostNeither
 
 abbrev pub mostGrouped : ℕ
 mostGrouped = 4 + mostDecimal
@@ -134,9 +158,12 @@ mostWanted = mostWhose + mostHas + 1
 abbrev pub mostLine : ℕ
 mostLine = 8 + mostDecimal
 
+abbrev pub mostLines : ℕ
+mostLines = 8
+
 -- besides these bytes the file's name
 abbrev pub mostFault : List ℕ → ℕ
 mostFault name = 1 + mostLine + mostWrong + length name
 
 abbrev pub mostCount : List ℕ → ℕ
-mostCount name = 8 + mostHas + mostWanted + length name
+mostCount name = mostLines + mostHas + mostWanted + length name

@@ -22,13 +22,13 @@ pub enum Table {
     Series,
 }
 
-// What is wrong with a line: nothing; it is blank, with another behind it; so many cells, and so many that it should have; a column, counted from 1, that has no number;
-// one whose number is outside its limits, with these; a member's number that is not above the one before it.
+// What is wrong with a line: nothing; it is blank, with another behind it; so many cells, and so many that it should have; a column, counted from 1, that has no number,
+// or one outside its limits, with these; a member's number that is not above the one before it.
 pub enum Wrong {
     Sound,
     Blank,
     Columns(usize, usize),
-    NoNumber(usize),
+    NoNumber(usize, u64, u64),
     Outside(usize, u64, u64, u64),
     NotAbove(u64, u64),
 }
@@ -67,7 +67,7 @@ pub fn is_sound(wrong: Wrong) -> bool
         Wrong::Sound => true,
         Wrong::Blank => false,
         Wrong::Columns(_, _) => false,
-        Wrong::NoNumber(_) => false,
+        Wrong::NoNumber(_, _, _) => false,
         Wrong::Outside(_, _, _, _) => false,
         Wrong::NotAbove(_, _) => false,
     }
@@ -77,7 +77,7 @@ fn column_fault(column: usize, least: u64, most: u64, n: u64) -> Wrong
     ensures { λ r. ⌜ r ≡ columnFault column least most n ⌝ }
 {
     if CEILING < n {
-        return Wrong::NoNumber(column);
+        return Wrong::NoNumber(column, least, most);
     }
     if (least <= n) & (n <= most) {
         return Wrong::Sound;

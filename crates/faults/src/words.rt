@@ -14,14 +14,18 @@ ghost use lib.ListN.{length};
 ghost use Rattle.io.specs.Counts.{Counts};
 ghost use Rattle.render.specs.Inner.{Puts};
 ghost use Rattle.render.specs.Room.{Renders};
-ghost use Rattle.faults.specs.Words.{columnName, columnText, numberText, limitsText, cellsText, columnsText, noNumberText, outsideText, notAboveText, wrongText, lineText};
-ghost use Rattle.faults.specs.Words.{faultText, thousandText, grouped, hasText, whoseText, wantedText, countText};
-ghost use Rattle.faults.specs.Words.{mostName, mostColumn, mostNumber, mostLimits, mostCells, mostWrong, mostLine, mostFault, mostGrouped, mostHas, mostWhose, mostWanted, mostCount};
+ghost use Rattle.faults.specs.Words.{columnName, columnText, numberText, limitsText, cellsText, partedText, columnsText, neitherText, noNumberText, outsideText, notAboveText, wrongText, lineText};
+ghost use Rattle.faults.specs.Words.{faultText, thousandText, grouped, hasText, whoseText, wantedText, linesText, countText};
+ghost use Rattle.faults.specs.Words.{mostName, mostColumn, mostNumber, mostLimits, mostCells, mostParted, mostNeither, mostWrong, mostLine, mostFault};
+ghost use Rattle.faults.specs.Words.{mostGrouped, mostHas, mostWhose, mostWanted, mostLines, mostCount};
 
 // The most bytes of a fault's line and of a count's, but for the file's name.
-const MOST_FAULT: usize = 146;
+const MOST_FAULT: usize = 154;
 
 const MOST_COUNT: usize = 104;
+
+// The column of a register that may say that there is none.
+const LIMIT_COLUMN: usize = 7;
 
 fn put_name(out: &mut [u8], at: usize, column: usize) -> usize
     requires { ⌜ at + mostName ≤ length (now out) ⌝ }
@@ -96,21 +100,58 @@ fn put_cells(out: &mut [u8], at: usize, n: usize) -> usize
     put_word(out, a, b" cells")
 }
 
+// Of too many cells, where they may come from.
+fn put_parted(out: &mut [u8], at: usize, n: usize, wanted: usize) -> usize
+    requires { ⌜ at + mostParted ≤ length (now out) ⌝ }
+    ensures { λ r. ⌜ Puts mostParted (now (out .entry)) at (partedText n wanted) (now (out .exit)) r ⌝ }
+{
+    if wanted < n {
+        return put_word(
+            out,
+            at,
+            b" (a separator inside a number parts it, in quotes too)",
+        );
+    }
+    put_word(out, at, b"")
+}
+
 // The cells that a line has, and how many it should have.
 fn put_columns(out: &mut [u8], at: usize, n: usize, wanted: usize) -> usize
     requires { ⌜ at + mostWrong ≤ length (now out) ⌝ }
     ensures { λ r. ⌜ Puts mostWrong (now (out .entry)) at (columnsText n wanted) (now (out .exit)) r ⌝ }
 {
     let a = put_cells(out, at, n);
-    put_field(out, a, b", a line has ", wanted as u64)
+    let b = put_field(out, a, b", a line has ", wanted as u64);
+    put_parted(out, b, n, wanted)
 }
 
-fn put_no_number(out: &mut [u8], at: usize, table: Table, column: usize) -> usize
+// That a cell is no number, and which it could be.
+fn put_neither(out: &mut [u8], at: usize, column: usize, least: u64, most: u64) -> usize
+    requires { ⌜ at + mostNeither ≤ length (now out) ⌝ }
+    ensures { λ r. ⌜ Puts mostNeither (now (out .entry)) at (neitherText column least most) (now (out .exit)) r ⌝ }
+{
+    if column == LIMIT_COLUMN {
+        let a = put_field(out, at, b" is neither a number from ", least);
+        let b = put_field(out, a, b" to ", most);
+        return put_word(out, b, b" nor - for none");
+    }
+    let c = put_field(out, at, b" is no number from ", least);
+    put_field(out, c, b" to ", most)
+}
+
+fn put_no_number(
+    out: &mut [u8],
+    at: usize,
+    table: Table,
+    column: usize,
+    least: u64,
+    most: u64,
+) -> usize
     requires { ⌜ at + mostWrong ≤ length (now out) ⌝ }
-    ensures { λ r. ⌜ Puts mostWrong (now (out .entry)) at (noNumberText table column) (now (out .exit)) r ⌝ }
+    ensures { λ r. ⌜ Puts mostWrong (now (out .entry)) at (noNumberText table column least most) (now (out .exit)) r ⌝ }
 {
     let a = put_column(out, at, table, column);
-    put_word(out, a, b" is no number")
+    put_neither(out, a, column, least, most)
 }
 
 fn put_outside(
@@ -147,7 +188,9 @@ fn put_wrong(out: &mut [u8], at: usize, table: Table, wrong: Wrong) -> usize
         Wrong::Sound => put_word(out, at, b""),
         Wrong::Blank => put_word(out, at, b"blank, and a line stands behind it"),
         Wrong::Columns(n, wanted) => put_columns(out, at, n, wanted),
-        Wrong::NoNumber(column) => put_no_number(out, at, table, column),
+        Wrong::NoNumber(column, least, most) => {
+            put_no_number(out, at, table, column, least, most)
+        }
         Wrong::Outside(column, n, least, most) => {
             put_outside(out, at, table, column, n, least, most)
         }
@@ -240,13 +283,23 @@ fn put_wanted(out: &mut [u8], at: usize, year: u16, month: u8, wanted: u64) -> u
     put_word(out, b, b"\n")
 }
 
+fn put_lines(out: &mut [u8], at: usize, n: u64) -> usize
+    requires { ⌜ at + mostLines ≤ length (now out) ⌝ }
+    ensures { λ r. ⌜ Puts mostLines (now (out .entry)) at (linesText n) (now (out .exit)) r ⌝ }
+{
+    if n == 1 {
+        return put_word(out, at, b" line, ");
+    }
+    put_word(out, at, b" lines, ")
+}
+
 fn put_count(out: &mut [u8], name: &[u8], count: u64, year: u16, month: u8, wanted: u64) -> usize
     requires { ⌜ mostCount (now name) ≤ length (now out) ⌝ }
     ensures { λ r. ⌜ Puts (mostCount (now (name .entry))) (now (out .entry)) 0 (countText (now (name .entry)) count year month wanted) (now (out .exit)) r ⌝ }
 {
     let a = put_word(out, 0, name);
     let b = put_has(out, a, count);
-    let c = put_word(out, b, b" lines, ");
+    let c = put_lines(out, b, count);
     put_wanted(out, c, year, month, wanted)
 }
 

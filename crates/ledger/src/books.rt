@@ -13,6 +13,7 @@ use clerk::args::short_at;
 use clerk::print;
 use clerk::shelf::hold_at;
 use clerk::shelf::is_held;
+use clerk::shelf::is_marked_at;
 use clerk::shelf::is_same;
 use clerk::shelf::load_at;
 use clerk::shelf::note_at;
@@ -202,7 +203,20 @@ fn join_held(hold: Hold, out: usize)
     }
 }
 
-// The books behind argument `out`, joined as the file that it names, which is held from before they are read; it may be there only where it is one of them, or where that is asked for.
+// The same over a file that is none of the books, where that is asked for: it has to be a book by its mark, so that a slip costs no other file.
+fn join_over(hold: Hold, out: usize)
+    requires { ⌜ out < 9 ⌝ }
+{
+    if is_marked_at(out) {
+        join_held(hold, out);
+        return;
+    }
+    tell_failed(out, b"is no book, and join -f writes over books alone");
+    files::release(hold);
+}
+
+// The books behind argument `out`, joined as the file that it names, which is held from before they are read; it may be there only where it is one of them, or where it is a book and
+// that is asked for.
 fn join_to(out: usize, forced: bool)
     requires { ⌜ out < 9 ⌝ }
 {
@@ -215,13 +229,17 @@ fn join_to(out: usize, forced: bool)
         return;
     }
     let node = hold.node;
-    if !node.there | forced | is_named(hold, out + 1) {
+    if !node.there | is_named(hold, out + 1) {
         join_held(hold, out);
+        return;
+    }
+    if forced {
+        join_over(hold, out);
         return;
     }
     tell_failed(
         out,
-        b"is there already, and is none of the books (join -f writes over it)",
+        b"is there already, and is none of the books (join -f writes over a book)",
     );
     files::release(hold);
 }

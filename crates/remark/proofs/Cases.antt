@@ -15,7 +15,7 @@ use Rattle.call.specs.Limits.{limitsOf}
 use Rattle.field.specs.declared.Field.{Field}
 use Rattle.names.specs.Names.{serviceWord}
 use Rattle.render.specs.Decimal.{word, field, signedField}
-use Rattle.remark.specs.Remarks.{notNamedText, boundText, serviceWhy, startWhy, lengthWhy, aWhy, headText, whyText, withText, overlapText, secondText, clashText}
+use Rattle.remark.specs.Remarks.{notNamedText, boundText, serviceWhy, startWhy, lengthWhy, aWhy, headText, whyText, withText, reserveWanted, wantedText, overlapText, secondText, clashText}
 
 -- A bad field
 
@@ -119,3 +119,62 @@ module _ (x : Call) where
   pub a-second : (y : Call) → 4 < x .service → secondText x ++ field " of the month, beside call " (y .number) ++ word "\n" ≡ clashText x y
   unfolding clashText
   a-second y h = rw (lt-leb (x .service) 4 h)
+
+-- what is open instead
+module _ (kind : ℕ) where
+  pub reserve-1 : kind ≡ 1 → word ": coal has A from 1 to its rating" ≡ reserveWanted kind
+  unfolding reserveWanted
+  reserve-1 e = rw (eq-eqb kind 1 e)
+
+  module _ (n1 : kind ≢ 1) where
+    pub reserve-2 : kind ≡ 2 → word ": gas has A 0" ≡ reserveWanted kind
+    unfolding reserveWanted
+    reserve-2 e = rw (ne-eqb kind 1 n1, eq-eqb kind 2 e)
+
+    module _ (n2 : kind ≢ 2) where
+      pub reserve-3 : kind ≡ 3 → word ": hydro has A 0" ≡ reserveWanted kind
+      unfolding reserveWanted
+      reserve-3 e = rw (ne-eqb kind 1 n1, ne-eqb kind 2 n2, eq-eqb kind 3 e)
+
+      pub reserve-other : kind ≢ 3 → word ": only coal, gas and hydro have it" ≡ reserveWanted kind
+      unfolding reserveWanted
+      reserve-other n3 = rw (ne-eqb kind 1 n1, ne-eqb kind 2 n2, ne-eqb kind 3 n3)
+
+module _ (service kind : ℕ) where
+  pub wanted-1 : service ≡ 1 → word ": only coal has it" ≡ wantedText service kind
+  unfolding wantedText
+  wanted-1 e = rw (eq-eqb service 1 e)
+
+  module _ (n1 : service ≢ 1) where
+    pub wanted-2 : service ≡ 2 → reserveWanted kind ≡ wantedText service kind
+    unfolding wantedText
+    wanted-2 e = rw (ne-eqb service 1 n1, eq-eqb service 2 e)
+
+    module _ (n2 : service ≢ 2) where
+      pub wanted-3 : service ≡ 3 → word ": only coal, gas and hydro have it" ≡ wantedText service kind
+      unfolding wantedText
+      wanted-3 e = rw (ne-eqb service 1 n1, ne-eqb service 2 n2, eq-eqb service 3 e)
+
+      module _ (n3 : service ≢ 3) where
+        pub wanted-4 : service ≡ 4 → word ": only coal has it" ≡ wantedText service kind
+        unfolding wantedText
+        wanted-4 e = rw (ne-eqb service 1 n1, ne-eqb service 2 n2, ne-eqb service 3 n3, eq-eqb service 4 e)
+
+        module _ (n4 : service ≢ 4) where
+          pub wanted-5 : service ≡ 5 → word ": it is bought by auction from January 2027 on; withdraw the call" ≡ wantedText service kind
+          unfolding wantedText
+          wanted-5 e = rw (ne-eqb service 1 n1, ne-eqb service 2 n2, ne-eqb service 3 n3, ne-eqb service 4 n4, eq-eqb service 5 e)
+
+          module _ (n5 : service ≢ 5) where
+            pub wanted-6 : service ≡ 6 → word ": all kinds but wind and photovoltaic have it" ≡ wantedText service kind
+            unfolding wantedText
+            wanted-6 e = rw (ne-eqb service 1 n1, ne-eqb service 2 n2, ne-eqb service 3 n3, ne-eqb service 4 n4, ne-eqb service 5 n5, eq-eqb service 6 e)
+
+            module _ (n6 : service ≢ 6) where
+              pub wanted-8 : service ≡ 8 → word ": wind and photovoltaic have A 0 and B up to 10000" ≡ wantedText service kind
+              unfolding wantedText
+              wanted-8 e = rw (ne-eqb service 1 n1, ne-eqb service 2 n2, ne-eqb service 3 n3, ne-eqb service 4 n4, ne-eqb service 5 n5, ne-eqb service 6 n6, eq-eqb service 8 e)
+
+              pub wanted-other : service ≢ 8 → [] ≡ wantedText service kind
+              unfolding wantedText
+              wanted-other n8 = rw (ne-eqb service 1 n1, ne-eqb service 2 n2, ne-eqb service 3 n3, ne-eqb service 4 n4, ne-eqb service 5 n5, ne-eqb service 6 n6, ne-eqb service 8 n8)

@@ -11,7 +11,8 @@ use Rattle.call.specs.declared.Call.{Call}
 use Rattle.call.specs.declared.service.Limits.{Limits}
 use Rattle.call.specs.Revising.{live}
 use Rattle.call.specs.Limits.{limitsOf}
-use Rattle.call.specs.Services.{reserve, standby, frequencyEvent}
+use Rattle.call.specs.Services.{deepPeak, reserve, startStop, standby, blackStart, agcAvailability, frequencyEvent}
+use Rattle.pay.specs.Kinds.{coal, gas, hydro}
 use Rattle.book.specs.declared.Header.{Header}
 use Rattle.field.specs.declared.Field.{Field}
 use Rattle.field.specs.declared.Field.the-variants.{NoField, Participant, State, Service, Revision, Start, Length, A, B, C, Reserved}
@@ -133,9 +134,29 @@ plantText kind rated = kindWord kind ++ field " of " rated ++ word " kW"
 unfoldable pub closedText : ℕ → ℕ → Header → List ℕ
 closedText kind rated h = word " is not open to " ++ plantText kind rated ++ word " in " ++ monthText h
 
--- 12: what is not open to the plant in the month
+-- which reserve is open to a kind
+unfoldable pub reserveWanted : ℕ → List ℕ
+reserveWanted kind =
+    cond (eqb kind coal) (word ": coal has A from 1 to its rating")
+    (cond (eqb kind gas) (word ": gas has A 0")
+    (cond (eqb kind hydro) (word ": hydro has A 0")
+    (word ": only coal, gas and hydro have it")))
+
+-- what is open instead, by the service and the kind that it is closed to; 7, 9 and 10 are closed to none
+unfoldable pub wantedText : ℕ → ℕ → List ℕ
+wantedText service kind =
+    cond (eqb service deepPeak) (word ": only coal has it")
+    (cond (eqb service reserve) (reserveWanted kind)
+    (cond (eqb service startStop) (word ": only coal, gas and hydro have it")
+    (cond (eqb service standby) (word ": only coal has it")
+    (cond (eqb service blackStart) (word ": it is bought by auction from January 2027 on; withdraw the call")
+    (cond (eqb service agcAvailability) (word ": all kinds but wind and photovoltaic have it")
+    (cond (eqb service frequencyEvent) (word ": wind and photovoltaic have A 0 and B up to 10000")
+    []))))))
+
+-- 12: what is not open to the plant in the month, and what is
 unfoldable pub notOpenText : Call → ℕ → ℕ → Header → List ℕ
-notOpenText c kind rated h = askedText c ++ closedText kind rated h ++ word "\n"
+notOpenText c kind rated h = askedText c ++ closedText kind rated h ++ wantedText (c .service) kind ++ word "\n"
 
 -- from when a call runs, and how long
 unfoldable pub runsText : Call → List ℕ
@@ -204,8 +225,11 @@ mostPlant = mostWord + 4 + mostDecimal + 3
 abbrev pub mostClosed : ℕ
 mostClosed = 16 + mostPlant + 4 + mostMonth
 
+abbrev pub mostWanted : ℕ
+mostWanted = 65
+
 abbrev pub mostNotOpen : ℕ
-mostNotOpen = mostAsked + mostClosed + 1
+mostNotOpen = mostAsked + mostClosed + mostWanted + 1
 
 abbrev pub mostRuns : ℕ
 mostRuns = 18 + mostDate + 5 + mostLength

@@ -2,13 +2,20 @@
 use crate::other::put_month_of;
 use book::Header;
 use call::Call;
+use call::service::AGC_AVAILABILITY;
+use call::service::BLACK_START;
+use call::service::DEEP_PEAK;
 use call::service::FREQUENCY_EVENT;
 use call::service::RESERVE;
 use call::service::STANDBY;
+use call::service::START_STOP;
 use clock::put_date;
 use clock::put_length;
 use names::put_kind;
 use names::put_service;
+use pay::kind::COAL;
+use pay::kind::GAS;
+use pay::kind::HYDRO;
 use render::put_field;
 use render::put_signed_field32;
 use render::put_word;
@@ -18,11 +25,11 @@ ghost use lib.ListN.{length};
 ghost use Rattle.io.specs.Counts.{Counts};
 ghost use Rattle.render.specs.Inner.{Puts};
 ghost use Rattle.render.specs.Room.{Renders};
-ghost use Rattle.remark.specs.Remarks.{withText, askedText, plantText, closedText, notOpenText, runsText, overlapText, secondText, clashText, contestedText};
-ghost use Rattle.remark.specs.Remarks.{mostWith, mostAsked, mostPlant, mostClosed, mostNotOpen, mostRuns, mostOverlap, mostSecond, mostContested};
+ghost use Rattle.remark.specs.Remarks.{withText, askedText, plantText, closedText, reserveWanted, wantedText, notOpenText, runsText, overlapText, secondText, clashText, contestedText};
+ghost use Rattle.remark.specs.Remarks.{mostWith, mostAsked, mostPlant, mostClosed, mostWanted, mostNotOpen, mostRuns, mostOverlap, mostSecond, mostContested};
 
 // The most bytes of each.
-pub const MOST_NOT_OPEN: usize = 199;
+pub const MOST_NOT_OPEN: usize = 264;
 
 pub const MOST_CLASH: usize = 152;
 
@@ -71,13 +78,66 @@ fn put_closed(out: &mut [u8], at: usize, kind: u8, rated: Kw, h: Header) -> usiz
     put_month_of(out, c, h)
 }
 
+fn put_reserve(out: &mut [u8], at: usize, kind: u8) -> usize
+    requires { ⌜ at + mostWanted ≤ length (now out) ⌝ }
+    ensures { λ r. ⌜ Puts mostWanted (now (out .entry)) at (reserveWanted kind) (now (out .exit)) r ⌝ }
+{
+    if kind == COAL {
+        return put_word(out, at, b": coal has A from 1 to its rating");
+    }
+    if kind == GAS {
+        return put_word(out, at, b": gas has A 0");
+    }
+    if kind == HYDRO {
+        return put_word(out, at, b": hydro has A 0");
+    }
+    put_word(out, at, b": only coal, gas and hydro have it")
+}
+
+fn put_wanted(out: &mut [u8], at: usize, service: u8, kind: u8) -> usize
+    requires { ⌜ at + mostWanted ≤ length (now out) ⌝ }
+    ensures { λ r. ⌜ Puts mostWanted (now (out .entry)) at (wantedText service kind) (now (out .exit)) r ⌝ }
+{
+    if service == DEEP_PEAK {
+        return put_word(out, at, b": only coal has it");
+    }
+    if service == RESERVE {
+        return put_reserve(out, at, kind);
+    }
+    if service == START_STOP {
+        return put_word(out, at, b": only coal, gas and hydro have it");
+    }
+    if service == STANDBY {
+        return put_word(out, at, b": only coal has it");
+    }
+    if service == BLACK_START {
+        return put_word(
+            out,
+            at,
+            b": it is bought by auction from January 2027 on; withdraw the call",
+        );
+    }
+    if service == AGC_AVAILABILITY {
+        return put_word(out, at, b": all kinds but wind and photovoltaic have it");
+    }
+    if service == FREQUENCY_EVENT {
+        return put_word(
+            out,
+            at,
+            b": wind and photovoltaic have A 0 and B up to 10000",
+        );
+    }
+    put_word(out, at, b"")
+}
+
 fn put_not_open(out: &mut [u8], x: Call, kind: u8, rated: Kw, h: Header) -> usize
     requires { ⌜ mostNotOpen ≤ length (now out) ⌝ }
     ensures { λ r. ⌜ Puts mostNotOpen (now (out .entry)) 0 (notOpenText x kind (rated .0) h) (now (out .exit)) r ⌝ }
 {
     let a = put_asked(out, 0, x);
     let b = put_closed(out, a, kind, rated, h);
-    put_word(out, b, b"\n")
+    let c = put_wanted(out, b, x.service, kind);
+    put_word(out, c, b"\n")
 }
 
 // That a call's service, or its fields, are not open to a plant in a month.

@@ -9,6 +9,7 @@ use Rattle.units.specs.Money.{grainsToFen, fenPerThousandth}
 use Rattle.render.specs.Decimal.{word, field}
 use Rattle.render.specs.Room.{mostDecimal}
 use Rattle.render.specs.Yuan.{yuan, yuanField, signedYuanField, pointsField, mostYuan, mostSignedYuan, mostPoints}
+use Rattle.share.specs.Sharing.{mostCompensation}
 use Rattle.month.specs.declared.Row.{Row}
 use Rattle.month.specs.declared.Statement.{Statement}
 use Rattle.month.specs.Settling.{blankRow}
@@ -74,9 +75,10 @@ monthText s = monthOf s (min (s .count) 64)
 unfoldable pub noLineText : List ℕ → ℕ → List ℕ
 noLineText register member = word "failed " ++ register ++ field ": no line for member " member ++ word "\n"
 
--- a member whose compensation is above a line's limit
+-- a member whose compensation is above what a line may have
 unfoldable pub aboveText : ℕ → ℕ → List ℕ
-aboveText member fen = field "member " member ++ yuanField ": compensation " fen ++ word ", more than a line may have\n"
+aboveText member fen =
+    field "member " member ++ yuanField ": compensation " fen ++ yuanField " yuan, and a line may have at most " mostCompensation ++ word " yuan\n"
 
 -- The most bytes of each
 
@@ -115,4 +117,4 @@ abbrev pub mostNoLine : List ℕ → ℕ
 mostNoLine register = 30 + mostDecimal + length register
 
 abbrev pub mostAbove : ℕ
-mostAbove = 50 + mostDecimal + mostYuan
+mostAbove = 63 + mostDecimal + 2 * mostYuan

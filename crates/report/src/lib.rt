@@ -10,6 +10,7 @@ use render::yuan::put_signed_yuan_field;
 use render::yuan::put_yuan;
 use render::yuan::put_yuan_field;
 use share::array::seen;
+use share::limits::MOST_COMPENSATION;
 use units::Fen;
 use units::SignedFen;
 ghost use Prim.Native.Nat.{_+_, _*_, _≤_};
@@ -36,7 +37,7 @@ pub const MOST_MONTH: usize = 22343;
 // The most bytes besides the register's name.
 pub const MOST_NO_LINE: usize = 50;
 
-pub const MOST_ABOVE: usize = 93;
+pub const MOST_ABOVE: usize = 129;
 
 fn put_who(out: &mut [u8], at: usize, r: Row) -> usize
     requires { ⌜ at + mostWho ≤ length (now out) ⌝ }
@@ -213,10 +214,16 @@ fn put_above(out: &mut [u8], member: u16, fen: Fen) -> usize
 {
     let a = put_field(out, 0, b"member ", member as u64);
     let b = put_yuan_field(out, a, b": compensation ", fen.0);
-    put_word(out, b, b", more than a line may have\n")
+    let c = put_yuan_field(
+        out,
+        b,
+        b" yuan, and a line may have at most ",
+        MOST_COMPENSATION,
+    );
+    put_word(out, c, b" yuan\n")
 }
 
-// That a member's compensation is above a line's limit.
+// That a member's compensation is above what a line may have.
 pub fn above_text(member: u16, fen: Fen, out: &mut [u8]) -> usize
     ensures { λ r. ⌜ Renders mostAbove (aboveText member (fen .0)) (now (out .entry)) (now (out .exit)) r ⌝ }
     ensures { λ r. ⌜ Counts r (now (out .exit)) ⌝ }

@@ -13,8 +13,10 @@ use clerk::args::Held;
 use clerk::args::byte_at;
 use clerk::args::first;
 use clerk::args::path;
+use clerk::print;
 use clerk::shelf::open;
 use clerk::wrong::tell_no_day;
+use daily::month_text;
 use daily::run_text;
 use day_runs::DayReckoned;
 use day_runs::MOST_RUNS;
@@ -22,6 +24,8 @@ use day_runs::reckon_day;
 use day_runs::runs::DayRun;
 use pay::Member;
 use score::answer::Score;
+use units::Fen;
+use units::Grains;
 use units::calendar::days_of;
 
 // The argument that says the day.
@@ -48,13 +52,25 @@ fn put_runs(page: &mut [u8], runs: [DayRun; MOST_RUNS], count: usize) -> usize {
     at
 }
 
-// The runs of the day, then the month's score, or its refusal.
+// What the month pays, behind the runs on a page.
+fn tell_month(page: &mut [u8], at: usize, grains: Grains, fen: Fen) {
+    let mut lines = io::buffer();
+    let n = month_text(grains, fen, &mut lines);
+    let end = say::add(page, at, &lines[..n]);
+    print::finish(page, end);
+}
+
+// The runs of the day, then what the month pays, or why it is refused.
 fn tell_day(member: Member, d: DayReckoned, book: &[u8], series: &[u8]) {
     let mut page = io::large_buffer();
     let runs = d.runs;
     let at = put_runs(&mut page, runs, d.count);
     let grains = d.grains;
     let fen = d.fen;
+    if d.number == 0 {
+        tell_month(&mut page, at, grains, fen);
+        return;
+    }
     let r = Score {
         number: d.number,
         place: d.place,

@@ -74,7 +74,7 @@ fn tell_count(name: &[u8], text: &[u8], book: &[u8]) {
     say::text(&line[..n]);
 }
 
-// The first of its lines that is bad.
+// The first of its lines that is bad, if one is.
 fn tell_line(name: &[u8], text: &[u8]) {
     let walk = Walk::start(Table::Series, text);
     let told = walk.next_fault(text);
@@ -87,13 +87,13 @@ fn tell_line(name: &[u8], text: &[u8]) {
     }
 }
 
-// What is wrong with a series that was refused at a place, by the file's name as it is printed.
+// What is wrong with a series that was refused at a place, by the file's name as it is printed: the first bad line, and how many there are where they are not as many as the month has. A
+// blank line inside is both.
 fn tell_text(name: &[u8], text: &[u8], place: usize, book: &[u8]) {
+    tell_line(name, text);
     if place == LENGTH_PLACE {
         tell_count(name, text, book);
-        return;
     }
-    tell_line(name, text);
 }
 
 // The same of the file at a path.

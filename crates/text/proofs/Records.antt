@@ -8,8 +8,8 @@ use native.Mathlib.Omega.{arith}
 use borrow.Author.Tests.{eq-eqb, ne-eqb}
 use lib.ListN.{length}
 use Rattle.call.specs.declared.Call.{Call}
-use Rattle.render.specs.Decimal.{word}
-use Rattle.text.specs.Texts.{whatText, whichText, stateText, timeText, termsText, detailsText}
+use Rattle.render.specs.Decimal.{word, field}
+use Rattle.text.specs.Texts.{whatText, whichText, stateText, timeText, termsText, detailsText, wordsText, uptoText}
 
 pub withdrawn-text : (s : ℕ) → s ≢ 0 → s ≢ 1 → word " withdrawn" ≡ stateText s
 unfolding stateText
@@ -40,3 +40,23 @@ second-text second h = ap whichText (sym h)
 pub first-text : (second : Bool) → second ≡ false → word "first " ≡ whichText second
 unfolding whichText
 first-text second h = ap whichText (sym h)
+
+pub one-word : (n : ℕ) → n ≡ 1 → word " word" ≡ wordsText n
+unfolding wordsText
+one-word n h = rw (eq-eqb n 1 h)
+
+pub more-words : (n : ℕ) → n ≢ 1 → word " words" ≡ wordsText n
+unfolding wordsText
+more-words n h = rw (ne-eqb n 1 h)
+
+pub or-more : (more : Bool) (least most : ℕ) → more ≡ true → wordsText least ++ word " or more" ≡ uptoText more least most
+unfolding uptoText
+or-more more least most h = rw (h)
+
+pub as-many : (more : Bool) (least most : ℕ) → more ≡ false → least ≡ most → wordsText least ≡ uptoText more least most
+unfolding uptoText
+as-many more least most h l = rw (h, eq-eqb least most l)
+
+pub up-to : (more : Bool) (least most : ℕ) → more ≡ false → least ≢ most → field " to " most ++ word " words" ≡ uptoText more least most
+unfolding uptoText
+up-to more least most h l = rw (h, ne-eqb least most l)

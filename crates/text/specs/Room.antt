@@ -20,17 +20,33 @@ mostRefusedAbout what = mostRefusal + 2 + length what
 abbrev pub mostFailed : List ℕ → List ℕ → ℕ
 mostFailed what why = 7 + 2 + 1 + length what + length why
 
--- `failed argument ` and a number
-abbrev pub mostArgument : ℕ
-mostArgument = 16 + mostDecimal
+-- `failed argument `, a number, `, ` and the argument's name
+abbrev pub mostArgument : List ℕ → ℕ
+mostArgument name = 16 + mostDecimal + 2 + length name
 
 -- besides those bytes `: `, a line feed and why
-abbrev pub mostBadArgument : List ℕ → ℕ
-mostBadArgument why = mostArgument + 2 + 1 + length why
+abbrev pub mostBadArgument : List ℕ → List ℕ → ℕ
+mostBadArgument name why = mostArgument name + 2 + 1 + length why
 
 -- besides those bytes `: no number up to `, a number and a line feed
-abbrev pub mostNoNumber : ℕ
-mostNoNumber = mostArgument + 18 + mostDecimal + 1
+abbrev pub mostNoNumber : List ℕ → ℕ
+mostNoNumber name = mostArgument name + 18 + mostDecimal + 1
+
+-- ` words`
+abbrev pub mostWords : ℕ
+mostWords = 6
+
+-- ` to `, a number and ` words`
+abbrev pub mostUpto : ℕ
+mostUpto = 4 + mostDecimal + 6
+
+-- `failed `, `: takes ` and a number, besides the command's word
+abbrev pub mostLeast : List ℕ → ℕ
+mostLeast name = 7 + 8 + mostDecimal + length name
+
+-- besides those bytes ` behind it, `, a number and ` given` with a line feed
+abbrev pub mostTakes : List ℕ → ℕ
+mostTakes name = mostLeast name + mostUpto + 12 + mostDecimal + 7
 
 -- `: ` and a line feed, besides what the remark is about and the remark
 abbrev pub mostNote : List ℕ → List ℕ → ℕ

@@ -69,17 +69,33 @@ whatText (b ∷ bs) = (b ∷ bs) ++ word ": "
 unfoldable pub failedText : List ℕ → List ℕ → List ℕ
 failedText what why = word "failed " ++ whatText what ++ why ++ word "\n"
 
--- an argument that is not taken, by its place among the program's words
-unfoldable pub argumentText : ℕ → List ℕ
-argumentText i = field "failed argument " i
+-- an argument that is not taken, by its place among the program's words, the command's word being 1, and by its name in the usage
+unfoldable pub argumentText : ℕ → List ℕ → List ℕ
+argumentText i name = field "failed argument " i ++ word ", " ++ name
 
 -- the same, and why
-unfoldable pub badArgumentText : ℕ → List ℕ → List ℕ
-badArgumentText i why = argumentText i ++ word ": " ++ why ++ word "\n"
+unfoldable pub badArgumentText : ℕ → List ℕ → List ℕ → List ℕ
+badArgumentText i name why = argumentText i name ++ word ": " ++ why ++ word "\n"
 
 -- the same of a number that is none, or is too large
-unfoldable pub noNumberText : ℕ → ℕ → List ℕ
-noNumberText i most = argumentText i ++ field ": no number up to " most ++ word "\n"
+unfoldable pub noNumberText : ℕ → List ℕ → ℕ → List ℕ
+noNumberText i name most = argumentText i name ++ field ": no number up to " most ++ word "\n"
+
+-- one word, or more
+unfoldable pub wordsText : ℕ → List ℕ
+wordsText n = cond (eqb n 1) (word " word") (word " words")
+
+-- behind the least number of words: that there may be more of them, that there are as many, or up to how many
+unfoldable pub uptoText : Bool → ℕ → ℕ → List ℕ
+uptoText more least most = cond more (wordsText least ++ word " or more") (cond (eqb least most) (wordsText least) (field " to " most ++ word " words"))
+
+-- a command, by its word, and how many words it takes at least
+unfoldable pub leastText : List ℕ → ℕ → List ℕ
+leastText name least = word "failed " ++ name ++ field ": takes " least
+
+-- a command that is given more or fewer words than it takes
+unfoldable pub takesText : List ℕ → Bool → ℕ → ℕ → ℕ → List ℕ
+takesText name more least most given = leastText name least ++ uptoText more least most ++ field " behind it, " given ++ word " given\n"
 
 -- a remark in front of the last line: what it is about, and the remark
 unfoldable pub noteText : List ℕ → List ℕ → List ℕ

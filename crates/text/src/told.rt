@@ -9,17 +9,20 @@ ghost use Rattle.io.specs.Counts.{Counts};
 ghost use Rattle.render.specs.Inner.{Puts};
 ghost use Rattle.render.specs.Room.{Renders};
 ghost use Rattle.text.specs.Room.{mostRefusedAbout, mostFailed, mostArgument, mostBadArgument, mostNoNumber, mostNote, mostLed, mostUsage, mostUnchanged, mostNotHigher};
+ghost use Rattle.text.specs.Room.{mostWords, mostUpto, mostLeast, mostTakes};
 ghost use Rattle.text.specs.Texts.{shownByte, shownName, whatText, refusedAboutText, failedText, argumentText};
-ghost use Rattle.text.specs.Texts.{badArgumentText, noNumberText, noteText, ledText, usageText, unchangedText, notHigherText};
+ghost use Rattle.text.specs.Texts.{badArgumentText, noNumberText, wordsText, uptoText, leastText, takesText, noteText, ledText, usageText, unchangedText, notHigherText};
 
 // The most bytes of each, besides those of what is named.
 pub const MOST_REFUSED_ABOUT: usize = 51;
 
 pub const MOST_FAILED: usize = 10;
 
-pub const MOST_BAD_ARGUMENT: usize = 39;
+pub const MOST_BAD_ARGUMENT: usize = 41;
 
-pub const MOST_NO_NUMBER: usize = 75;
+pub const MOST_NO_NUMBER: usize = 77;
+
+pub const MOST_TAKES: usize = 104;
 
 pub const MOST_NOTE: usize = 3;
 
@@ -127,55 +130,135 @@ pub fn failed_text(what: &[u8], why: &[u8], out: &mut [u8]) -> usize
     put_failed(out, what, why)
 }
 
-fn put_argument(out: &mut [u8], i: usize) -> usize
-    requires { ⌜ mostArgument ≤ length (now out) ⌝ }
-    ensures { λ r. ⌜ Puts mostArgument (now (out .entry)) 0 (argumentText i) (now (out .exit)) r ⌝ }
+fn put_argument(out: &mut [u8], i: usize, name: &[u8]) -> usize
+    requires { ⌜ mostArgument (now name) ≤ length (now out) ⌝ }
+    ensures { λ r. ⌜ Puts (mostArgument (now (name .entry))) (now (out .entry)) 0 (argumentText i (now (name .entry))) (now (out .exit)) r ⌝ }
 {
-    put_field(out, 0, b"failed argument ", i as u64)
+    let a = put_field(out, 0, b"failed argument ", i as u64);
+    let b = put_word(out, a, b", ");
+    put_word(out, b, name)
 }
 
-fn put_bad_argument(out: &mut [u8], i: usize, why: &[u8]) -> usize
-    requires { ⌜ mostBadArgument (now why) ≤ length (now out) ⌝ }
-    ensures { λ r. ⌜ Puts (mostBadArgument (now (why .entry))) (now (out .entry)) 0 (badArgumentText i (now (why .entry))) (now (out .exit)) r ⌝ }
+fn put_bad_argument(out: &mut [u8], i: usize, name: &[u8], why: &[u8]) -> usize
+    requires { ⌜ mostBadArgument (now name) (now why) ≤ length (now out) ⌝ }
+    ensures { λ r. ⌜ Puts (mostBadArgument (now (name .entry)) (now (why .entry))) (now (out .entry)) 0 (badArgumentText i (now (name .entry)) (now (why .entry))) (now (out .exit)) r ⌝ }
 {
-    let a = put_argument(out, i);
+    let a = put_argument(out, i, name);
     let b = put_word(out, a, b": ");
     let c = put_word(out, b, why);
     put_word(out, c, b"\n")
 }
 
-// An argument that is not taken, and why.
-pub fn bad_argument_text(i: usize, why: &[u8], out: &mut [u8]) -> usize
-    ensures { λ r. ⌜ Renders (mostBadArgument (now (why .entry))) (badArgumentText i (now (why .entry))) (now (out .entry)) (now (out .exit)) r ⌝ }
+// An argument that is not taken, by its name, and why.
+pub fn bad_argument_text(i: usize, name: &[u8], why: &[u8], out: &mut [u8]) -> usize
+    ensures { λ r. ⌜ Renders (mostBadArgument (now (name .entry)) (now (why .entry))) (badArgumentText i (now (name .entry)) (now (why .entry))) (now (out .entry)) (now (out .exit)) r ⌝ }
     ensures { λ r. ⌜ Counts r (now (out .exit)) ⌝ }
 {
     if out.len() < MOST_BAD_ARGUMENT {
         return 0;
     }
-    if out.len() - MOST_BAD_ARGUMENT < why.len() {
+    if out.len() - MOST_BAD_ARGUMENT < name.len() {
         return 0;
     }
-    put_bad_argument(out, i, why)
+    if out.len() - MOST_BAD_ARGUMENT - name.len() < why.len() {
+        return 0;
+    }
+    put_bad_argument(out, i, name, why)
 }
 
-fn put_no_number(out: &mut [u8], i: usize, most: u64) -> usize
-    requires { ⌜ mostNoNumber ≤ length (now out) ⌝ }
-    ensures { λ r. ⌜ Puts mostNoNumber (now (out .entry)) 0 (noNumberText i most) (now (out .exit)) r ⌝ }
+fn put_no_number(out: &mut [u8], i: usize, name: &[u8], most: u64) -> usize
+    requires { ⌜ mostNoNumber (now name) ≤ length (now out) ⌝ }
+    ensures { λ r. ⌜ Puts (mostNoNumber (now (name .entry))) (now (out .entry)) 0 (noNumberText i (now (name .entry)) most) (now (out .exit)) r ⌝ }
 {
-    let a = put_argument(out, i);
+    let a = put_argument(out, i, name);
     let b = put_field(out, a, b": no number up to ", most);
     put_word(out, b, b"\n")
 }
 
 // An argument that is no number, or one too large.
-pub fn no_number_text(i: usize, most: u64, out: &mut [u8]) -> usize
-    ensures { λ r. ⌜ Renders mostNoNumber (noNumberText i most) (now (out .entry)) (now (out .exit)) r ⌝ }
+pub fn no_number_text(i: usize, name: &[u8], most: u64, out: &mut [u8]) -> usize
+    ensures { λ r. ⌜ Renders (mostNoNumber (now (name .entry))) (noNumberText i (now (name .entry)) most) (now (out .entry)) (now (out .exit)) r ⌝ }
     ensures { λ r. ⌜ Counts r (now (out .exit)) ⌝ }
 {
     if out.len() < MOST_NO_NUMBER {
         return 0;
     }
-    put_no_number(out, i, most)
+    if out.len() - MOST_NO_NUMBER < name.len() {
+        return 0;
+    }
+    put_no_number(out, i, name, most)
+}
+
+fn put_words(out: &mut [u8], at: usize, n: usize) -> usize
+    requires { ⌜ at + mostWords ≤ length (now out) ⌝ }
+    ensures { λ r. ⌜ Puts mostWords (now (out .entry)) at (wordsText n) (now (out .exit)) r ⌝ }
+{
+    if n == 1 {
+        return put_word(out, at, b" word");
+    }
+    put_word(out, at, b" words")
+}
+
+fn put_upto(out: &mut [u8], at: usize, more: bool, least: usize, most: usize) -> usize
+    requires { ⌜ at + mostUpto ≤ length (now out) ⌝ }
+    ensures { λ r. ⌜ Puts mostUpto (now (out .entry)) at (uptoText more least most) (now (out .exit)) r ⌝ }
+{
+    if more {
+        let a = put_words(out, at, least);
+        return put_word(out, a, b" or more");
+    }
+    if least == most {
+        return put_words(out, at, least);
+    }
+    let b = put_field(out, at, b" to ", most as u64);
+    put_word(out, b, b" words")
+}
+
+fn put_least(out: &mut [u8], name: &[u8], least: usize) -> usize
+    requires { ⌜ mostLeast (now name) ≤ length (now out) ⌝ }
+    ensures { λ r. ⌜ Puts (mostLeast (now (name .entry))) (now (out .entry)) 0 (leastText (now (name .entry)) least) (now (out .exit)) r ⌝ }
+{
+    let a = put_word(out, 0, b"failed ");
+    let b = put_word(out, a, name);
+    put_field(out, b, b": takes ", least as u64)
+}
+
+fn put_takes(
+    out: &mut [u8],
+    name: &[u8],
+    more: bool,
+    least: usize,
+    most: usize,
+    given: usize,
+) -> usize
+    requires { ⌜ mostTakes (now name) ≤ length (now out) ⌝ }
+    ensures { λ r. ⌜ Puts (mostTakes (now (name .entry))) (now (out .entry)) 0 (takesText (now (name .entry)) more least most given) (now (out .exit)) r ⌝ }
+{
+    let a = put_least(out, name, least);
+    let b = put_upto(out, a, more, least, most);
+    let c = put_field(out, b, b" behind it, ", given as u64);
+    put_word(out, c, b" given\n")
+}
+
+// A command that is given more or fewer words than it takes: so many, from so many on, or from so many to so many.
+pub fn takes_text(
+    name: &[u8],
+    more: bool,
+    least: usize,
+    most: usize,
+    given: usize,
+    out: &mut [u8],
+) -> usize
+    ensures { λ r. ⌜ Renders (mostTakes (now (name .entry))) (takesText (now (name .entry)) more least most given) (now (out .entry)) (now (out .exit)) r ⌝ }
+    ensures { λ r. ⌜ Counts r (now (out .exit)) ⌝ }
+{
+    if out.len() < MOST_TAKES {
+        return 0;
+    }
+    if out.len() - MOST_TAKES < name.len() {
+        return 0;
+    }
+    put_takes(out, name, more, least, most, given)
 }
 
 fn put_note(out: &mut [u8], what: &[u8], why: &[u8]) -> usize

@@ -11,11 +11,8 @@ put-word-requires c κs = search needs
 put-has-requires : tie.Need-put-has-requires
 put-has-requires c κs = search needs
 
-slice-aggregate-put-word : tie.Need-slice-aggregate-put-word
-slice-aggregate-put-word c = search needs
-
-put-word-requires-2 : tie.Need-put-word-requires-2
-put-word-requires-2 c κs = search needs
+put-lines-requires : tie.Need-put-lines-requires
+put-lines-requires c κs = search needs
 
 put-wanted-requires : tie.Need-put-wanted-requires
 put-wanted-requires c κs = search needs
@@ -25,10 +22,12 @@ same-length c = search needs
 
 returns : tie.Need-returns
 unfolding countText
-returns c = looser _ (omega arith) (and-then (and-then (and-then
-    (c .before .before .before .before .before .before .before .before .before .before .before .before .before .before .before .put-word .ensures)
-    (c .before .before .before .before .before .before .before .before .before .before .before .put-has .ensures)) (c .before .before .before .before .before .before .put-word2 .ensures))
-    (c .before .before .put-wanted .ensures))
+returns c =
+    let p = c .before .before .before .before .before .before .before .before .before .before .before .before .before .before .put-word .ensures in
+    let q = c .before .before .before .before .before .before .before .before .before .before .put-has .ensures in
+    let r = c .before .before .before .before .before .before .put-lines .ensures in
+    let s = c .before .before .put-wanted .ensures in
+    looser _ (omega arith) (and-then (and-then (and-then p q) r) s)
 
 pub put-count-spec : {M : Type 1} → statement M
 put-count-spec =
@@ -36,8 +35,7 @@ put-count-spec =
     (tie.spec
     put-word-requires
     put-has-requires
-    slice-aggregate-put-word
-    put-word-requires-2
+    put-lines-requires
     put-wanted-requires
     same-length
     returns)

@@ -19,8 +19,8 @@ same-length c = search needs
 
 returns : tie.Need-returns
 unfolding outsideText
-returns c = and-then (and-then (c .before .before .before .before .before .before .before .before .before .before .put-column .ensures)
-    (c .before .before .before .before .before .before .put-number .ensures)) (c .before .before .put-limits .ensures)
+returns c = looser _ (omega arith) (and-then (and-then (c .before .before .before .before .before .before .before .before .before .before .put-column .ensures)
+    (c .before .before .before .before .before .before .put-number .ensures)) (c .before .before .put-limits .ensures))
 
 pub put-outside-spec : {M : Type 1} → statement M
 put-outside-spec =

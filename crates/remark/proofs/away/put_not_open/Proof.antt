@@ -1,5 +1,5 @@
-use Rattle.render.proofs.Placed.{and-then}
 use Rattle.remark.specs.Remarks.{notOpenText}
+use Rattle.render.proofs.Placed.{and-then}
 use borrow.Author.Needs.{needs}
 use Rattle.remark.proofs.away.put_not_open.Statement.{statement}
 use Rattle.remark.proofs.away.put_not_open.Tie as tie
@@ -9,6 +9,9 @@ put-asked-requires c κs = search needs
 
 put-closed-requires : tie.Need-put-closed-requires
 put-closed-requires c κs = search needs
+
+put-wanted-requires : tie.Need-put-wanted-requires
+put-wanted-requires c κs = search needs
 
 slice-aggregate-put-word : tie.Need-slice-aggregate-put-word
 slice-aggregate-put-word c = search needs
@@ -22,9 +25,10 @@ same-length c = search needs
 returns : tie.Need-returns
 unfolding notOpenText
 returns c =
-    let p = c .before .before .before .before .before .before .before .before .before .before .before .put-asked .ensures in
-    let q = c .before .before .before .before .before .before .before .put-closed .ensures in
-    and-then (and-then p q) (c .before .before .put-word .ensures)
+    let p = c .before .before .before .before .before .before .before .before .before .before .before .before .before .before .before .put-asked .ensures in
+    let q = c .before .before .before .before .before .before .before .before .before .before .before .put-closed .ensures in
+    let r = c .before .before .before .before .before .before .before .put-wanted .ensures in
+    and-then (and-then (and-then p q) r) (c .before .before .put-word .ensures)
 
 pub put-not-open-spec : {M : Type 1} → statement M
 put-not-open-spec =
@@ -32,6 +36,7 @@ put-not-open-spec =
     (tie.spec
     put-asked-requires
     put-closed-requires
+    put-wanted-requires
     slice-aggregate-put-word
     put-word-requires
     same-length

@@ -1,3 +1,4 @@
+use native.Mathlib.Omega.{arith}
 use Rattle.text.specs.Room.{mostNoNumber}
 use Rattle.render.proofs.Placed.{no-room, rendered}
 use borrow.Author.Needs.{needs}
@@ -5,7 +6,17 @@ use Rattle.text.proofs.told.no_number_text.Statement.{statement}
 use Rattle.text.proofs.told.no_number_text.Tie as tie
 
 returns : tie.Need-returns
-returns c = no-room mostNoNumber _ (c .before .before .args .out .now) (c .if1 .taken)
+returns c =
+    let a = c .before .before .before .args in
+    no-room (mostNoNumber (a .name .now)) _ (a .out .now) (omega arith)
+
+sub-if2 : tie.Need-sub-if2
+sub-if2 c = search needs
+
+returns-2 : tie.Need-returns-2
+returns-2 c =
+    let a = c .before .before .before .before .args in
+    no-room (mostNoNumber (a .name .now)) _ (a .out .now) (omega arith)
 
 put-no-number-requires : tie.Need-put-no-number-requires
 put-no-number-requires c κs = search needs
@@ -13,8 +24,11 @@ put-no-number-requires c κs = search needs
 same-length : tie.Need-same-length
 same-length c = search needs
 
-returns-2 : tie.Need-returns-2
-returns-2 c = rendered mostNoNumber (c .before .before .before .before .if1 .left) (c .before .before .put-no-number .ensures)
+returns-3 : tie.Need-returns-3
+returns-3 c =
+    let a = c .before .before .before .before .before .before .before .before .args in
+    rendered (mostNoNumber (a .name .now)) (omega arith) (c .before .before .put-no-number .ensures)
 
 pub no-number-text-spec : {M : Type 1} → statement M
-no-number-text-spec = tie.close (tie.spec returns put-no-number-requires same-length returns-2)
+no-number-text-spec =
+    tie.close (tie.spec returns sub-if2 returns-2 put-no-number-requires same-length returns-3)

@@ -1,5 +1,6 @@
 use Rattle.text.specs.Texts.{noNumberText}
-use Rattle.render.proofs.Placed.{and-then}
+use Rattle.render.proofs.Placed.{and-then, looser}
+use native.Mathlib.Omega.{arith}
 use borrow.Author.Needs.{needs}
 use Rattle.text.proofs.told.put_no_number.Statement.{statement}
 use Rattle.text.proofs.told.put_no_number.Tie as tie
@@ -28,7 +29,7 @@ returns c =
     let p = c .before .before .before .before .before .before .before .before .before .before .before .before .put-argument .ensures in
     let q = c .before .before .before .before .before .before .before .put-field .ensures in
     let r = c .before .before .put-word .ensures in
-    and-then (and-then p q) r
+    looser _ (omega arith) (and-then (and-then p q) r)
 
 pub put-no-number-spec : {M : Type 1} → statement M
 put-no-number-spec =
