@@ -246,8 +246,9 @@ fn list_joined(part: u32, register: Register, joined: &[u8], left: &[u8], before
     let lengths = read_all(entries, count, true, &mut series);
     let bad = list_series(entries, count, joined, &series, lengths);
     c.series = sum(lengths.bad, bad);
-    let ramps = read_ramps(entries, count, month_hours(joined), true);
-    c.ramping = sum(ramps.bad, list_ramping(entries, count, ramps));
+    let hours = month_hours(joined);
+    let ramps = read_ramps(entries, count, hours, true);
+    c.ramping = sum(ramps.bad, list_ramping(entries, count, ramps, hours));
     let d = list_calls(books_at(), left, joined, register, c);
     list_rest(part, register, joined, &series, lengths, ramps, left, d);
 }

@@ -17,6 +17,7 @@ pub use month_files::ramps::ramped_at;
 pub use month_files::ramps::ramping_file_of;
 pub use month_files::ramps::read_ramping;
 pub use month_files::ramps::read_ramps;
+use month_files::told::tell_ramping_row;
 use month_files::told::tell_unramped;
 use pay::Member;
 use report::hourly::hour_text;
@@ -66,10 +67,11 @@ pub fn put_each(page: &mut [u8], from: usize, hours: Hours) -> usize {
     at
 }
 
-// The hours and their sum; or the file's lowest bad line.
+// The hours and their sum; or the file's lowest bad line, and why.
 fn tell_hours(hours: Hours, path: &[u8]) {
     let r = ramped_of(hours);
     if r.number != 0 {
+        tell_ramping_row(path, MOST_HOURS as u16, r.place);
         print::refused(r.number, r.place, path);
         return;
     }

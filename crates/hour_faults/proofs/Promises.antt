@@ -186,6 +186,13 @@ streamed-left hours text r (fed before bytes f _ k s) rest =
 pub stream-finds : (hours : ℕ) (text : List ℕ) (f : Finder) → Streamed hours text f → (r : HourFound) → r ≡ foundLeft f [] → r ≡ firstHourFault hours text
 stream-finds hours text f s r e = e ∙ streamed-left hours text f s [] ∙ ap (firstHourFault hours) (append-nil text)
 
+-- so two of one file find the same;
+pub finish-determined : (hours : ℕ) (text : List ℕ) (f g : Finder) → Streamed hours text f → Streamed hours text g → (r s : HourFound) → r ≡ foundLeft f [] → s ≡ foundLeft g [] → r ≡ s
+finish-determined hours text f g a b r s e h = stream-finds hours text f a r e ∙ sym (stream-finds hours text g b s h)
+
+pub found-determined : (hours : ℕ) (text : List ℕ) (r s : HourFound) → r ≡ firstHourFault hours text → s ≡ firstHourFault hours text → r ≡ s
+found-determined hours text r s e f = e ∙ sym f
+
 -- and once it is settled, no bytes that follow change it.
 pub stops-late-enough : (hours : ℕ) (text : List ℕ) (f : Finder) → Streamed hours text f → ((rest : List ℕ) → foundLeft f rest ≡ foundLeft f [])
     → (rest : List ℕ) → firstHourFault hours (text ++ rest) ≡ firstHourFault hours text

@@ -1,6 +1,6 @@
 -- What the end of a line, a step and the end of the file do to what a finder would find. Assumes nothing.
 use mathlib.Core.Path.{_≡_, refl, ap, sym, _∙_}
-use mathlib.Core.Bool.{Bool, true, false, cond}
+use mathlib.Core.Bool.{Bool, true, false, cond, not, _&&_}
 use mathlib.Core.List.{List, [], _∷_, _++_, append-assoc}
 use Prim.Native.Nat.{ℕ, suc, _+_, _≤_, _<_}
 use native.Mathlib.Omega.{arith}
@@ -19,7 +19,7 @@ use Rattle.hour_faults.specs.declared.HourFound.{HourFound}
 use Rattle.hour_faults.specs.declared.judge.Judge.{Judge}
 use Rattle.hour_faults.specs.declared.Finder.{Finder}
 use Rattle.hour_faults.specs.HourFaults.{isSound, rowFault}
-use Rattle.hour_faults.specs.Inner.{judgeFault, judgeRefusing, judgeOf, judgeAll, judgeAfter, blankAfter, firstLeft, foundBy, judgeLeft, foundLeft}
+use Rattle.hour_faults.specs.Inner.{judgeFault, judgeRefusing, judgeOf, judgeAll, judgeAfter, blankAfter, firstLeft, foundBy, judgeLeft, finderIsSettled, foundLeft}
 
 -- A fault that was found stays
 
@@ -120,6 +120,10 @@ pub found-ends : (f : Finder) (first : ℕ) (j : Judge) (found : HourFound) → 
     → found ≡ foundBy first j → found ≡ foundLeft f []
 unfolding foundLeft judgeLeft
 found-ends f first j found a b e = e ∙ (λ i. foundBy (a i) ((b ∙ left-ends (f .judge) (f .blank) (f .grid) (f .ended)) i))
+
+pub settled-is : (f : Finder) (t : Bool) → t ≡ isSound (f .judge .wrong) → (not t && not (eqb (f .first) 0)) ≡ finderIsSettled f
+unfolding finderIsSettled
+settled-is f t e = ap (λ (b : Bool). not b && not (eqb (f .first) 0)) e
 
 pub found-settled : (f : Finder) → isSound (f .judge .wrong) ≡ false → (f .first ≡ 0 → ⊥) → (rest : List ℕ) → foundLeft f rest ≡ foundLeft f []
 unfolding foundLeft judgeLeft firstLeft

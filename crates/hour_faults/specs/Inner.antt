@@ -1,7 +1,7 @@
 -- What a finder keeps of the lines that it has judged, and what it would find, whatever follows. It serves the contracts of the finder alone; what is wrong with a ramping
 -- file is in HourFaults. Assumes nothing.
 use mathlib.Core.Path.{_≡_}
-use mathlib.Core.Bool.{Bool, cond}
+use mathlib.Core.Bool.{Bool, cond, not, _&&_}
 use mathlib.Core.List.{List, [], _∷_}
 use Prim.Native.Nat.{ℕ, _+_, _%_, _^_}
 use lib.Dec.{eqb}
@@ -82,6 +82,10 @@ foundBy first j = cond (isSound (j .wrong)) noneFound (record { line = (first + 
 -- the judge at the end of the text, if `rest` is what is left of it
 unfoldable pub judgeLeft : Finder → List ℕ → Judge
 judgeLeft f rest = judgeAll (f .judge) (rowsLeft asTold (oneIf (f .blank)) (f .grid) (f .ended) rest)
+
+-- a fault was found, at a line that is known: no bytes that follow change it
+unfoldable pub finderIsSettled : Finder → Bool
+finderIsSettled f = not (isSound (f .judge .wrong)) && not (eqb (f .first) 0)
 
 -- WHAT IS FOUND then
 unfoldable pub foundLeft : Finder → List ℕ → HourFound

@@ -21,7 +21,7 @@ ghost use lib.ListN.{getD};
 ghost use Rattle.ramp.specs.Ramping.{mostRampRate};
 ghost use Rattle.hour_faults.specs.HourFaults.{isSound, orElse, columnFault, monthFault, cellsFault, risingFault, fullFault, standardFault, fastFault, moveFault, actionFault, firstHourFault};
 ghost use Rattle.hours.specs.Hours.{monthHours};
-ghost use Rattle.hour_faults.specs.Inner.{blankAfter, firstLeft, foundBy, foundLeft};
+ghost use Rattle.hour_faults.specs.Inner.{blankAfter, firstLeft, foundBy, finderIsSettled, foundLeft};
 
 // What is wrong with a line: nothing; it is blank, with another behind it; so many cells, and so many that it should have; a column, counted from 1, that has no number;
 // one whose number is outside its limits, with these; an hour below that of the line before, with that; an hour that has 60 actions before it; a standard rate of an hour
@@ -286,6 +286,7 @@ impl Finder {
 
     // Whether the fault is known. No bytes that follow change it then.
     pub fn is_settled(self) -> bool
+        ensures { λ r. ⌜ r ≡ finderIsSettled self ⌝ }
         ensures { λ r. ⌜ (r ≡ true → (rest : List ℕ) → foundLeft self rest ≡ foundLeft self []) ⌝ }
     {
         let judge = self.judge;
