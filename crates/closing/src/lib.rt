@@ -294,7 +294,10 @@ fn list_joined(part: u32, register: Register, joined: &[u8], left: &[u8], before
     let bad = list_series(entries, files, joined, &series, lengths);
     c.series = sum(c.series, sum(lengths.bad, bad));
     let ramps = ramps_of(entries, files, joined);
-    c.ramping = sum(ramps.bad, list_ramping(entries, files, ramps));
+    c.ramping = sum(
+        ramps.bad,
+        list_ramping(entries, files, ramps, month_hours(joined)),
+    );
     let d = list_calls(books_at(), left, joined, register, c);
     list_rest(part, register, joined, &series, lengths, ramps, left, d);
 }

@@ -12,7 +12,7 @@ use month_files::series::entry_at;
 use month_files::series::file_of;
 use month_files::series::is_read;
 use month_files::series::part_of;
-use month_files::told::tell_unramped;
+use month_files::told::tell_ramping_file;
 use register::Entry;
 use register::MOST_ENTRIES;
 use report::above_text;
@@ -37,12 +37,10 @@ fn note_series(name: Name, place: usize, joined: &[u8]) {
     note_file(name, 11, place);
 }
 
-// That a ramping file is refused: of another kind, or at its lowest bad line.
-fn note_ramping(name: Name, number: u32, place: usize) {
+// That a ramping file is refused: of another kind, or at its lowest bad line; and why.
+fn note_ramping(name: Name, hours: u16, number: u32, place: usize) {
     let bytes = name.bytes;
-    if number == 12 {
-        tell_unramped(first(&bytes, name.size));
-    }
+    tell_ramping_file(first(&bytes, name.size), hours, number, place);
     note_file(name, number, place);
 }
 
@@ -97,24 +95,30 @@ pub fn list_series(
 }
 
 // A member's ramping file, and one more where it is refused.
-fn list_ramped(e: Entry, ramped: Ramped, n: usize) -> usize {
+fn list_ramped(e: Entry, ramped: Ramped, hours: u16, n: usize) -> usize {
     if ramped.number == 0 {
         return n;
     }
     note_ramping(
         ramping_file_of(e.member.number),
+        hours,
         ramped.number,
         ramped.place,
     );
     more(n)
 }
 
-// The ramping files that were read and are refused.
-pub fn list_ramping(entries: [Entry; MOST_ENTRIES], count: usize, ramps: Ramps) -> usize {
+// The ramping files that were read and are refused, in a month of so many hours.
+pub fn list_ramping(
+    entries: [Entry; MOST_ENTRIES],
+    count: usize,
+    ramps: Ramps,
+    hours: u16,
+) -> usize {
     let mut n: usize = 0;
     let mut i: usize = 0;
     while i < count {
-        n = list_ramped(entry_at(entries, i), ramped_at(ramps, i), n);
+        n = list_ramped(entry_at(entries, i), ramped_at(ramps, i), hours, n);
         i += 1;
     }
     n

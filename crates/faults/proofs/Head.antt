@@ -97,7 +97,7 @@ mark-first text = go text (beginsWith mark text) refl
     go (a ∷ b ∷ []) true h = absurd (short h (ap (λ (t : Bool). eqb a 239 && t) (and-false (eqb b 187)) ∙ and-false (eqb a 239)))
     go (a ∷ b ∷ c ∷ bs) true h = three-bytes a b c bs h
 
-first-is : (text : List ℕ) → firstLine text ≡ cond (digitFirst text) 1 2
+pub first-is : (text : List ℕ) → firstLine text ≡ cond (digitFirst text) 1 2
 unfolding firstLine
 first-is text = ap (λ (t : Bool). cond t 1 2)
     (lines-first (commas (unmarked text)) ∙ commas-first (separatorOf (unmarked text)) (separator-is (unmarked text)) (unmarked text) ∙ mark-first text)

@@ -198,13 +198,13 @@ fn first_line(text: &[u8]) -> usize
 }
 
 // What the cells of a line say: the first `count` of the list.
-struct Cells {
-    cells: [u64; MOST_COLUMNS],
-    count: usize,
+pub struct Cells {
+    pub cells: [u64; MOST_COLUMNS],
+    pub count: usize,
 }
 
 // What the cells of a line say that ends here.
-fn cells_of(grid: Grid, ended: [u64; MOST_COLUMNS]) -> Cells
+pub fn cells_of(grid: Grid, ended: [u64; MOST_COLUMNS]) -> Cells
     ensures { λ r. ⌜ CellsOf grid ended r ⌝ }
 {
     let mut cells = ended;

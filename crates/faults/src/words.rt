@@ -68,7 +68,7 @@ fn put_column(out: &mut [u8], at: usize, table: Table, column: usize) -> usize
 }
 
 // A cell's number, unless it was held.
-fn put_number(out: &mut [u8], at: usize, n: u64) -> usize
+pub fn put_number(out: &mut [u8], at: usize, n: u64) -> usize
     requires { ⌜ at + mostNumber ≤ length (now out) ⌝ }
     ensures { λ r. ⌜ Puts mostNumber (now (out .entry)) at (numberText n) (now (out .exit)) r ⌝ }
 {
@@ -78,7 +78,7 @@ fn put_number(out: &mut [u8], at: usize, n: u64) -> usize
     put_word(out, at, b"")
 }
 
-fn put_limits(out: &mut [u8], at: usize, least: u64, most: u64) -> usize
+pub fn put_limits(out: &mut [u8], at: usize, least: u64, most: u64) -> usize
     requires { ⌜ at + mostLimits ≤ length (now out) ⌝ }
     ensures { λ r. ⌜ Puts mostLimits (now (out .entry)) at (limitsText least most) (now (out .exit)) r ⌝ }
 {
@@ -116,7 +116,7 @@ fn put_parted(out: &mut [u8], at: usize, n: usize, wanted: usize) -> usize
 }
 
 // The cells that a line has, and how many it should have.
-fn put_columns(out: &mut [u8], at: usize, n: usize, wanted: usize) -> usize
+pub fn put_columns(out: &mut [u8], at: usize, n: usize, wanted: usize) -> usize
     requires { ⌜ at + mostWrong ≤ length (now out) ⌝ }
     ensures { λ r. ⌜ Puts mostWrong (now (out .entry)) at (columnsText n wanted) (now (out .exit)) r ⌝ }
 {
@@ -199,7 +199,7 @@ fn put_wrong(out: &mut [u8], at: usize, table: Table, wrong: Wrong) -> usize
 }
 
 // Which line it is.
-fn put_line(out: &mut [u8], at: usize, line: usize) -> usize
+pub fn put_line(out: &mut [u8], at: usize, line: usize) -> usize
     requires { ⌜ at + mostLine ≤ length (now out) ⌝ }
     ensures { λ r. ⌜ Puts mostLine (now (out .entry)) at (lineText line) (now (out .exit)) r ⌝ }
 {

@@ -45,7 +45,7 @@ pub struct Hours {
 }
 
 // A month of so many hours: no month has more than 744.
-fn month_hours(hours: u16) -> u16
+pub fn month_hours(hours: u16) -> u16
     ensures { λ r. ⌜ r ≡ monthHours hours ⌝ }
 {
     let most = MOST_HOURS as u16;

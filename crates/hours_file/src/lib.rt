@@ -4,6 +4,7 @@ use hours::Hours;
 use hours::Reader;
 use pay::Member;
 
+pub mod faulty;
 pub mod given;
 
 // More reads than any file has.

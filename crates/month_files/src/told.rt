@@ -2,10 +2,45 @@
 use crate::places::register_at;
 use clerk::print;
 use clerk::shelf::note_at;
+use hour_faults::HourFound;
+use hour_faults::is_sound;
+use hour_faults::words::hour_fault_text;
+use hours_file::faulty::find_fault;
+use text::told::shown_text;
 
 // That a kind does not ramp, and what that is told of.
 pub fn tell_unramped(what: &[u8]) {
     print::note(what, b"only coal, gas and hydro ramp");
+}
+
+// Whether a fault is that of the row at a place: its line is the place counted from 1, behind a heading from 2.
+fn is_of(found: HourFound, place: usize) -> bool {
+    let wrong = found.wrong;
+    let behind = std::num::wrapping_sub_usize(found.line, place);
+    !is_sound(wrong) & ((behind == 1) | (behind == 2))
+}
+
+// What is wrong with the row at which a ramping file was refused, in a month of so many hours. The file is read again: where that fault is not found, it has changed.
+pub fn tell_ramping_row(path: &[u8], hours: u16, place: usize) {
+    let found = find_fault(path, hours);
+    if !is_of(found, place) {
+        print::note(path, b"changed while it was read");
+        return;
+    }
+    let mut shown = io::buffer();
+    let m = shown_text(path, &mut shown);
+    let mut line = io::large_buffer();
+    let n = hour_fault_text(&shown[..m], found, &mut line);
+    say::text(&line[..n]);
+}
+
+// Why a member's ramping file is refused, in words: with 12 its kind, with 10 a row.
+pub fn tell_ramping_file(path: &[u8], hours: u16, number: u32, place: usize) {
+    if number == 12 {
+        tell_unramped(path);
+        return;
+    }
+    tell_ramping_row(path, hours, place);
 }
 
 // What is wrong with the sums of all members, in words.

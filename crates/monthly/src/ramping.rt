@@ -11,6 +11,7 @@ use hours_file::Found;
 use hours_file::HoursFile;
 use hours_file::given::ramped_of;
 use hours_file::read_file;
+use month_files::told::tell_ramping_row;
 use month_files::told::tell_unramped;
 use pay::Member;
 use report::hourly::hour_text;
@@ -60,10 +61,11 @@ pub fn put_each(page: &mut [u8], from: usize, hours: Hours) -> usize {
     at
 }
 
-// The hours and their sum; or the file's lowest bad line.
+// The hours and their sum; or the file's lowest bad line, and why.
 fn tell_hours(hours: Hours, path: &[u8]) {
     let r = ramped_of(hours);
     if r.number != 0 {
+        tell_ramping_row(path, MOST_HOURS as u16, r.place);
         print::refused(r.number, r.place, path);
         return;
     }

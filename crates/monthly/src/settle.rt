@@ -28,8 +28,8 @@ use month_files::series::file_of;
 use month_files::series::part_of;
 use month_files::series::read_all;
 use month_files::series::room;
+use month_files::told::tell_ramping_file;
 use month_files::told::tell_sums;
-use month_files::told::tell_unramped;
 use posted::posted_text;
 use register::Entry;
 use report::above_text;
@@ -92,13 +92,11 @@ pub fn tell_member(e: Entry, line: usize, number: u32, place: usize, book: &[u8]
     print::refused(number, place, b"joined");
 }
 
-// The refusal of a member's ramping file.
-pub fn tell_ramping(e: Entry, number: u32, place: usize) {
+// The refusal of a member's ramping file in the month of a book, and why.
+pub fn tell_ramping(e: Entry, book: &[u8], number: u32, place: usize) {
     let name = ramping_file_of(e.member.number);
     let bytes = name.bytes;
-    if number == 12 {
-        tell_unramped(first(&bytes, name.size));
-    }
+    tell_ramping_file(first(&bytes, name.size), month_hours(book), number, place);
     print::refused(number, place, first(&bytes, name.size));
 }
 
@@ -166,7 +164,7 @@ fn tell_fault(
         }
         Fault::OfRamping(line, number, place) => {
             let e = entry_at(entries, line);
-            tell_ramping(e, number, place);
+            tell_ramping(e, book, number, place);
         }
         Fault::InSharing(number, place) => {
             let e = entry_at(entries, place);

@@ -98,7 +98,7 @@ fn explain_hours(e: Entry, line: usize, book: &[u8], series: &[u32], hours: Hour
     }
     let r = ramped_of(hours);
     if r.number != 0 {
-        tell_ramping(e, r.number, r.place);
+        tell_ramping(e, book, r.number, r.place);
         return;
     }
     tell_explained(x, hours, r.hours, book);

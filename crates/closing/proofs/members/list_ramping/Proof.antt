@@ -4,10 +4,10 @@ use Rattle.closing.proofs.members.list_ramping.Statement.{statement}
 use Rattle.closing.proofs.members.list_ramping.Tie as tie
 
 abbrev Inv-loop : tie.InvT-loop
-Inv-loop entries count ramps n₀ i₀ n i = Unit {0}
+Inv-loop entries count ramps hours n₀ i₀ n i = Unit {0}
 
 abbrev μ-loop : tie.MeasureT-loop
-μ-loop entries count ramps n₀ i₀ n i = count - i
+μ-loop entries count ramps hours n₀ i₀ n i = count - i
 
 loop-holds : tie.Need-loop-holds Inv-loop μ-loop
 loop-holds c = search needs

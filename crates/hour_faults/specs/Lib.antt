@@ -1,0 +1,3 @@
+pub mod HourFaults
+pub mod Words
+pub mod Inner

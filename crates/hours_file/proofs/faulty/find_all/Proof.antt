@@ -1,0 +1,27 @@
+use borrow.Author.Needs.{needs}
+use Rattle.hours_file.proofs.faulty.find_all.Statement.{statement}
+use Rattle.hours_file.proofs.faulty.find_all.Tie as tie
+
+abbrev Inv-loop : tie.InvT-loop
+Inv-loop fd finding₀ finding = Unit {0}
+
+abbrev μ-loop : tie.MeasureT-loop
+μ-loop fd finding₀ finding = finding .left
+
+loop-holds : tie.Need-loop-holds Inv-loop μ-loop
+loop-holds c = tt
+
+find-some-requires : tie.Need-find-some-requires Inv-loop μ-loop
+find-some-requires c κs = search needs
+
+loop-less : tie.Need-loop-less Inv-loop μ-loop
+loop-less c = search needs
+
+loop-again : tie.Need-loop-again Inv-loop μ-loop
+loop-again c = tt
+
+returns : tie.Need-returns Inv-loop μ-loop
+returns c = tt
+
+pub find-all-spec : {M : Type 1} → statement M
+find-all-spec = tie.close (tie.spec Inv-loop μ-loop loop-holds find-some-requires loop-less loop-again returns)
