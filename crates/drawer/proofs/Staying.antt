@@ -23,7 +23,7 @@ use Rattle.rule.proofs.Ruling.{rule-least}
 use Rattle.rule.proofs.Orders.{Over}
 use Rattle.rule.proofs.Without.{rule-find, rule-rises}
 use Rattle.join.specs.Joining.{keyCount}
-use Rattle.join.specs.Trees.{Plan, written, result, Room, OneMonth, Covers, ruleBook}
+use Rattle.join.specs.Trees.{Plan, book, join, books, written, result, Room, OneMonth, Covers, ruleBook}
 use Rattle.join.specs.Nothing.{AddsNothing}
 use Rattle.join.proofs.Trees.{same-month, month-sounds}
 use Rattle.join.proofs.Orders.{any-order}
@@ -240,3 +240,25 @@ adds-exactly h b others month few q covers room = (
         second : (t u : Bool) → (t && u) ≡ true → u ≡ true
         second true u e = e
         second false u e = absurd (true≢false (sym e))
+
+-- there is a book at a tree's leaves
+some-book : (p : Plan) → (b : List ℕ) × In b (books p)
+unfolding books
+some-book (book b) = (b, here refl)
+some-book (join l r out) = let f = some-book l in (f .0, Memᴰ·append-left (books r) (f .1))
+
+-- two tests that pass together are one
+together : (t u : Bool) → (t ≡ true → u ≡ true) → (u ≡ true → t ≡ true) → t ≡ u
+together true u f g = sym (f refl)
+together false true f g = g refl
+together false false f g = refl
+
+-- So the operation, over the joined book of others in whatever order they came together, answers whether a book is spare among them.
+pub spare-exactly : (h : Header) (b : List ℕ) (others : List (List ℕ)) → OneMonth h (b ∷ others) → keyCount others ≤ mostRecords version
+    → (q : Plan) → Covers q others → Room q → addsNothing (written (result q)) b ≡ isSpare others b
+unfolding isSpare
+spare-exactly h b [] month few q covers room = let l = some-book q in absurd (in-nil (covers .only (l .0) (l .1)))
+spare-exactly h b (o ∷ os) month few q covers room =
+    let adds = adds-exactly h b (o ∷ os) month few q covers room in
+    let rule = nothing-exactly (o ∷ os) b in
+    together _ _ (λ t. rule .1 (adds .0 t)) (λ t. adds .1 (rule .0 t))

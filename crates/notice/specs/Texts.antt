@@ -2,7 +2,7 @@
 use mathlib.Core.Bool.{cond}
 use mathlib.Core.List.{List, _++_}
 use Prim.Native.Nat.{ℕ, _+_, _*_}
-use lib.Dec.{eqb}
+use lib.Dec.{eqb, ltb}
 use lib.IntN.{ℤ}
 use lib.ListN.{length}
 use Rattle.call.specs.Revising.{live, withdrawn}
@@ -55,9 +55,17 @@ termsText f x y = fieldText f ++ signedField ", " x ++ signedField " and " y
 unfoldable pub bothText : ℕ → List ℕ → List ℕ → List ℕ
 bothText r one other = field "contested at " r ++ word ": " ++ one ++ word " and " ++ other
 
--- in what, and which revision decides it
+-- the highest revision that a record holds
+abbrev pub highestRevision : ℕ
+highestRevision = 4294967295
+
+-- which revision decides it: the next one; above the highest there is none, and a withdrawal alone ends it
+unfoldable pub decidedText : ℕ → List ℕ
+decidedText r = cond (ltb r highestRevision) (field "; a revision " (r + 1) ++ word " decides it\n") (word "; only a withdrawal ends it\n")
+
+-- in what, and what decides it
 unfoldable pub differingText : ℕ → List ℕ → List ℕ → Field → ℤ → ℤ → List ℕ
-differingText r one other f x y = bothText r one other ++ word " differ in " ++ termsText f x y ++ field "; a revision " (r + 1) ++ word " decides it\n"
+differingText r one other f x y = bothText r one other ++ word " differ in " ++ termsText f x y ++ decidedText r
 
 -- a file that is refused, and where
 unfoldable pub refusedWithText : ℕ → ℕ → List ℕ
@@ -110,8 +118,11 @@ mostTerms = 14 + 2 * mostDecimal
 abbrev pub mostBoth : List ℕ → List ℕ → ℕ
 mostBoth one other = 20 + length one + length other + mostDecimal
 
+abbrev pub mostDecided : ℕ
+mostDecided = 25 + mostDecimal
+
 abbrev pub mostDiffering : List ℕ → List ℕ → ℕ
-mostDiffering one other = mostBoth one other + mostTerms + 36 + mostDecimal
+mostDiffering one other = mostBoth one other + 11 + mostTerms + mostDecided
 
 abbrev pub mostCalls : ℕ
 mostCalls = 34 + 4 * mostDecimal

@@ -11,9 +11,9 @@ ghost use lib.ListN.{length};
 ghost use Rattle.io.specs.Counts.{Counts};
 ghost use Rattle.render.specs.Inner.{Puts};
 ghost use Rattle.render.specs.Room.{Renders};
-ghost use Rattle.notice.specs.Texts.{named, holderText, stillText, beatenText, revisedText, overText, fieldText, termsText, bothText, differingText};
+ghost use Rattle.notice.specs.Texts.{named, holderText, stillText, beatenText, revisedText, overText, fieldText, termsText, bothText, decidedText, differingText};
 ghost use Rattle.notice.specs.Texts.{refusedWithText, noLineForText, callsText, filesText, restText, countedText, unsettledText};
-ghost use Rattle.notice.specs.Texts.{mostNamed, mostHolder, mostStill, mostBeaten, mostRevised, mostOver, mostTerms, mostBoth, mostDiffering};
+ghost use Rattle.notice.specs.Texts.{mostNamed, mostHolder, mostStill, mostBeaten, mostRevised, mostOver, mostTerms, mostBoth, mostDecided, mostDiffering};
 ghost use Rattle.notice.specs.Texts.{mostRefusedWith, mostNoLineFor, mostCalls, mostFiles, mostRest, mostCounted, mostUnsettled};
 
 // The most bytes of each, besides those of the books' names.
@@ -32,6 +32,9 @@ pub const MOST_REFUSED_WITH: usize = 57;
 pub const MOST_NO_LINE_FOR: usize = 39;
 
 pub const MOST_UNSETTLED: usize = 31;
+
+// The highest revision that a record holds.
+const HIGHEST_REVISION: u64 = 0xffff_ffff;
 
 // How many of each: records that do not stand; calls that are contested, closed to the member's kind, or against another; calls of members
 // without a line; bad lines of the register; series, ramping files and books that are not taken; books that add nothing; the part; sharing's
@@ -218,6 +221,17 @@ fn put_both(out: &mut [u8], r: u64, one: &[u8], other: &[u8]) -> usize
     put_word(out, d, other)
 }
 
+fn put_decided(out: &mut [u8], at: usize, r: u64) -> usize
+    requires { ⌜ at + mostDecided ≤ length (now out) ⌝ }
+    ensures { λ k. ⌜ Puts mostDecided (now (out .entry)) at (decidedText r) (now (out .exit)) k ⌝ }
+{
+    if r >= HIGHEST_REVISION {
+        return put_word(out, at, b"; only a withdrawal ends it\n");
+    }
+    let a = put_field(out, at, b"; a revision ", r + 1);
+    put_word(out, a, b" decides it\n")
+}
+
 fn put_differing(
     out: &mut [u8],
     r: u64,
@@ -228,17 +242,15 @@ fn put_differing(
     y: i64,
 ) -> usize
     requires { ⌜ mostDiffering (now one) (now other) ≤ length (now out) ⌝ }
-    requires { ⌜ r ≤ 4294967295 ⌝ }
     ensures { λ k. ⌜ Puts (mostDiffering (now (one .entry)) (now (other .entry))) (now (out .entry)) 0 (differingText r (now (one .entry)) (now (other .entry)) f x y) (now (out .exit)) k ⌝ }
 {
     let a = put_both(out, r, one, other);
     let b = put_word(out, a, b" differ in ");
     let c = put_terms(out, b, f, x, y);
-    let d = put_field(out, c, b"; a revision ", r + 1);
-    put_word(out, d, b" decides it\n")
+    put_decided(out, c, r)
 }
 
-// Two books that contradict each other at one revision: in what, and which revision decides it.
+// Two books that contradict each other at one revision: in what, and which revision decides it, where there is a higher one.
 pub fn differing_text(
     r: u32,
     one: &[u8],

@@ -20,20 +20,8 @@ put-word-requires c κs = search needs
 put-terms-requires : tie.Need-put-terms-requires
 put-terms-requires c κs = search needs
 
-slice-aggregate-put-field : tie.Need-slice-aggregate-put-field
-slice-aggregate-put-field c = search needs
-
-add-put-field : tie.Need-add-put-field
-add-put-field c = search needs
-
-put-field-requires : tie.Need-put-field-requires
-put-field-requires c κs = search needs
-
-slice-aggregate-put-word-2 : tie.Need-slice-aggregate-put-word-2
-slice-aggregate-put-word-2 c = search needs
-
-put-word-requires-2 : tie.Need-put-word-requires-2
-put-word-requires-2 c κs = search needs
+put-decided-requires : tie.Need-put-decided-requires
+put-decided-requires c κs = search needs
 
 same-length : tie.Need-same-length
 same-length c = search needs
@@ -47,15 +35,12 @@ y-fits c = search needs
 returns : tie.Need-returns
 unfolding differingText
 returns c =
-    let d = c .before .before .before .before .before .before .before .before .before .before .before .before .before .before .before in
-    let p = d .before .before .before .before .before .before .put-both .ensures in
-    let q = d .before .put-word .ensures in
-    let b = d .before .before .before .before .before .before .before .before .before .before .before in
-    let e = c .before .before .before .before .before .before .before .before .before .before .before .before in
-    let r = rw (toZ-ofZ w64 (b .args .x) (x-fits b), toZ-ofZ w64 (b .args .y) (y-fits b)) at (e .put-terms .ensures) in
-    let s = c .before .before .before .before .before .before .before .put-field .ensures in
-    let t = c .before .before .put-word2 .ensures in
-    looser _ (omega arith) (and-then (and-then (and-then (and-then p q) r) s) t)
+    let p = c .before .before .before .before .before .before .before .before .before .before .before .before .before .before .before .put-both .ensures in
+    let q = c .before .before .before .before .before .before .before .before .before .before .put-word .ensures in
+    let b = c .before .before .before .before .before .before .before .before .before .before .before .before .before .before .before .before .before .before .before .before in
+    let r = rw (toZ-ofZ w64 (b .args .x) (x-fits b), toZ-ofZ w64 (b .args .y) (y-fits b)) at (c .before .before .before .before .before .before .put-terms .ensures) in
+    let s = c .before .before .put-decided .ensures in
+    looser _ (omega arith) (and-then (and-then (and-then p q) r) s)
 
 pub put-differing-spec : {M : Type 1} → statement M
 put-differing-spec =
@@ -65,10 +50,6 @@ put-differing-spec =
     slice-aggregate-put-word
     put-word-requires
     put-terms-requires
-    slice-aggregate-put-field
-    add-put-field
-    put-field-requires
-    slice-aggregate-put-word-2
-    put-word-requires-2
+    put-decided-requires
     same-length
     returns)
