@@ -148,7 +148,7 @@ fn bare(name: &[u8]) -> &[u8] {
 }
 
 // 1 where two bytes are the same, otherwise 0.
-fn is_byte(a: u8, b: u8) -> usize
+fn count_one(a: u8, b: u8) -> usize
     ensures { λ r. ⌜ r ≤ 1 ⌝ }
 {
     if a == b {
@@ -164,7 +164,7 @@ fn count_of(usage: &[u8], b: u8) -> usize
     let mut n: usize = 0;
     let mut i: usize = 0;
     while i < usage.len() {
-        n += is_byte(usage[i], b);
+        n += count_one(usage[i], b);
         i += 1;
     }
     n

@@ -5,14 +5,13 @@ use mathlib.Core.List.{List, [], _∷_, _++_}
 use Prim.Native.Nat.{ℕ, zero, suc, _*_, _-_, _≤_, _<_}
 use native.Mathlib.Decide.{ℕ-discrete}
 use native.Mathlib.Omega.{arith}
-use lib.Dec.{eqb, leb, ltb, leb·zero}
+use lib.Dec.{eqb, leb, ltb}
 use lib.ListN.{length, getD}
 use borrow.Author.Tests.{eq-eqb, ne-eqb, eqb-true, eqb-false, le-leb, leb-true, lt-ltb, le-ltb, ltb-true}
-use Rattle.le.proofs.Tests.{holds-or-fails, fails}
+use Rattle.le.proofs.Tests.{holds-or-fails}
 use Rattle.row.specs.Numbers.{ceiling}
 use Rattle.grid.specs.Meaning.{allTold, rowBy}
-use Rattle.ramp.specs.Ramping.{mostActions, mostPower, mostDelay, mostRampRate, mostOverStandard, firstStandard}
-use Rattle.ramp.specs.Outcomes.{ActionWithin}
+use Rattle.ramp.specs.Ramping.{mostActions, mostOverStandard, firstStandard}
 use Rattle.hours.specs.declared.HourLine.{HourLine}
 use Rattle.hours.specs.Hours.{hourColumns, mostHours, asHourLine, ofHour, lastHour, hourLineIsSound}
 use Rattle.hours.specs.Outcomes.{LineWithin}

@@ -1,8 +1,8 @@
 -- A file whose hours fall, what is found and told of it, and that reading refuses it there; and one without a fault. They show that the definitions are about something.
 -- Assumes nothing.
 use mathlib.Core.Path.{_≡_, refl, ap}
-use mathlib.Core.List.{List, [], _∷_, _++_}
-use Prim.Native.Nat.{ℕ, _≤_}
+use mathlib.Core.List.{List}
+use Prim.Native.Nat.{ℕ}
 use native.Mathlib.Omega.{arith}
 use Rattle.le.proofs.Tests.{holds-or-fails}
 use Rattle.render.specs.Decimal.{word, decimalIn, decimal}
@@ -14,10 +14,9 @@ use Rattle.hours.specs.Hours.{asHourLine, ofHour, lastHour, readHours}
 use Rattle.pay.specs.declared.Member.{Member}
 use Rattle.faults.specs.Faults.{firstLine}
 use Rattle.faults.specs.Words.{lineText}
-use Rattle.hour_faults.specs.declared.HourWrong.{HourWrong}
 use Rattle.hour_faults.specs.declared.HourWrong.the-variants.{Sound, Earlier}
 use Rattle.hour_faults.specs.declared.HourFound.{HourFound}
-use Rattle.hour_faults.specs.HourFaults.{isSound, columnFault, monthFault, cellsFault, risingFault, fullFault, standardFault, fastFault, moveFault, actionFault, rowFault, hourFault, noneFound}
+use Rattle.hour_faults.specs.HourFaults.{isSound, columnFault, monthFault, cellsFault, risingFault, fullFault, standardFault, fastFault, moveFault, actionFault, rowFault, hourFault}
 use Rattle.hour_faults.specs.HourFaults.{foundFrom, firstHourFault}
 use Rattle.hour_faults.specs.Words.{earlierText, hourFaultText}
 use Rattle.hour_faults.proofs.Promises.{first-refused, none-taken}

@@ -1,14 +1,13 @@
 -- The line of a text's first row, by bytes of it. Assumes nothing.
 use mathlib.Core.Path.{_≡_, refl, ap, sym, _∙_}
 use mathlib.Core.Bool.{Bool, true, false, cond, _||_}
-use mathlib.Core.List.{List, [], _∷_, _++_}
+use mathlib.Core.List.{List, _++_}
 use Prim.Native.Nat.{ℕ, _+_, _≤_, _<_}
 use lib.Dec.{eqb}
 use lib.ListN.{length, getD, drop, drop-of-length-le}
 use borrow.Author.Tests.{eq-eqb, ne-eqb}
 use Rattle.row.specs.Numbers.{lineFeed, isDigit}
 use Rattle.row.proofs.Left.{next-byte}
-use Rattle.faults.specs.Faults.{firstLine}
 use Rattle.faults.proofs.Head.{digitFirst, first-is}
 use Rattle.hour_faults.specs.Inner.{firstLeft}
 

@@ -2,21 +2,20 @@
 use mathlib.Core.Path.{_≡_, refl, ap, sym, _∙_}
 use mathlib.Core.Bool.{Bool, true, false, cond}
 use mathlib.Core.List.{List, [], _∷_, _++_}
-use Prim.Native.Nat.{ℕ, suc, _+_, _*_, _%_, _^_, _≤_, _<_}
+use Prim.Native.Nat.{ℕ, suc, _+_, _%_, _^_, _≤_, _<_}
 use native.Mathlib.Decide.{decLt}
 use native.Mathlib.Nat.{mod-eq-of-lt}
-use native.Mathlib.Numerals.{add-one}
 use native.Mathlib.Omega.{arith}
-use lib.Dec.{eqb, leb}
+use lib.Dec.{eqb}
 use lib.ListN.{length, getD, length-append}
-use borrow.Author.Tests.{eq-eqb, ne-eqb, eqb-true, eqb-false, lt-leb, leb-true}
+use borrow.Author.Tests.{ne-eqb, eqb-true, eqb-false, lt-leb}
 use Rattle.grid.specs.declared.Grid.{Grid}
 use Rattle.grid.specs.Told.{rowsBy}
 use Rattle.grid.specs.Meaning.{Starts}
 use Rattle.ramp.specs.declared.Action.{Action}
 use Rattle.ramp.specs.Ramping.{mostActions, firstStandard}
 use Rattle.hours.specs.declared.HourLine.{HourLine}
-use Rattle.hours.specs.Hours.{mostHours, asHourLine, ofHour, lastHour, hourLineIsSound, firstBadLine}
+use Rattle.hours.specs.Hours.{mostHours, asHourLine, ofHour, lastHour, firstBadLine}
 use Rattle.hours.specs.Inner.{oneIf}
 use Rattle.hours.proofs.Lines.{of-its-hour, last-more}
 use Rattle.hours.proofs.Sound.{line-within, all-sound, sound-more, good-most}
@@ -25,10 +24,8 @@ use Rattle.faults.specs.Inner.{asTold}
 use Rattle.faults.proofs.Head.{first-small}
 use Rattle.hour_faults.specs.declared.HourWrong.{HourWrong}
 use Rattle.hour_faults.specs.declared.HourWrong.the-variants.{Sound}
-use Rattle.hour_faults.specs.declared.HourFound.{HourFound}
 use Rattle.hour_faults.specs.declared.judge.Judge.{Judge}
-use Rattle.hour_faults.specs.declared.Finder.{Finder}
-use Rattle.hour_faults.specs.HourFaults.{isSound, orElse, cellsFault, risingFault, actionFault, rowFault, hourFault, noneFound, foundFrom, firstHourFault}
+use Rattle.hour_faults.specs.HourFaults.{isSound, risingFault, actionFault, rowFault, hourFault, foundFrom, firstHourFault}
 use Rattle.hour_faults.specs.Inner.{judgeFirst, filledFor, standardFor, judgeFault, judgeTaking, judgeRefusing, judgeOf, judgeAll, firstLeft, foundBy, judgeLeft, foundLeft}
 use Rattle.hour_faults.proofs.Exact.{sound-line}
 use Rattle.hour_faults.proofs.Streaming.{stays}
@@ -152,7 +149,8 @@ module _ (hours : ℕ) (few : hours ≤ mostHours) (first : ℕ) (low : first �
       still = ap isSound (k .wrong)
 
       go : (t : Bool) → isSound (hourFault hours before row) ≡ t
-          → ((i : Judge) → Keeps hours (before ++ asHourLine row ∷ []) i → foundBy first (judgeAll i rows) ≡ foundFrom hours (first + length (before ++ asHourLine row ∷ [])) (before ++ asHourLine row ∷ []) rows)
+          → ((i : Judge) → Keeps hours (before ++ asHourLine row ∷ []) i
+          → foundBy first (judgeAll i rows) ≡ foundFrom hours (first + length (before ++ asHourLine row ∷ [])) (before ++ asHourLine row ∷ []) rows)
           → foundBy first (judgeAll (judgeOf j row) rows)
           ≡ cond t (foundFrom hours (suc (first + length before)) (before ++ asHourLine row ∷ []) rows) (record { line = first + length before; wrong = hourFault hours before row })
       go true e more =

@@ -1,7 +1,7 @@
 -- The first fault of a ramping file is at the line that reading it refuses, and there is none exactly where it is taken. Assumes nothing.
 use mathlib.Core.Path.{_≡_, refl, ap, sym, _∙_}
 use mathlib.Core.Logic.{_↔_}
-use mathlib.Core.Bool.{Bool, true, false, cond, not, _&&_}
+use mathlib.Core.Bool.{Bool, true, false, cond}
 use mathlib.Core.List.{List, [], _∷_, _++_, map, append-assoc, append-nil}
 use Prim.Native.Nat.{ℕ, suc, _+_, _≤_, _<_}
 use native.Mathlib.Decide.{decLt}
@@ -11,7 +11,7 @@ use lib.ListN.{length, take}
 use borrow.Author.Tests.{lt-ltb, le-ltb}
 use Rattle.le.proofs.Tests.{holds-or-fails}
 use Rattle.row.specs.Meaning.{mostColumns}
-use Rattle.grid.specs.Grid.{isBlank, cellsOf, bodyOf, rowsOf}
+use Rattle.grid.specs.Grid.{isBlank, cellsOf, bodyOf}
 use Rattle.grid.specs.Told.{told, rowIn, rowsBy}
 use Rattle.grid.specs.Meaning.{rowBy}
 use Rattle.grid.proofs.Rows.{numbers-rows}

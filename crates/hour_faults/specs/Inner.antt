@@ -1,6 +1,5 @@
 -- What a finder keeps of the lines that it has judged, and what it would find, whatever follows. It serves the contracts of the finder alone; what is wrong with a ramping
 -- file is in HourFaults. Assumes nothing.
-use mathlib.Core.Path.{_≡_}
 use mathlib.Core.Bool.{Bool, cond, not, _&&_}
 use mathlib.Core.List.{List, [], _∷_}
 use Prim.Native.Nat.{ℕ, _+_, _%_, _^_}

@@ -1,13 +1,13 @@
 -- What is wrong with a line of a ramping file in words: the file's name, the line, what is wrong and what is wanted. What registers and series have too is said as there.
 -- Assumes nothing.
 use mathlib.Core.Bool.{cond}
-use mathlib.Core.List.{List, [], _∷_, _++_}
+use mathlib.Core.List.{List, [], _++_}
 use Prim.Native.Nat.{ℕ, _+_, _*_}
 use lib.Dec.{eqb}
 use lib.ListN.{length}
 use Rattle.render.specs.Decimal.{word, field}
 use Rattle.render.specs.Room.{mostDecimal}
-use Rattle.faults.specs.Words.{numberText, limitsText, columnsText, lineText, mostNumber, mostLimits, mostLine}
+use Rattle.faults.specs.Words.{numberText, limitsText, columnsText, lineText, mostNumber, mostLine}
 use Rattle.hour_faults.specs.declared.HourWrong.{HourWrong}
 use Rattle.hour_faults.specs.declared.HourWrong.the-variants.{Sound, Blank, Columns, NoNumber, Outside, Earlier, Full, OtherStandard, TooFast, NoMove}
 use Rattle.hour_faults.specs.declared.HourFound.{HourFound}

@@ -7,7 +7,6 @@ use faults::words::put_line;
 use faults::words::put_number;
 use render::put_field;
 use render::put_word;
-ghost use mathlib.Core.Path.{_≡_};
 ghost use Prim.Native.Nat.{_+_, _≤_};
 ghost use lib.ListN.{length};
 ghost use Rattle.io.specs.Counts.{Counts};

@@ -27,7 +27,8 @@ same-length c = search needs
 
 returns : tie.Need-returns
 unfolding fenText
-returns c = and-then (and-then (c .before .before .before .before .before .before .before .before .before .before .before .before .put-field .ensures) (c .before .before .before .before .before .before .before .put-yuan-field .ensures)) (c .before .before .put-word .ensures)
+returns c = and-then (and-then (c .before .before .before .before .before .before .before .before .before .before .before .before .put-field .ensures)
+    (c .before .before .before .before .before .before .before .put-yuan-field .ensures)) (c .before .before .put-word .ensures)
 
 pub put-fen-spec : {M : Type 1} → statement M
 put-fen-spec =

@@ -27,7 +27,8 @@ same-length c = search needs
 
 returns : tie.Need-returns
 unfolding grainsText
-returns c = and-then (and-then (c .before .before .before .before .before .before .before .before .before .before .before .before .put-field .ensures) (c .before .before .before .before .before .before .before .put-points-field .ensures)) (c .before .before .put-word .ensures)
+returns c = and-then (and-then (c .before .before .before .before .before .before .before .before .before .before .before .before .put-field .ensures)
+    (c .before .before .before .before .before .before .before .put-points-field .ensures)) (c .before .before .put-word .ensures)
 
 pub put-grains-spec : {M : Type 1} → statement M
 put-grains-spec =

@@ -1,4 +1,4 @@
-use borrow.Author.Tests.{eq-eqb, ne-eqb, lt-ltb, le-ltb, le-leb, lt-leb, not-true, not-false}
+use borrow.Author.Tests.{eq-eqb, ne-eqb}
 use Rattle.faults.specs.Faults.{firstLine}
 use Rattle.hour_faults.specs.Inner.{firstLeft}
 use Rattle.hour_faults.proofs.first_at_end.Statement.{statement}

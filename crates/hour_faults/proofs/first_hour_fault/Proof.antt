@@ -1,5 +1,5 @@
-use mathlib.Core.Path.{_≡_, ap, sym, _∙_}
-use mathlib.Core.List.{List, [], _++_, append-nil}
+use mathlib.Core.Path.{ap, _∙_}
+use mathlib.Core.List.{List, [], append-nil}
 use Prim.Native.Nat.{ℕ}
 use Rattle.hour_faults.specs.Inner.{foundLeft}
 use borrow.Author.Needs.{needs}

@@ -1,6 +1,6 @@
 use mathlib.Core.Path.{refl}
 use Rattle.hour_faults.proofs.Judging.{month-out}
-use borrow.Author.Tests.{eq-eqb, ne-eqb, lt-ltb, le-ltb, le-leb, lt-leb, not-true, not-false}
+use borrow.Author.Tests.{lt-ltb, le-ltb}
 use native.Mathlib.Omega.{arith}
 use Rattle.hour_faults.specs.HourFaults.{monthFault}
 use borrow.Author.Needs.{needs}

@@ -1,4 +1,4 @@
-use borrow.Author.Tests.{eq-eqb, ne-eqb, lt-ltb, le-ltb, le-leb, lt-leb, not-true, not-false}
+use borrow.Author.Tests.{eq-eqb, ne-eqb}
 use Rattle.hour_faults.specs.HourFaults.{moveFault}
 use Rattle.hour_faults.proofs.move_fault.Statement.{statement}
 use Rattle.hour_faults.proofs.move_fault.Tie as tie

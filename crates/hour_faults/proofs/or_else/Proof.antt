@@ -1,4 +1,4 @@
-use mathlib.Core.Path.{_≡_, refl, ap, sym, _∙_}
+use mathlib.Core.Path.{sym, _∙_}
 use borrow.Author.Needs.{needs}
 use Rattle.hour_faults.proofs.or_else.Statement.{statement}
 use Rattle.hour_faults.proofs.or_else.Tie as tie

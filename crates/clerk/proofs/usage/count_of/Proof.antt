@@ -13,11 +13,11 @@ abbrev μ-loop : tie.MeasureT-loop
 loop-holds : tie.Need-loop-holds Inv-loop μ-loop
 loop-holds c = search needs
 
-shared-slice-read-is-byte : tie.Need-shared-slice-read-is-byte Inv-loop μ-loop
-shared-slice-read-is-byte c = search needs
+shared-slice-read-count-one : tie.Need-shared-slice-read-count-one Inv-loop μ-loop
+shared-slice-read-count-one c = search needs
 
-is-byte-requires : tie.Need-is-byte-requires Inv-loop μ-loop
-is-byte-requires c κs = search needs
+count-one-requires : tie.Need-count-one-requires Inv-loop μ-loop
+count-one-requires c κs = search needs
 
 add-n : tie.Need-add-n Inv-loop μ-loop
 add-n c = search needs
@@ -41,8 +41,8 @@ count-of-spec =
     Inv-loop
     μ-loop
     loop-holds
-    shared-slice-read-is-byte
-    is-byte-requires
+    shared-slice-read-count-one
+    count-one-requires
     add-n
     add-i
     loop-less

@@ -22,7 +22,8 @@ same-length c = search needs
 
 returns : tie.Need-returns
 unfolding columnsText
-returns c = looser _ (omega arith) (and-then (and-then (c .before .before .before .before .before .before .before .before .before .before .before .put-cells .ensures) (c .before .before .before .before .before .before .put-field .ensures)) (c .before .before .put-parted .ensures))
+returns c = looser _ (omega arith) (and-then (and-then (c .before .before .before .before .before .before .before .before .before .before .before .put-cells .ensures)
+    (c .before .before .before .before .before .before .put-field .ensures)) (c .before .before .put-parted .ensures))
 
 pub put-columns-spec : {M : Type 1} → statement M
 put-columns-spec =

@@ -32,7 +32,9 @@ returns c =
     let p = c .before .before .before .before .before .before .before .before .before .before .before .before .put-field .ensures in
     let q = c .before .before .before .before .before .before .before .put-field2 .ensures in
     let r = c .before .before .put-word .ensures in
-    same-put (neither-limit (a .column) (a .least) (a .most) (c .before .before .before .before .before .before .before .before .before .before .before .before .before .before .before .if1 .taken)) (looser _ (omega arith) (and-then (and-then p q) r))
+    same-put (neither-limit (a .column) (a .least) (a .most)
+    (c .before .before .before .before .before .before .before .before .before .before .before .before .before .before .before .if1 .taken))
+    (looser _ (omega arith) (and-then (and-then p q) r))
 
 slice-aggregate-put-field-3 : tie.Need-slice-aggregate-put-field-3
 slice-aggregate-put-field-3 c = search needs

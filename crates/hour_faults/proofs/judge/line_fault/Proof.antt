@@ -1,7 +1,7 @@
-use mathlib.Core.Path.{_≡_, refl, ap, sym, _∙_}
-use borrow.Author.Tests.{eq-eqb, ne-eqb, lt-ltb, le-ltb, le-leb, lt-leb, not-true, not-false}
-use Rattle.hour_faults.proofs.Judging.{or-is, low-standard}
-use Rattle.hour_faults.specs.HourFaults.{isSound, orElse, actionFault}
+use mathlib.Core.Path.{ap, sym, _∙_}
+use borrow.Author.Tests.{not-true, not-false}
+use Rattle.hour_faults.proofs.Judging.{low-standard}
+use Rattle.hour_faults.specs.HourFaults.{isSound}
 use borrow.Author.Needs.{needs}
 use Rattle.hour_faults.proofs.judge.line_fault.Statement.{statement}
 use Rattle.hour_faults.proofs.judge.line_fault.Tie as tie

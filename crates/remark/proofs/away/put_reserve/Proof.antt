@@ -32,7 +32,8 @@ same-length-2 c = search needs
 returns-2 : tie.Need-returns-2
 returns-2 c =
     let a = c .before .before .before .before .before .before .before .before .args in
-    same-put (reserve-2 (a .kind) (c .before .before .before .before .before .before .if1 .left) (c .before .before .before .before .before .if2 .taken)) (looser mostWanted (omega arith) (c .before .before .put-word2 .ensures))
+    same-put (reserve-2 (a .kind) (c .before .before .before .before .before .before .if1 .left) (c .before .before .before .before .before .if2 .taken))
+    (looser mostWanted (omega arith) (c .before .before .put-word2 .ensures))
 
 slice-aggregate-put-word-3 : tie.Need-slice-aggregate-put-word-3
 slice-aggregate-put-word-3 c = search needs
@@ -46,7 +47,8 @@ same-length-3 c = search needs
 returns-3 : tie.Need-returns-3
 returns-3 c =
     let a = c .before .before .before .before .before .before .before .before .before .args in
-    same-put (reserve-3 (a .kind) (c .before .before .before .before .before .before .before .if1 .left) (c .before .before .before .before .before .before .if2 .left) (c .before .before .before .before .before .if3 .taken)) (looser mostWanted (omega arith) (c .before .before .put-word3 .ensures))
+    same-put (reserve-3 (a .kind) (c .before .before .before .before .before .before .before .if1 .left) (c .before .before .before .before .before .before .if2 .left)
+    (c .before .before .before .before .before .if3 .taken)) (looser mostWanted (omega arith) (c .before .before .put-word3 .ensures))
 
 slice-aggregate-put-word-4 : tie.Need-slice-aggregate-put-word-4
 slice-aggregate-put-word-4 c = search needs
@@ -60,7 +62,8 @@ same-length-4 c = search needs
 returns-4 : tie.Need-returns-4
 returns-4 c =
     let a = c .before .before .before .before .before .before .before .before .before .args in
-    same-put (reserve-other (a .kind) (c .before .before .before .before .before .before .before .if1 .left) (c .before .before .before .before .before .before .if2 .left) (c .before .before .before .before .before .if3 .left)) (looser mostWanted (omega arith) (c .before .before .put-word4 .ensures))
+    same-put (reserve-other (a .kind) (c .before .before .before .before .before .before .before .if1 .left) (c .before .before .before .before .before .before .if2 .left)
+    (c .before .before .before .before .before .if3 .left)) (looser mostWanted (omega arith) (c .before .before .put-word4 .ensures))
 
 pub put-reserve-spec : {M : Type 1} → statement M
 put-reserve-spec =

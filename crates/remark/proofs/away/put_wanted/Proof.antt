@@ -43,7 +43,8 @@ same-length-3 c = search needs
 returns-3 : tie.Need-returns-3
 returns-3 c =
     let a = c .before .before .before .before .before .before .before .before .before .args in
-    same-put (wanted-3 (a .service) (a .kind) (c .before .before .before .before .before .before .before .if1 .left) (c .before .before .before .before .before .before .if2 .left) (c .before .before .before .before .before .if3 .taken)) (looser mostWanted (omega arith) (c .before .before .put-word2 .ensures))
+    same-put (wanted-3 (a .service) (a .kind) (c .before .before .before .before .before .before .before .if1 .left) (c .before .before .before .before .before .before .if2 .left)
+    (c .before .before .before .before .before .if3 .taken)) (looser mostWanted (omega arith) (c .before .before .put-word2 .ensures))
 
 slice-aggregate-put-word-3 : tie.Need-slice-aggregate-put-word-3
 slice-aggregate-put-word-3 c = search needs
@@ -57,7 +58,9 @@ same-length-4 c = search needs
 returns-4 : tie.Need-returns-4
 returns-4 c =
     let a = c .before .before .before .before .before .before .before .before .before .before .args in
-    same-put (wanted-4 (a .service) (a .kind) (c .before .before .before .before .before .before .before .before .if1 .left) (c .before .before .before .before .before .before .before .if2 .left) (c .before .before .before .before .before .before .if3 .left) (c .before .before .before .before .before .if4 .taken)) (looser mostWanted (omega arith) (c .before .before .put-word3 .ensures))
+    same-put (wanted-4 (a .service) (a .kind) (c .before .before .before .before .before .before .before .before .if1 .left)
+    (c .before .before .before .before .before .before .before .if2 .left) (c .before .before .before .before .before .before .if3 .left)
+    (c .before .before .before .before .before .if4 .taken)) (looser mostWanted (omega arith) (c .before .before .put-word3 .ensures))
 
 slice-aggregate-put-word-4 : tie.Need-slice-aggregate-put-word-4
 slice-aggregate-put-word-4 c = search needs
@@ -71,7 +74,10 @@ same-length-5 c = search needs
 returns-5 : tie.Need-returns-5
 returns-5 c =
     let a = c .before .before .before .before .before .before .before .before .before .before .before .args in
-    same-put (wanted-5 (a .service) (a .kind) (c .before .before .before .before .before .before .before .before .before .if1 .left) (c .before .before .before .before .before .before .before .before .if2 .left) (c .before .before .before .before .before .before .before .if3 .left) (c .before .before .before .before .before .before .if4 .left) (c .before .before .before .before .before .if5 .taken)) (looser mostWanted (omega arith) (c .before .before .put-word4 .ensures))
+    same-put (wanted-5 (a .service) (a .kind) (c .before .before .before .before .before .before .before .before .before .if1 .left)
+    (c .before .before .before .before .before .before .before .before .if2 .left) (c .before .before .before .before .before .before .before .if3 .left)
+    (c .before .before .before .before .before .before .if4 .left) (c .before .before .before .before .before .if5 .taken)) (looser mostWanted (omega arith)
+    (c .before .before .put-word4 .ensures))
 
 slice-aggregate-put-word-5 : tie.Need-slice-aggregate-put-word-5
 slice-aggregate-put-word-5 c = search needs
@@ -85,7 +91,10 @@ same-length-6 c = search needs
 returns-6 : tie.Need-returns-6
 returns-6 c =
     let a = c .before .before .before .before .before .before .before .before .before .before .before .before .args in
-    same-put (wanted-6 (a .service) (a .kind) (c .before .before .before .before .before .before .before .before .before .before .if1 .left) (c .before .before .before .before .before .before .before .before .before .if2 .left) (c .before .before .before .before .before .before .before .before .if3 .left) (c .before .before .before .before .before .before .before .if4 .left) (c .before .before .before .before .before .before .if5 .left) (c .before .before .before .before .before .if6 .taken)) (looser mostWanted (omega arith) (c .before .before .put-word5 .ensures))
+    same-put (wanted-6 (a .service) (a .kind) (c .before .before .before .before .before .before .before .before .before .before .if1 .left)
+    (c .before .before .before .before .before .before .before .before .before .if2 .left) (c .before .before .before .before .before .before .before .before .if3 .left)
+    (c .before .before .before .before .before .before .before .if4 .left) (c .before .before .before .before .before .before .if5 .left)
+    (c .before .before .before .before .before .if6 .taken)) (looser mostWanted (omega arith) (c .before .before .put-word5 .ensures))
 
 slice-aggregate-put-word-6 : tie.Need-slice-aggregate-put-word-6
 slice-aggregate-put-word-6 c = search needs
@@ -99,7 +108,11 @@ same-length-7 c = search needs
 returns-7 : tie.Need-returns-7
 returns-7 c =
     let a = c .before .before .before .before .before .before .before .before .before .before .before .before .before .args in
-    same-put (wanted-8 (a .service) (a .kind) (c .before .before .before .before .before .before .before .before .before .before .before .if1 .left) (c .before .before .before .before .before .before .before .before .before .before .if2 .left) (c .before .before .before .before .before .before .before .before .before .if3 .left) (c .before .before .before .before .before .before .before .before .if4 .left) (c .before .before .before .before .before .before .before .if5 .left) (c .before .before .before .before .before .before .if6 .left) (c .before .before .before .before .before .if7 .taken)) (looser mostWanted (omega arith) (c .before .before .put-word6 .ensures))
+    same-put (wanted-8 (a .service) (a .kind) (c .before .before .before .before .before .before .before .before .before .before .before .if1 .left)
+    (c .before .before .before .before .before .before .before .before .before .before .if2 .left)
+    (c .before .before .before .before .before .before .before .before .before .if3 .left) (c .before .before .before .before .before .before .before .before .if4 .left)
+    (c .before .before .before .before .before .before .before .if5 .left) (c .before .before .before .before .before .before .if6 .left)
+    (c .before .before .before .before .before .if7 .taken)) (looser mostWanted (omega arith) (c .before .before .put-word6 .ensures))
 
 slice-aggregate-put-word-7 : tie.Need-slice-aggregate-put-word-7
 slice-aggregate-put-word-7 c = search needs
@@ -113,7 +126,11 @@ same-length-8 c = search needs
 returns-8 : tie.Need-returns-8
 returns-8 c =
     let a = c .before .before .before .before .before .before .before .before .before .before .before .before .before .args in
-    same-put (wanted-other (a .service) (a .kind) (c .before .before .before .before .before .before .before .before .before .before .before .if1 .left) (c .before .before .before .before .before .before .before .before .before .before .if2 .left) (c .before .before .before .before .before .before .before .before .before .if3 .left) (c .before .before .before .before .before .before .before .before .if4 .left) (c .before .before .before .before .before .before .before .if5 .left) (c .before .before .before .before .before .before .if6 .left) (c .before .before .before .before .before .if7 .left)) (looser mostWanted (omega arith) (c .before .before .put-word7 .ensures))
+    same-put (wanted-other (a .service) (a .kind) (c .before .before .before .before .before .before .before .before .before .before .before .if1 .left)
+    (c .before .before .before .before .before .before .before .before .before .before .if2 .left)
+    (c .before .before .before .before .before .before .before .before .before .if3 .left) (c .before .before .before .before .before .before .before .before .if4 .left)
+    (c .before .before .before .before .before .before .before .if5 .left) (c .before .before .before .before .before .before .if6 .left)
+    (c .before .before .before .before .before .if7 .left)) (looser mostWanted (omega arith) (c .before .before .put-word7 .ensures))
 
 pub put-wanted-spec : {M : Type 1} → statement M
 put-wanted-spec =

@@ -24,7 +24,8 @@ same-length c = search needs
 
 returns : tie.Need-returns
 unfolding argumentText
-returns c = and-then (and-then (c .before .before .before .before .before .before .before .before .before .before .before .put-field .ensures) (c .before .before .before .before .before .before .put-word .ensures)) (c .before .before .put-word2 .ensures)
+returns c = and-then (and-then (c .before .before .before .before .before .before .before .before .before .before .before .put-field .ensures)
+    (c .before .before .before .before .before .before .put-word .ensures)) (c .before .before .put-word2 .ensures)
 
 pub put-argument-spec : {M : Type 1} → statement M
 put-argument-spec =

@@ -34,7 +34,8 @@ same-length-2 c = search needs
 returns-2 : tie.Need-returns-2
 returns-2 c =
     let a = c .before .before .before .before .before .before .before .args in
-    same-put (as-many (a .more) (a .least) (a .most) (c .before .before .before .before .before .if1 .left) (c .before .before .before .before .if2 .taken)) (looser mostUpto (omega arith) (c .before .before .put-words2 .ensures))
+    same-put (as-many (a .more) (a .least) (a .most) (c .before .before .before .before .before .if1 .left) (c .before .before .before .before .if2 .taken))
+    (looser mostUpto (omega arith) (c .before .before .put-words2 .ensures))
 
 slice-aggregate-put-field : tie.Need-slice-aggregate-put-field
 slice-aggregate-put-field c = search needs
@@ -56,7 +57,8 @@ returns-3 c =
     let a = c .before .before .before .before .before .before .before .before .before .before .before .before .before .args in
     let p = c .before .before .before .before .before .before .before .put-field .ensures in
     let q = c .before .before .put-word2 .ensures in
-    same-put (up-to (a .more) (a .least) (a .most) (c .before .before .before .before .before .before .before .before .before .before .before .if1 .left) (c .before .before .before .before .before .before .before .before .before .before .if2 .left)) (looser mostUpto (omega arith) (and-then p q))
+    same-put (up-to (a .more) (a .least) (a .most) (c .before .before .before .before .before .before .before .before .before .before .before .if1 .left)
+    (c .before .before .before .before .before .before .before .before .before .before .if2 .left)) (looser mostUpto (omega arith) (and-then p q))
 
 pub put-upto-spec : {M : Type 1} → statement M
 put-upto-spec =

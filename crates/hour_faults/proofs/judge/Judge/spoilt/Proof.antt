@@ -1,5 +1,5 @@
-use mathlib.Core.Path.{_≡_, refl, ap, sym, _∙_}
-use borrow.Author.Tests.{eq-eqb, ne-eqb, lt-ltb, le-ltb, le-leb, lt-leb, not-true, not-false}
+use mathlib.Core.Path.{sym, _∙_}
+use borrow.Author.Tests.{not-true, not-false}
 use Rattle.hour_faults.proofs.Judging.{spoilt-found, spoilt-now}
 use borrow.Author.Needs.{needs}
 use Rattle.hour_faults.proofs.judge.Judge.spoilt.Statement.{statement}
