@@ -3,3 +3,4 @@ pub mod Judging
 pub mod Texts
 pub mod Walking
 pub mod Promises
+pub mod Outputs
