@@ -53,7 +53,8 @@ or-else-requires-4 c κs = search needs
 returns : tie.Need-returns
 unfolding actionFault
 returns c = c .or-else4 .ensures ∙ or-is (c .before .rising-fault .ensures) (c .before .before .or-else3 .ensures ∙ or-is (c .before .before .before .full-fault .ensures)
-    (c .before .before .before .before .or-else2 .ensures ∙ or-is (c .before .before .before .before .before .standard-fault .ensures) (c .before .before .before .before .before .before .or-else .ensures ∙ or-is (c .before .before .before .before .before .before .before .fast-fault .ensures)
+    (c .before .before .before .before .or-else2 .ensures ∙ or-is (c .before .before .before .before .before .standard-fault .ensures)
+    (c .before .before .before .before .before .before .or-else .ensures ∙ or-is (c .before .before .before .before .before .before .before .fast-fault .ensures)
     (c .before .before .before .before .before .before .before .before .move-fault .ensures))))
 
 pub action-fault-spec : {M : Type 1} → statement M

@@ -86,8 +86,12 @@ or-else-requires-6 c κs = search needs
 returns : tie.Need-returns
 unfolding cellsFault
 returns c = c .or-else6 .ensures ∙ or-is (c .before .month-fault .ensures) (c .before .before .or-else5 .ensures ∙ or-is (c .before .before .before .column-fault6 .ensures)
-    (c .before .before .before .before .or-else4 .ensures ∙ or-is (c .before .before .before .before .before .column-fault5 .ensures) (c .before .before .before .before .before .before .or-else3 .ensures ∙ or-is (c .before .before .before .before .before .before .before .column-fault4 .ensures)
-    (c .before .before .before .before .before .before .before .before .or-else2 .ensures ∙ or-is (c .before .before .before .before .before .before .before .before .before .column-fault3 .ensures) (c .before .before .before .before .before .before .before .before .before .before .or-else .ensures ∙ or-is (c .before .before .before .before .before .before .before .before .before .before .before .column-fault2 .ensures)
+    (c .before .before .before .before .or-else4 .ensures ∙ or-is (c .before .before .before .before .before .column-fault5 .ensures)
+    (c .before .before .before .before .before .before .or-else3 .ensures ∙ or-is (c .before .before .before .before .before .before .before .column-fault4 .ensures)
+    (c .before .before .before .before .before .before .before .before .or-else2 .ensures ∙ or-is
+    (c .before .before .before .before .before .before .before .before .before .column-fault3 .ensures)
+    (c .before .before .before .before .before .before .before .before .before .before .or-else .ensures ∙ or-is
+    (c .before .before .before .before .before .before .before .before .before .before .before .column-fault2 .ensures)
     (c .before .before .before .before .before .before .before .before .before .before .before .before .column-fault .ensures))))))
 
 pub cells-fault-spec : {M : Type 1} → statement M

@@ -34,7 +34,8 @@ is-digit-requires c κs = search needs
 
 returns-3 : tie.Need-returns-3 Inv-loop μ-loop
 returns-3 c = let a = c .before .before .before .before .before .before .before .before .before .args in let l = c .before .before .before .before .before .before .loop in
-    λ rest. at-digit (a .bytes .now) (l .i) (l .inv .1) (a .known) (omega (arith, c .before .before .before .before .before .before .before .if1 .left)) rest (omega arith) (c .before .before .before .if2 .left)
+    λ rest. at-digit (a .bytes .now) (l .i) (l .inv .1) (a .known) (omega (arith, c .before .before .before .before .before .before .before .if1 .left)) rest
+    (omega arith) (c .before .before .before .if2 .left)
     (sym (c .before .is-digit .ensures) ∙ c .if3 .taken)
 
 add-i : tie.Need-add-i Inv-loop μ-loop

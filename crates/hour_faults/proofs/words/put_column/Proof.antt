@@ -25,7 +25,9 @@ same-length c = search needs
 
 returns : tie.Need-returns
 unfolding columnText
-returns c = looser _ (omega arith) (and-then (and-then (c .before .before .before .before .before .before .before .before .before .before .before .put-field .ensures) (c .before .before .before .before .before .before .put-word .ensures)) (c .before .before .put-name .ensures))
+returns c =
+    looser _ (omega arith) (and-then (and-then (c .before .before .before .before .before .before .before .before .before .before .before .put-field .ensures)
+    (c .before .before .before .before .before .before .put-word .ensures)) (c .before .before .put-name .ensures))
 
 pub put-column-spec : {M : Type 1} → statement M
 put-column-spec =

@@ -28,7 +28,10 @@ same-length c = search needs
 
 returns : tie.Need-returns
 unfolding earlierText
-returns c = looser _ (omega arith) (and-then (and-then (c .before .before .before .before .before .before .before .before .before .before .before .before .put-field .ensures) (c .before .before .before .before .before .before .before .put-field2 .ensures)) (c .before .before .put-word .ensures))
+returns c =
+    looser _ (omega arith) (and-then (and-then
+    (c .before .before .before .before .before .before .before .before .before .before .before .before .put-field .ensures)
+    (c .before .before .before .before .before .before .before .put-field2 .ensures)) (c .before .before .put-word .ensures))
 
 pub put-earlier-spec : {M : Type 1} → statement M
 put-earlier-spec =

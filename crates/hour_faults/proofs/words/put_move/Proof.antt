@@ -25,7 +25,10 @@ same-length c = search needs
 
 returns : tie.Need-returns
 unfolding moveText
-returns c = looser _ (omega arith) (and-then (and-then (c .before .before .before .before .before .before .before .before .before .before .before .before .put-column .ensures) (c .before .before .before .before .before .before .before .put-field .ensures)) (c .before .before .put-word .ensures))
+returns c =
+    looser _ (omega arith) (and-then (and-then
+    (c .before .before .before .before .before .before .before .before .before .before .before .before .put-column .ensures)
+    (c .before .before .before .before .before .before .before .put-field .ensures)) (c .before .before .put-word .ensures))
 
 pub put-move-spec : {M : Type 1} → statement M
 put-move-spec =

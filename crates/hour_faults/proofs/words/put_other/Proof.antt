@@ -25,7 +25,10 @@ same-length c = search needs
 
 returns : tie.Need-returns
 unfolding otherText
-returns c = looser _ (omega arith) (and-then (and-then (c .before .before .before .before .before .before .before .before .before .before .before .before .put-cell .ensures) (c .before .before .before .before .before .before .before .put-field .ensures)) (c .before .before .put-field2 .ensures))
+returns c =
+    looser _ (omega arith) (and-then (and-then
+    (c .before .before .before .before .before .before .before .before .before .before .before .before .put-cell .ensures)
+    (c .before .before .before .before .before .before .before .put-field .ensures)) (c .before .before .put-field2 .ensures))
 
 pub put-other-spec : {M : Type 1} → statement M
 put-other-spec =

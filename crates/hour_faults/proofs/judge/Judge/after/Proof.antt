@@ -23,14 +23,26 @@ spoilt-requires c κs = search needs
 
 returns-3 : tie.Need-returns-3
 unfolding judgeAfter
-returns-3 c = rw (sym (c .before .before .before .before .before .is-heading .ensures) ∙ c .before .before .before .before .if1 .left, sym (c .before .before .before .is-blank .ensures) ∙ c .before .before .if2 .left, c .before .if3 .taken) (c .spoilt .ensures)
+returns-3 c =
+    rw (
+      sym (c .before .before .before .before .before .is-heading .ensures) ∙ c .before .before .before .before .if1 .left,
+      sym
+          (c .before .before .before .is-blank .ensures) ∙ c .before .before .if2 .left,
+      c .before .if3 .taken,
+    ) (c .spoilt .ensures)
 
 with-requires : tie.Need-with-requires
 with-requires c κs = search needs
 
 returns-4 : tie.Need-returns-4
 unfolding judgeAfter
-returns-4 c = rw (sym (c .before .before .before .before .before .is-heading .ensures) ∙ c .before .before .before .before .if1 .left, sym (c .before .before .before .is-blank .ensures) ∙ c .before .before .if2 .left, c .before .if3 .left) (c .with .ensures)
+returns-4 c =
+    rw (
+      sym (c .before .before .before .before .before .is-heading .ensures) ∙ c .before .before .before .before .if1 .left,
+      sym
+          (c .before .before .before .is-blank .ensures) ∙ c .before .before .if2 .left,
+      c .before .if3 .left,
+    ) (c .with .ensures)
 
 pub after-spec : {M : Type 1} → statement M
 after-spec =

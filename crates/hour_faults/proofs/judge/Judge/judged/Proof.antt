@@ -29,7 +29,8 @@ refusing-requires c κs = search needs
 returns-2 : tie.Need-returns-2
 returns-2 c = let a = c .before .before .before .before .before .before .args in let room : length (a .cells) ≡ 8 = search needs in let few : a .count ≤ length (a .cells) = omega arith in
     let wrong = c .before .before .before .fault .ensures in
-    c .refusing .ensures ∙ ap (judgeRefusing (a .self)) wrong ∙ judged-bad (a .self) (a .cells) (a .count) few (sym (c .before .before .before .before .before .is-sound .ensures) ∙ not-false _ (c .before .before .before .before .if1 .left))
+    c .refusing .ensures ∙ ap (judgeRefusing (a .self)) wrong ∙ judged-bad (a .self) (a .cells) (a .count) few (sym
+    (c .before .before .before .before .before .is-sound .ensures) ∙ not-false _ (c .before .before .before .before .if1 .left))
     (ap isSound (sym wrong) ∙ sym (c .before .before .is-sound2 .ensures) ∙ not-true _ (c .before .if2 .taken))
 
 taking-requires : tie.Need-taking-requires
@@ -38,7 +39,8 @@ taking-requires c κs = search needs
 returns-3 : tie.Need-returns-3
 returns-3 c = let a = c .before .before .before .before .before .before .args in let room : length (a .cells) ≡ 8 = search needs in let few : a .count ≤ length (a .cells) = omega arith in
     let wrong = c .before .before .before .fault .ensures in
-    c .taking .ensures ∙ judged-sound (a .self) (a .cells) (a .count) few (sym (c .before .before .before .before .before .is-sound .ensures) ∙ not-false _ (c .before .before .before .before .if1 .left))
+    c .taking .ensures ∙ judged-sound (a .self) (a .cells) (a .count) few (sym (c .before .before .before .before .before .is-sound .ensures) ∙ not-false _
+    (c .before .before .before .before .if1 .left))
     (ap isSound (sym wrong) ∙ sym (c .before .before .is-sound2 .ensures) ∙ not-false _ (c .before .if2 .left))
 
 pub judged-spec : {M : Type 1} → statement M
