@@ -6,21 +6,12 @@ use Rattle.against.proofs.clash_place.Tie as tie
 returns : tie.Need-returns
 returns c = too-late _ _ (c .if1 .taken)
 
-place-of-requires : tie.Need-place-of-requires
-place-of-requires c κs = search needs
-
-add-if2 : tie.Need-add-if2
-add-if2 c = search needs
-
 returns-2 : tie.Need-returns-2
 returns-2 c = too-short _ _ (c .before .before .if1 .left) (search needs)
-
-clash-with-requires : tie.Need-clash-with-requires
-clash-with-requires c κs = search needs
 
 returns-3 : tie.Need-returns-3
 returns-3 c = there _ _ _ (c .before .before .before .if1 .left) (search needs) (c .clash-with .ensures)
 
 pub clash-place-spec : {M : Type 1} → statement M
 clash-place-spec =
-    tie.close (tie.spec returns place-of-requires add-if2 returns-2 clash-with-requires returns-3)
+    tie.close (tie.spec returns (λ c κs. search needs) (λ c. search needs) returns-2 (λ c κs. search needs) returns-3)

@@ -15,17 +15,11 @@ Inv-loop b i x j₀ j = (j ≤ i) × (x ≡ recordAt b i) × (firstNonzero (clas
 abbrev μ-loop : tie.MeasureT-loop
 μ-loop b i x j₀ j = i - j
 
-record-at-requires : tie.Need-record-at-requires Inv-loop μ-loop
-record-at-requires c κs = search needs
-
 loop-holds : tie.Need-loop-holds Inv-loop μ-loop
 loop-holds c = let a = c .before .before .args in (omega arith, c .record-at .ensures, none-yet (recordAt (a .b .now)) (a .i))
 
 record-at-requires-2 : tie.Need-record-at-requires-2 Inv-loop μ-loop
 record-at-requires-2 c κs = let p = c .before .before .before .before .pre .1 in omega arith
-
-clashes-requires : tie.Need-clashes-requires Inv-loop μ-loop
-clashes-requires c κs = search needs
 
 returns : tie.Need-returns Inv-loop μ-loop
 returns c =
@@ -58,10 +52,10 @@ clash-with-spec =
     (tie.spec
     Inv-loop
     μ-loop
-    record-at-requires
+    (λ c κs. search needs)
     loop-holds
     record-at-requires-2
-    clashes-requires
+    (λ c κs. search needs)
     returns
     add-j
     loop-less

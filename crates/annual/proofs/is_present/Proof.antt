@@ -17,15 +17,6 @@ abbrev μ-loop : tie.MeasureT-loop
 loop-holds : tie.Need-loop-holds Inv-loop μ-loop
 loop-holds c = (omega arith, present-none (c .args .t1))
 
-array-read-any : tie.Need-array-read-any Inv-loop μ-loop
-array-read-any c = search needs
-
-add-i : tie.Need-add-i Inv-loop μ-loop
-add-i c = search needs
-
-loop-less : tie.Need-loop-less Inv-loop μ-loop
-loop-less c = search needs
-
 loop-again : tie.Need-loop-again Inv-loop μ-loop
 loop-again c =
     let l = c .before .loop in
@@ -40,4 +31,4 @@ returns c =
 pub is-present-spec : {M : Type 1} → statement M
 is-present-spec =
     tie.close
-    (tie.spec Inv-loop μ-loop loop-holds array-read-any add-i loop-less loop-again returns)
+    (tie.spec Inv-loop μ-loop loop-holds (λ c. search needs) (λ c. search needs) (λ c. search needs) loop-again returns)

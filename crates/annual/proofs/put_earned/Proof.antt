@@ -9,24 +9,6 @@ use borrow.Author.Needs.{needs}
 use Rattle.annual.proofs.put_earned.Statement.{statement}
 use Rattle.annual.proofs.put_earned.Tie as tie
 
-to-fen-requires : tie.Need-to-fen-requires
-to-fen-requires c κs = search needs
-
-slice-aggregate-put-yuan-field : tie.Need-slice-aggregate-put-yuan-field
-slice-aggregate-put-yuan-field c = search needs
-
-put-yuan-field-requires : tie.Need-put-yuan-field-requires
-put-yuan-field-requires c κs = search needs
-
-slice-aggregate-put-yuan-field-2 : tie.Need-slice-aggregate-put-yuan-field-2
-slice-aggregate-put-yuan-field-2 c = search needs
-
-put-yuan-field-requires-2 : tie.Need-put-yuan-field-requires-2
-put-yuan-field-requires-2 c κs = search needs
-
-same-length : tie.Need-same-length
-same-length c = search needs
-
 returns : tie.Need-returns
 unfolding earnedText
 returns c =
@@ -38,10 +20,10 @@ pub put-earned-spec : {M : Type 1} → statement M
 put-earned-spec =
     tie.close
     (tie.spec
-    to-fen-requires
-    slice-aggregate-put-yuan-field
-    put-yuan-field-requires
-    slice-aggregate-put-yuan-field-2
-    put-yuan-field-requires-2
-    same-length
+    (λ c κs. search needs)
+    (λ c. search needs)
+    (λ c κs. search needs)
+    (λ c. search needs)
+    (λ c κs. search needs)
+    (λ c. search needs)
     returns)

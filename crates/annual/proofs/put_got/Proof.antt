@@ -6,21 +6,6 @@ use borrow.Author.Needs.{needs}
 use Rattle.annual.proofs.put_got.Statement.{statement}
 use Rattle.annual.proofs.put_got.Tie as tie
 
-slice-aggregate-put-signed-yuan-field : tie.Need-slice-aggregate-put-signed-yuan-field
-slice-aggregate-put-signed-yuan-field c = search needs
-
-put-signed-yuan-field-requires : tie.Need-put-signed-yuan-field-requires
-put-signed-yuan-field-requires c κs = search needs
-
-slice-aggregate-put-signed-yuan-field-2 : tie.Need-slice-aggregate-put-signed-yuan-field-2
-slice-aggregate-put-signed-yuan-field-2 c = search needs
-
-put-signed-yuan-field-requires-2 : tie.Need-put-signed-yuan-field-requires-2
-put-signed-yuan-field-requires-2 c κs = search needs
-
-same-length : tie.Need-same-length
-same-length c = search needs
-
 returns : tie.Need-returns
 unfolding gotText
 returns c =
@@ -35,9 +20,9 @@ pub put-got-spec : {M : Type 1} → statement M
 put-got-spec =
     tie.close
     (tie.spec
-    slice-aggregate-put-signed-yuan-field
-    put-signed-yuan-field-requires
-    slice-aggregate-put-signed-yuan-field-2
-    put-signed-yuan-field-requires-2
-    same-length
+    (λ c. search needs)
+    (λ c κs. search needs)
+    (λ c. search needs)
+    (λ c κs. search needs)
+    (λ c. search needs)
     returns)

@@ -5,21 +5,12 @@ use borrow.Author.Needs.{needs}
 use Rattle.annual.proofs.put_line.Statement.{statement}
 use Rattle.annual.proofs.put_line.Tie as tie
 
-is-present-requires : tie.Need-is-present-requires
-is-present-requires c κs = search needs
-
 returns : tie.Need-returns
 returns c = no-line _ _ (sym (c .before .is-present .ensures) ∙ not-true _ (c .if1 .taken))
-
-put-member-requires : tie.Need-put-member-requires
-put-member-requires c κs = search needs
-
-same-length : tie.Need-same-length
-same-length c = search needs
 
 returns-2 : tie.Need-returns-2
 returns-2 c = one-line _ _ (sym (c .before .before .before .before .before .is-present .ensures) ∙ not-false _ (c .before .before .before .before .if1 .left)) (c .before .before .put-member .ensures)
 
 pub put-line-spec : {M : Type 1} → statement M
 put-line-spec =
-    tie.close (tie.spec is-present-requires returns put-member-requires same-length returns-2)
+    tie.close (tie.spec (λ c κs. search needs) returns (λ c κs. search needs) (λ c. search needs) returns-2)

@@ -4,21 +4,6 @@ use borrow.Author.Needs.{needs}
 use Rattle.annual.proofs.put_member.Statement.{statement}
 use Rattle.annual.proofs.put_member.Tie as tie
 
-put-who-requires : tie.Need-put-who-requires
-put-who-requires c κs = search needs
-
-put-earned-requires : tie.Need-put-earned-requires
-put-earned-requires c κs = search needs
-
-put-got-requires : tie.Need-put-got-requires
-put-got-requires c κs = search needs
-
-put-largest-requires : tie.Need-put-largest-requires
-put-largest-requires c κs = search needs
-
-same-length : tie.Need-same-length
-same-length c = search needs
-
 returns : tie.Need-returns
 unfolding memberText
 returns c =
@@ -30,9 +15,9 @@ pub put-member-spec : {M : Type 1} → statement M
 put-member-spec =
     tie.close
     (tie.spec
-    put-who-requires
-    put-earned-requires
-    put-got-requires
-    put-largest-requires
-    same-length
+    (λ c κs. search needs)
+    (λ c κs. search needs)
+    (λ c κs. search needs)
+    (λ c κs. search needs)
+    (λ c. search needs)
     returns)

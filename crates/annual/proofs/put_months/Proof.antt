@@ -19,26 +19,14 @@ abbrev μ-loop : tie.MeasureT-loop
 loop-holds : tie.Need-loop-holds Inv-loop μ-loop
 loop-holds c = let a = c .before .args in (omega arith, search needs, months-none (a .t3) (a .out .now) (a .at))
 
-array-read-is : tie.Need-array-read-is Inv-loop μ-loop
-array-read-is c = search needs
-
 put-present-requires : tie.Need-put-present-requires Inv-loop μ-loop
 put-present-requires c κs = let v = c .before .before .loop .inv in (omega arith, omega (arith, v .1, v .2 .fits, v .2 .behind))
-
-add-i : tie.Need-add-i Inv-loop μ-loop
-add-i c = search needs
-
-loop-less : tie.Need-loop-less Inv-loop μ-loop
-loop-less c = search needs
 
 loop-again : tie.Need-loop-again Inv-loop μ-loop
 loop-again c =
     let l = c .before .before .before .before .before .loop in
     let a = c .before .before .before .before .before .before .before .args in
     (omega arith, c .before .before .put-present .kept .0 ∙ l .inv .1, months-more (a .t3) (l .i) (l .inv .2) (c .before .before .put-present .ensures))
-
-same-length : tie.Need-same-length Inv-loop μ-loop
-same-length c = search needs
 
 returns : tie.Need-returns Inv-loop μ-loop
 returns c =
@@ -53,10 +41,10 @@ put-months-spec =
     Inv-loop
     μ-loop
     loop-holds
-    array-read-is
+    (λ c. search needs)
     put-present-requires
-    add-i
-    loop-less
+    (λ c. search needs)
+    (λ c. search needs)
     loop-again
-    same-length
+    (λ c. search needs)
     returns)

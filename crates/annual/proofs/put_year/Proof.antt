@@ -7,27 +7,6 @@ use borrow.Author.Needs.{needs}
 use Rattle.annual.proofs.put_year.Statement.{statement}
 use Rattle.annual.proofs.put_year.Tie as tie
 
-year-totals-requires : tie.Need-year-totals-requires
-year-totals-requires c κs = search needs
-
-with-user-requires : tie.Need-with-user-requires
-with-user-requires c κs = search needs
-
-put-head-requires : tie.Need-put-head-requires
-put-head-requires c κs = search needs
-
-put-members-requires : tie.Need-put-members-requires
-put-members-requires c κs = search needs
-
-put-user-requires : tie.Need-put-user-requires
-put-user-requires c κs = search needs
-
-put-totals-requires : tie.Need-put-totals-requires
-put-totals-requires c κs = search needs
-
-same-length : tie.Need-same-length
-same-length c = search needs
-
 returns : tie.Need-returns
 unfolding yearOfText
 returns c =
@@ -44,11 +23,11 @@ pub put-year-spec : {M : Type 1} → statement M
 put-year-spec =
     tie.close
     (tie.spec
-    year-totals-requires
-    with-user-requires
-    put-head-requires
-    put-members-requires
-    put-user-requires
-    put-totals-requires
-    same-length
+    (λ c κs. search needs)
+    (λ c κs. search needs)
+    (λ c κs. search needs)
+    (λ c κs. search needs)
+    (λ c κs. search needs)
+    (λ c κs. search needs)
+    (λ c. search needs)
     returns)

@@ -14,12 +14,6 @@ returns-2 c =
     let a = c .before .before .before .before .args in
     rendered mostYear (c .before .before .if1 .left) (same-put (refused-text (a .area) (a .y) (c .if2 .taken)) (looser mostYear (omega arith) (none-put (a .out .now) 0)))
 
-put-year-requires : tie.Need-put-year-requires
-put-year-requires c κs = search needs
-
-same-length : tie.Need-same-length
-same-length c = search needs
-
 returns-3 : tie.Need-returns-3
 returns-3 c =
     let i = c .before .before .before .before in
@@ -27,4 +21,4 @@ returns-3 c =
     rendered mostYear (i .before .before .if1 .left) (same-put (taken-text (a .area) (a .y) (i .if2 .left)) (c .before .before .put-year .ensures))
 
 pub year-text-spec : {M : Type 1} → statement M
-year-text-spec = tie.close (tie.spec returns returns-2 put-year-requires same-length returns-3)
+year-text-spec = tie.close (tie.spec returns returns-2 (λ c κs. search needs) (λ c. search needs) returns-3)

@@ -53,12 +53,6 @@ give-left-requires c κs =
       (omega arith, λ k. rw (halved d .1, e) (remainder-le (a .args .amount) (total (a .args .weights .now)) (a .args .weights .now) k (a .pre .0 .1))),
     )
 
-same-length : tie.Need-same-length
-same-length c = search needs
-
-same-length-2 : tie.Need-same-length-2
-same-length-2 c = search needs
-
 returns : tie.Need-returns
 returns c =
     let d = c .before .before .before .before .before .before .before .before .before .before .before .before .before in
@@ -76,6 +70,6 @@ apportion-into-spec =
     total-requires-2
     sub-left
     give-left-requires
-    same-length
-    same-length-2
+    (λ c. search needs)
+    (λ c. search needs)
     returns)

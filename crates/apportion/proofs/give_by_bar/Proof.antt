@@ -11,9 +11,6 @@ use borrow.Author.Needs.{needs}
 use Rattle.apportion.proofs.give_by_bar.Statement.{statement}
 use Rattle.apportion.proofs.give_by_bar.Tie as tie
 
-bar-for-requires : tie.Need-bar-for-requires
-bar-for-requires c κs = search needs
-
 count-above-requires : tie.Need-count-above-requires
 count-above-requires c κs =
     let s = c .before .before .before .before .before in
@@ -23,9 +20,6 @@ give-above-requires : tie.Need-give-above-requires
 give-above-requires c κs =
     let s = c .before .before .before .before .before .before .before .before in
     (s .pre .0 .1, (omega arith, (omega arith, λ k. omega (arith, s .pre .1 .1 k))))
-
-sub-give-out : tie.Need-sub-give-out
-sub-give-out c = search needs
 
 give-out-requires : tie.Need-give-out-requires
 give-out-requires c κs =
@@ -40,12 +34,6 @@ give-out-requires c κs =
     let n = c .before .before .before .before .before .before .before .before .before .count-above .ensures in
     let m = c .before .before .before .before .before .before .before .before .before .before .before .bar-for .ensures in
     (omega arith, omega arith, omega (arith, total-raised bar rs ss (s .pre .0 .1), n, m))
-
-same-length : tie.Need-same-length
-same-length c = search needs
-
-same-length-2 : tie.Need-same-length-2
-same-length-2 c = search needs
 
 returns : tie.Need-returns
 returns c =
@@ -65,11 +53,11 @@ pub give-by-bar-spec : {M : Type 1} → statement M
 give-by-bar-spec =
     tie.close
     (tie.spec
-    bar-for-requires
+    (λ c κs. search needs)
     count-above-requires
     give-above-requires
-    sub-give-out
+    (λ c. search needs)
     give-out-requires
-    same-length
-    same-length-2
+    (λ c. search needs)
+    (λ c. search needs)
     returns)

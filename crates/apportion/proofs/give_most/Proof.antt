@@ -10,38 +10,8 @@ use borrow.Author.Needs.{needs}
 use Rattle.apportion.proofs.give_most.Statement.{statement}
 use Rattle.apportion.proofs.give_most.Tie as tie
 
-largest-at-requires : tie.Need-largest-at-requires
-largest-at-requires c κs = search needs
-
-mul-most : tie.Need-mul-most
-mul-most c = search needs
-
-slice-read-most : tie.Need-slice-read-most
-slice-read-most c = search needs
-
-mul-rests : tie.Need-mul-rests
-mul-rests c = search needs
-
-slice-write-rests : tie.Need-slice-write-rests
-slice-write-rests c = search needs
-
-mul-shares : tie.Need-mul-shares
-mul-shares c = search needs
-
-slice-read-shares : tie.Need-slice-read-shares
-slice-read-shares c = search needs
-
 add-shares : tie.Need-add-shares
 add-shares c = omega (arith, getD-total (c .before .before .before .before .before .before .args .shares .now) (c .before .before .largest-at .result))
-
-mul-shares-2 : tie.Need-mul-shares-2
-mul-shares-2 c = search needs
-
-slice-write-shares : tie.Need-slice-write-shares
-slice-write-shares c = search needs
-
-sub-give-equal : tie.Need-sub-give-equal
-sub-give-equal c = search needs
 
 give-equal-requires : tie.Need-give-equal-requires
 give-equal-requires c κs =
@@ -67,17 +37,17 @@ pub give-most-spec : {M : Type 1} → statement M
 give-most-spec =
     tie.close
     (tie.spec
-    largest-at-requires
-    mul-most
-    slice-read-most
-    mul-rests
-    slice-write-rests
-    mul-shares
-    slice-read-shares
+    (λ c κs. search needs)
+    (λ c. search needs)
+    (λ c. search needs)
+    (λ c. search needs)
+    (λ c. search needs)
+    (λ c. search needs)
+    (λ c. search needs)
     add-shares
-    mul-shares-2
-    slice-write-shares
-    sub-give-equal
+    (λ c. search needs)
+    (λ c. search needs)
+    (λ c. search needs)
     give-equal-requires
     same-length
     same-length-2

@@ -24,17 +24,8 @@ give-most-requires c κs =
     let l = c .before .before .before .loop in
     (omega arith, (omega (arith, l .inv .restsLong), l .inv .sharesLong ∙ s .pre .1 ∙ sym (l .inv .restsLong), omega (arith, l .inv .sum)))
 
-loop-less : tie.Need-loop-less Inv-loop μ-loop
-loop-less c = search needs
-
 loop-again : tie.Need-loop-again Inv-loop μ-loop
 loop-again c = given-more (c .before .before .before .before .before .before .before .before .loop .inv) (c .before .before .before .before .give-most .ensures .1)
-
-same-length : tie.Need-same-length Inv-loop μ-loop
-same-length c = search needs
-
-same-length-2 : tie.Need-same-length-2 Inv-loop μ-loop
-same-length-2 c = search needs
 
 returns : tie.Need-returns Inv-loop μ-loop
 returns c =
@@ -50,8 +41,8 @@ give-out-spec =
     μ-loop
     loop-holds
     give-most-requires
-    loop-less
+    (λ c. search needs)
     loop-again
-    same-length
-    same-length-2
+    (λ c. search needs)
+    (λ c. search needs)
     returns)

@@ -20,34 +20,10 @@ abbrev μ-loop : tie.MeasureT-loop
 loop-holds : tie.Need-loop-holds Inv-loop μ-loop
 loop-holds c = (omega arith, refl, refl, omega arith, omega arith)
 
-mul-product-over : tie.Need-mul-product-over Inv-loop μ-loop
-mul-product-over c = search needs
-
-shared-slice-read-product-over : tie.Need-shared-slice-read-product-over Inv-loop μ-loop
-shared-slice-read-product-over c = search needs
-
 product-over-requires : tie.Need-product-over-requires Inv-loop μ-loop
 product-over-requires c κs =
     let s = c .before .before .before .before .before .before in
     (s .pre .0 .0, (s .pre .0 .1, (s .pre .1 .1 (c .before .before .loop .i), s .pre .0 .2)))
-
-mul-shares : tie.Need-mul-shares Inv-loop μ-loop
-mul-shares c = search needs
-
-slice-write-shares : tie.Need-slice-write-shares Inv-loop μ-loop
-slice-write-shares c = search needs
-
-mul-rests : tie.Need-mul-rests Inv-loop μ-loop
-mul-rests c = search needs
-
-slice-write-rests : tie.Need-slice-write-rests Inv-loop μ-loop
-slice-write-rests c = search needs
-
-add-i : tie.Need-add-i Inv-loop μ-loop
-add-i c = search needs
-
-loop-less : tie.Need-loop-less Inv-loop μ-loop
-loop-less c = search needs
 
 loop-again : tie.Need-loop-again Inv-loop μ-loop
 loop-again c =
@@ -66,12 +42,6 @@ loop-again c =
       simp length-set (l .inv .4),
     )
 
-same-length : tie.Need-same-length Inv-loop μ-loop
-same-length c = search needs
-
-same-length-2 : tie.Need-same-length-2 Inv-loop μ-loop
-same-length-2 c = search needs
-
 returns : tie.Need-returns Inv-loop μ-loop
 returns c =
     let a = c .before .before .before .before .before .args in
@@ -89,16 +59,16 @@ split-spec =
     Inv-loop
     μ-loop
     loop-holds
-    mul-product-over
-    shared-slice-read-product-over
+    (λ c. search needs)
+    (λ c. search needs)
     product-over-requires
-    mul-shares
-    slice-write-shares
-    mul-rests
-    slice-write-rests
-    add-i
-    loop-less
+    (λ c. search needs)
+    (λ c. search needs)
+    (λ c. search needs)
+    (λ c. search needs)
+    (λ c. search needs)
+    (λ c. search needs)
     loop-again
-    same-length
-    same-length-2
+    (λ c. search needs)
+    (λ c. search needs)
     returns)

@@ -26,9 +26,6 @@ loop-holds c = (omega arith, starts (c .before .args .minutes) (c .before .args 
 turn-at-requires : tie.Need-turn-at-requires Inv-loop μ-loop
 turn-at-requires c κs = omega arith
 
-refused-requires : tie.Need-refused-requires Inv-loop μ-loop
-refused-requires c κs = search needs
-
 returns : tie.Need-returns Inv-loop μ-loop
 returns c =
     let turned = c .before .before in
@@ -53,9 +50,6 @@ loop-again c =
     let step = goes-on (args .minutes) (args .b .now) (loop .low) (loop .i) (args .n) _ _ (c .before .before .loop-test .taken) (number turn) (c .if1 .left) (lowest turn) in
     (omega arith, sym step ∙ loop .inv .1)
 
-refused-requires-2 : tie.Need-refused-requires-2 Inv-loop μ-loop
-refused-requires-2 c κs = search needs
-
 returns-2 : tie.Need-returns-2 Inv-loop μ-loop
 returns-2 c =
     let loop = c .before .before .loop in
@@ -70,10 +64,10 @@ check-records-spec =
     μ-loop
     loop-holds
     turn-at-requires
-    refused-requires
+    (λ c κs. search needs)
     returns
     add-i
     loop-less
     loop-again
-    refused-requires-2
+    (λ c κs. search needs)
     returns-2)

@@ -17,12 +17,6 @@ number-is c = omega (arith, ap (λ (v : Verdict). v .number) (c .before .before 
 is-accepted : (c : tie.Else1) → check (c .before .before .before .before .args .b .now) ≡ accepted
 is-accepted c = zero-accepted _ (number-is c)
 
-check-requires : tie.Need-check-requires
-check-requires c κs = search needs
-
-turned-away-requires : tie.Need-turned-away-requires
-turned-away-requires c κs = search needs
-
 returns : tie.Need-returns
 returns c =
     let e = c .turned-away .ensures in
@@ -49,8 +43,8 @@ pub header-of-spec : {M : Type 1} → statement M
 header-of-spec =
     tie.close
     (tie.spec
-    check-requires
-    turned-away-requires
+    (λ c κs. search needs)
+    (λ c κs. search needs)
     returns
     header-at-requires
     count-at-requires

@@ -8,12 +8,6 @@ use borrow.Author.Needs.{needs}
 use Rattle.book.proofs.is_record.Statement.{statement}
 use Rattle.book.proofs.is_record.Tie as tie
 
-place-of-requires : tie.Need-place-of-requires
-place-of-requires c κs = search needs
-
-reserved-at-requires : tie.Need-reserved-at-requires
-reserved-at-requires c κs = search needs
-
 zeros : (c : tie.After-reserved-at) → let args = c .before .before .before .args in c .reserved-at .result ≡ reservedAt (args .b .now) (placeOf (args .i))
 zeros c = c .reserved-at .ensures ∙ ap (λ (k : ℕ). reservedAt (c .before .before .before .args .b .now) k) (c .before .place-of .ensures)
 
@@ -21,12 +15,6 @@ returns : tie.Need-returns
 returns c =
     let args = c .before .before .before .before .args in
     sym (unsound (args .minutes) (args .b .now) (args .i) _ (zeros (c .before)) (c .if1 .taken))
-
-record-at-requires : tie.Need-record-at-requires
-record-at-requires c κs = search needs
-
-is-sound-requires : tie.Need-is-sound-requires
-is-sound-requires c κs = search needs
 
 returns-2 : tie.Need-returns-2
 returns-2 c =
@@ -39,4 +27,4 @@ returns-2 c =
 pub is-record-spec : {M : Type 1} → statement M
 is-record-spec =
     tie.close
-    (tie.spec place-of-requires reserved-at-requires returns record-at-requires is-sound-requires returns-2)
+    (tie.spec (λ c κs. search needs) (λ c κs. search needs) returns (λ c κs. search needs) (λ c κs. search needs) returns-2)

@@ -4,12 +4,9 @@ use borrow.Author.Needs.{needs}
 use Rattle.book.proofs.is_versioned.Statement.{statement}
 use Rattle.book.proofs.is_versioned.Tie as tie
 
-version-at-requires : tie.Need-version-at-requires
-version-at-requires c κs = search needs
-
 returns : tie.Need-returns
 unfolding isVersioned
 returns c = rw (c .version-at .ensures) refl
 
 pub is-versioned-spec : {M : Type 1} → statement M
-is-versioned-spec = tie.close (tie.spec version-at-requires returns)
+is-versioned-spec = tie.close (tie.spec (λ c κs. search needs) returns)

@@ -5,20 +5,11 @@ use borrow.Author.Needs.{needs}
 use Rattle.book.proofs.turn_at.Statement.{statement}
 use Rattle.book.proofs.turn_at.Tie as tie
 
-is-record-requires : tie.Need-is-record-requires
-is-record-requires c κs = search needs
-
-next-at-requires : tie.Need-next-at-requires
-next-at-requires c κs = search needs
-
 returns : tie.Need-returns
 returns c =
     let args = c .before .before .before .before .args in
     let unsound = sym (c .before .before .is-record .ensures) ∙ not-true _ (c .before .if1 .taken) in
     λ i. record { number = sym (five (args .minutes) (args .b .now) (args .low) (args .i) unsound) i; low = c .next-at .ensures i }
-
-next-at-requires-2 : tie.Need-next-at-requires-2
-next-at-requires-2 c κs = search needs
 
 returns-2 : tie.Need-returns-2
 returns-2 c =
@@ -37,4 +28,4 @@ returns-3 c =
 pub turn-at-spec : {M : Type 1} → statement M
 turn-at-spec =
     tie.close
-    (tie.spec is-record-requires next-at-requires returns next-at-requires-2 returns-2 returns-3)
+    (tie.spec (λ c κs. search needs) (λ c κs. search needs) returns (λ c κs. search needs) returns-2 returns-3)

@@ -16,9 +16,6 @@ use borrow.Author.Needs.{needs}
 use Rattle.ceiling.proofs.ceiled_array.Statement.{statement}
 use Rattle.ceiling.proofs.ceiled_array.Tie as tie
 
-refuse-requires : tie.Need-refuse-requires
-refuse-requires c κs = search needs
-
 returns : tie.Need-returns
 unfolding ceiledArray
 returns c =
@@ -39,14 +36,8 @@ bad-is c =
       omega (arith, e, bad-few (take n (s .args .lines))),
     )
 
-seen-requires : tie.Need-seen-requires
-seen-requires c κs = search needs
-
 first-bad-limited-requires : tie.Need-first-bad-limited-requires
 first-bad-limited-requires c κs = c .seen .ensures .2
-
-refuse-requires-2 : tie.Need-refuse-requires-2
-refuse-requires-2 c κs = search needs
 
 returns-2 : tie.Need-returns-2
 unfolding ceiledArray
@@ -64,21 +55,12 @@ all-sound : (c : tie.Else2) → let s = c .before .before .before .before in
     (s .args .count ≤ 64) × (s .args .count ≤ firstBadLimited 0 (take (s .args .count) (s .args .lines)))
 all-sound c = let b = bad-is (c .before) in (omega (arith, b .1, c .if2 .left), omega (arith, b .0, c .if2 .left))
 
-plain-lines-requires : tie.Need-plain-lines-requires
-plain-lines-requires c κs = search needs
-
-share-requires : tie.Need-share-requires
-share-requires c κs = search needs
-
 -- what the first sharing was given and said
 first : (c : tie.After-share) → let s = c .before .before .before .before .before .before in
     c .share .result ≡ sharedArray (s .args .part) (plainLines (s .args .lines)) (s .args .count)
 first c =
     let s = c .before .before .before .before .before .before in
     c .share .ensures ∙ ap (λ (ls : List Line). sharedArray (s .args .part) ls (s .args .count)) (c .before .plain-lines .ensures)
-
-refuse-requires-3 : tie.Need-refuse-requires-3
-refuse-requires-3 c κs = search needs
 
 returns-3 : tie.Need-returns-3
 unfolding ceiledArray
@@ -110,15 +92,15 @@ pub ceiled-array-spec : {M : Type 1} → statement M
 ceiled-array-spec =
     tie.close
     (tie.spec
-    refuse-requires
+    (λ c κs. search needs)
     returns
-    seen-requires
+    (λ c κs. search needs)
     first-bad-limited-requires
-    refuse-requires-2
+    (λ c κs. search needs)
     returns-2
-    plain-lines-requires
-    share-requires
-    refuse-requires-3
+    (λ c κs. search needs)
+    (λ c κs. search needs)
+    (λ c κs. search needs)
     returns-3
     second-sharing-requires
     returns-4)

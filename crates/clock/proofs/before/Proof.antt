@@ -7,9 +7,6 @@ use borrow.Author.Needs.{needs}
 use Rattle.clock.proofs.before.Statement.{statement}
 use Rattle.clock.proofs.before.Tie as tie
 
-mark-at-requires : tie.Need-mark-at-requires
-mark-at-requires c κs = search needs
-
 slice-aggregate-result : tie.Need-slice-aggregate-result
 slice-aggregate-result c = sym (length-take-le _ (c .before .before .before .args .text .now) (c .before .mark-at .ensures .1))
 
@@ -19,4 +16,4 @@ returns c =
     ap (λ (n : ℕ). take n (a .text .now)) (c .before .mark-at .ensures .0) ∙ take-before (a .mark) (a .text .now)
 
 pub before-spec : {M : Type 1} → statement M
-before-spec = tie.close (tie.spec mark-at-requires slice-aggregate-result returns)
+before-spec = tie.close (tie.spec (λ c κs. search needs) slice-aggregate-result returns)

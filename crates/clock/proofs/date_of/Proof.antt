@@ -26,9 +26,6 @@ add-up-to-16-bits c = let date = dated c in omega arith
 add-up-to-16-bits-2 : tie.Need-add-up-to-16-bits-2
 add-up-to-16-bits-2 c = let date = dated c in omega arith
 
-up-to-16-bits-requires : tie.Need-up-to-16-bits-requires
-up-to-16-bits-requires c κs = search needs
-
 returns-2 : tie.Need-returns-2
 returns-2 c = date-is _ _ _ _ _ (not-false _ (c .before .if1 .left)) (c .up-to-16-bits .ensures)
 
@@ -42,5 +39,5 @@ date-of-spec =
     mul-up-to-16-bits-2
     add-up-to-16-bits
     add-up-to-16-bits-2
-    up-to-16-bits-requires
+    (λ c κs. search needs)
     returns-2)

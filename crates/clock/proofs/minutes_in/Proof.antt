@@ -4,26 +4,11 @@ use borrow.Author.Needs.{needs}
 use Rattle.clock.proofs.minutes_in.Statement.{statement}
 use Rattle.clock.proofs.minutes_in.Tie as tie
 
-has-requires : tie.Need-has-requires
-has-requires c κs = search needs
-
-number-in-requires : tie.Need-number-in-requires
-number-in-requires c κs = search needs
-
 returns : tie.Need-returns
 returns c = plain-minutes _ _ (c .before .before .has .ensures) (not-true _ (c .before .if1 .taken)) _ (c .number-in .ensures)
 
-behind-requires : tie.Need-behind-requires
-behind-requires c κs = search needs
-
 returns-2 : tie.Need-returns-2
 returns-2 c = more-behind _ _ (c .before .before .before .has .ensures) (not-false _ (c .before .before .if1 .left)) _ (c .before .behind .ensures) (c .if2 .taken)
-
-before-requires : tie.Need-before-requires
-before-requires c κs = search needs
-
-number-in-requires-2 : tie.Need-number-in-requires-2
-number-in-requires-2 c κs = search needs
 
 returns-3 : tie.Need-returns-3
 returns-3 c =
@@ -34,11 +19,11 @@ pub minutes-in-spec : {M : Type 1} → statement M
 minutes-in-spec =
     tie.close
     (tie.spec
-    has-requires
-    number-in-requires
+    (λ c κs. search needs)
+    (λ c κs. search needs)
     returns
-    behind-requires
+    (λ c κs. search needs)
     returns-2
-    before-requires
-    number-in-requires-2
+    (λ c κs. search needs)
+    (λ c κs. search needs)
     returns-3)

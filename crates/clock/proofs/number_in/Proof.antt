@@ -24,9 +24,6 @@ loop-holds c = (omega arith, omega arith, refl, refl)
 shared-slice-read-b : tie.Need-shared-slice-read-b Inv-loop μ-loop
 shared-slice-read-b c = omega arith
 
-is-digit-requires : tie.Need-is-digit-requires Inv-loop μ-loop
-is-digit-requires c κs = search needs
-
 returns-2 : tie.Need-returns-2 Inv-loop μ-loop
 returns-2 c =
     let l = c .before .before .before .before .loop in
@@ -50,9 +47,6 @@ loop-again c =
     let digit = sym (c .before .before .is-digit .ensures) ∙ not-false _ (c .before .if2 .left) in
     (omega arith, omega arith, digit-on text (l .value) (l .i) here digit (l .inv .2), value-on text (l .value) (l .i) _ here (c .grown .ensures) (l .inv .3))
 
-hold-requires : tie.Need-hold-requires Inv-loop μ-loop
-hold-requires c κs = search needs
-
 returns-3 : tie.Need-returns-3 Inv-loop μ-loop
 returns-3 c =
     let l = c .before .before .loop in
@@ -68,11 +62,11 @@ number-in-spec =
     returns
     loop-holds
     shared-slice-read-b
-    is-digit-requires
+    (λ c κs. search needs)
     returns-2
     grown-requires
     add-i
     loop-less
     loop-again
-    hold-requires
+    (λ c κs. search needs)
     returns-3)

@@ -4,27 +4,6 @@ use borrow.Author.Needs.{needs}
 use Rattle.clock.proofs.put_date.Statement.{statement}
 use Rattle.clock.proofs.put_date.Tie as tie
 
-add-day : tie.Need-add-day
-add-day c = search needs
-
-cast-put-decimal : tie.Need-cast-put-decimal
-cast-put-decimal c = search needs
-
-put-decimal-requires : tie.Need-put-decimal-requires
-put-decimal-requires c κs = search needs
-
-slice-aggregate-put-word : tie.Need-slice-aggregate-put-word
-slice-aggregate-put-word c = search needs
-
-put-word-requires : tie.Need-put-word-requires
-put-word-requires c κs = search needs
-
-put-clock-requires : tie.Need-put-clock-requires
-put-clock-requires c κs = search needs
-
-same-length : tie.Need-same-length
-same-length c = search needs
-
 returns : tie.Need-returns
 unfolding dateText
 returns c =
@@ -35,11 +14,11 @@ pub put-date-spec : {M : Type 1} → statement M
 put-date-spec =
     tie.close
     (tie.spec
-    add-day
-    cast-put-decimal
-    put-decimal-requires
-    slice-aggregate-put-word
-    put-word-requires
-    put-clock-requires
-    same-length
+    (λ c. search needs)
+    (λ c. search needs)
+    (λ c κs. search needs)
+    (λ c. search needs)
+    (λ c κs. search needs)
+    (λ c κs. search needs)
+    (λ c. search needs)
     returns)

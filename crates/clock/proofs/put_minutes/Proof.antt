@@ -4,18 +4,6 @@ use borrow.Author.Needs.{needs}
 use Rattle.clock.proofs.put_minutes.Statement.{statement}
 use Rattle.clock.proofs.put_minutes.Tie as tie
 
-put-decimal-requires : tie.Need-put-decimal-requires
-put-decimal-requires c κs = search needs
-
-slice-aggregate-put-word : tie.Need-slice-aggregate-put-word
-slice-aggregate-put-word c = search needs
-
-put-word-requires : tie.Need-put-word-requires
-put-word-requires c κs = search needs
-
-same-length : tie.Need-same-length
-same-length c = search needs
-
 returns : tie.Need-returns
 unfolding minutesText
 returns c = and-then (c .before .before .before .before .before .before .before .put-decimal .ensures) (c .before .before .put-word .ensures)
@@ -23,4 +11,4 @@ returns c = and-then (c .before .before .before .before .before .before .before 
 pub put-minutes-spec : {M : Type 1} → statement M
 put-minutes-spec =
     tie.close
-    (tie.spec put-decimal-requires slice-aggregate-put-word put-word-requires same-length returns)
+    (tie.spec (λ c κs. search needs) (λ c. search needs) (λ c κs. search needs) (λ c. search needs) returns)

@@ -5,21 +5,6 @@ use borrow.Author.Needs.{needs}
 use Rattle.clock.proofs.put_two.Statement.{statement}
 use Rattle.clock.proofs.put_two.Tie as tie
 
-last-digit-requires : tie.Need-last-digit-requires
-last-digit-requires c κs = search needs
-
-last-digit-requires-2 : tie.Need-last-digit-requires-2
-last-digit-requires-2 c κs = search needs
-
-slice-aggregate-put-word : tie.Need-slice-aggregate-put-word
-slice-aggregate-put-word c = search needs
-
-put-word-requires : tie.Need-put-word-requires
-put-word-requires c κs = search needs
-
-same-length : tie.Need-same-length
-same-length c = search needs
-
 returns : tie.Need-returns
 unfolding twoDigits
 returns c =
@@ -31,9 +16,9 @@ pub put-two-spec : {M : Type 1} → statement M
 put-two-spec =
     tie.close
     (tie.spec
-    last-digit-requires
-    last-digit-requires-2
-    slice-aggregate-put-word
-    put-word-requires
-    same-length
+    (λ c κs. search needs)
+    (λ c κs. search needs)
+    (λ c. search needs)
+    (λ c κs. search needs)
+    (λ c. search needs)
     returns)

@@ -6,11 +6,8 @@ use Rattle.clock.proofs.rest_in.Tie as tie
 returns : tie.Need-returns
 returns c = no-rest _ (c .if1 .taken)
 
-minutes-in-requires : tie.Need-minutes-in-requires
-minutes-in-requires c κs = search needs
-
 returns-2 : tie.Need-returns-2
 returns-2 c = some-rest _ (c .before .if1 .left) _ (c .minutes-in .ensures)
 
 pub rest-in-spec : {M : Type 1} → statement M
-rest-in-spec = tie.close (tie.spec returns minutes-in-requires returns-2)
+rest-in-spec = tie.close (tie.spec returns (λ c κs. search needs) returns-2)

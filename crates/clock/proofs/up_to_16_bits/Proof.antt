@@ -4,9 +4,6 @@ use borrow.Author.Needs.{needs}
 use Rattle.clock.proofs.up_to_16_bits.Statement.{statement}
 use Rattle.clock.proofs.up_to_16_bits.Tie as tie
 
-cast-t3 : tie.Need-cast-t3
-cast-t3 c = search needs
-
 returns : tie.Need-returns
 unfolding upTo16Bits
 returns c = rw (le-leb _ 65535 (c .if1 .taken))
@@ -16,4 +13,4 @@ unfolding upTo16Bits
 returns-2 c = rw (lt-leb _ 65535 (c .if1 .left))
 
 pub up-to-16-bits-spec : {M : Type 1} → statement M
-up-to-16-bits-spec = tie.close (tie.spec cast-t3 returns returns-2)
+up-to-16-bits-spec = tie.close (tie.spec (λ c. search needs) returns returns-2)

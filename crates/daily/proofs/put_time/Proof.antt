@@ -6,27 +6,6 @@ use borrow.Author.Needs.{needs}
 use Rattle.daily.proofs.put_time.Statement.{statement}
 use Rattle.daily.proofs.put_time.Tie as tie
 
-last-digit-requires : tie.Need-last-digit-requires
-last-digit-requires c κs = search needs
-
-last-digit-requires-2 : tie.Need-last-digit-requires-2
-last-digit-requires-2 c κs = search needs
-
-last-digit-requires-3 : tie.Need-last-digit-requires-3
-last-digit-requires-3 c κs = search needs
-
-last-digit-requires-4 : tie.Need-last-digit-requires-4
-last-digit-requires-4 c κs = search needs
-
-slice-aggregate-put-word : tie.Need-slice-aggregate-put-word
-slice-aggregate-put-word c = search needs
-
-put-word-requires : tie.Need-put-word-requires
-put-word-requires c κs = search needs
-
-same-length : tie.Need-same-length
-same-length c = search needs
-
 returns : tie.Need-returns
 unfolding timeText twoDigits
 returns c =
@@ -40,11 +19,11 @@ pub put-time-spec : {M : Type 1} → statement M
 put-time-spec =
     tie.close
     (tie.spec
-    last-digit-requires
-    last-digit-requires-2
-    last-digit-requires-3
-    last-digit-requires-4
-    slice-aggregate-put-word
-    put-word-requires
-    same-length
+    (λ c κs. search needs)
+    (λ c κs. search needs)
+    (λ c κs. search needs)
+    (λ c κs. search needs)
+    (λ c. search needs)
+    (λ c κs. search needs)
+    (λ c. search needs)
     returns)

@@ -7,14 +7,8 @@ use Rattle.daily.proofs.run_text.Tie as tie
 returns : tie.Need-returns
 returns c = no-room mostRun _ (c .before .before .args .out .now) (c .if1 .taken)
 
-put-run-requires : tie.Need-put-run-requires
-put-run-requires c κs = search needs
-
-same-length : tie.Need-same-length
-same-length c = search needs
-
 returns-2 : tie.Need-returns-2
 returns-2 c = rendered mostRun (c .before .before .before .before .if1 .left) (c .before .before .put-run .ensures)
 
 pub run-text-spec : {M : Type 1} → statement M
-run-text-spec = tie.close (tie.spec returns put-run-requires same-length returns-2)
+run-text-spec = tie.close (tie.spec returns (λ c κs. search needs) (λ c. search needs) returns-2)

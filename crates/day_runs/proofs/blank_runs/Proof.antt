@@ -6,12 +6,9 @@ use borrow.Author.Needs.{needs}
 use Rattle.day_runs.proofs.blank_runs.Statement.{statement}
 use Rattle.day_runs.proofs.blank_runs.Tie as tie
 
-blank-run-requires : tie.Need-blank-run-requires
-blank-run-requires c κs = search needs
-
 returns : tie.Need-returns
 unfolding filledUp
 returns c = ap (λ (r : DayRun). replicate 192 r) (c .blank-run .ensures)
 
 pub blank-runs-spec : {M : Type 1} → statement M
-blank-runs-spec = tie.close (tie.spec blank-run-requires returns)
+blank-runs-spec = tie.close (tie.spec (λ c κs. search needs) returns)

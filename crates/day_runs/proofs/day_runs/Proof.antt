@@ -42,28 +42,16 @@ is-day c =
 count-at-requires : tie.Need-count-at-requires
 count-at-requires c κs = book (c .before .before) .long
 
-sub-first : tie.Need-sub-first
-sub-first c = search needs
-
-mul-first : tie.Need-mul-first
-mul-first c = search needs
-
 windows-of-requires : tie.Need-windows-of-requires
 windows-of-requires c κs = ready c
 
 windows-of-requires-2 : tie.Need-windows-of-requires-2
 windows-of-requires-2 c κs = ready (c .before)
 
-array-share-prefix-at : tie.Need-array-share-prefix-at
-array-share-prefix-at c = search needs
-
 slice-aggregate-runs-found : tie.Need-slice-aggregate-runs-found
 slice-aggregate-runs-found c =
     let w = c .before .before .before .before .windows-of in
     sym (length-take-le {A = ℕ} (w .result .count) (w .result .at) (w .ensures .room))
-
-array-share-prefix-upon : tie.Need-array-share-prefix-upon
-array-share-prefix-upon c = search needs
 
 slice-aggregate-runs-found-2 : tie.Need-slice-aggregate-runs-found-2
 slice-aggregate-runs-found-2 c =
@@ -94,13 +82,13 @@ day-runs-spec =
     tie.close
     (tie.spec
     count-at-requires
-    sub-first
-    mul-first
+    (λ c. search needs)
+    (λ c. search needs)
     windows-of-requires
     windows-of-requires-2
-    array-share-prefix-at
+    (λ c. search needs)
     slice-aggregate-runs-found
-    array-share-prefix-upon
+    (λ c. search needs)
     slice-aggregate-runs-found-2
     runs-found-requires
     returns)

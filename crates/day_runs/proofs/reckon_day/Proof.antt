@@ -4,12 +4,6 @@ use borrow.Author.Needs.{needs}
 use Rattle.day_runs.proofs.reckon_day.Statement.{statement}
 use Rattle.day_runs.proofs.reckon_day.Tie as tie
 
-reckon-requires : tie.Need-reckon-requires
-reckon-requires c κs = search needs
-
-runs-told-requires : tie.Need-runs-told-requires
-runs-told-requires c κs = search needs
-
 returns : tie.Need-returns
 unfolding dayReckoning dayReckoned
 returns c =
@@ -17,4 +11,4 @@ returns c =
     rw (c .before .before .before .before .reckon .ensures, t .count, t .list) refl
 
 pub reckon-day-spec : {M : Type 1} → statement M
-reckon-day-spec = tie.close (tie.spec reckon-requires runs-told-requires returns)
+reckon-day-spec = tie.close (tie.spec (λ c κs. search needs) (λ c κs. search needs) returns)

@@ -26,9 +26,6 @@ days : (c : tie.After-days-of) → c .days-of .result
     ≡ daysOf (headerAt (c .before .before .before .before .before .before .args .b .now) .year) (headerAt (c .before .before .before .before .before .before .args .b .now) .month)
 days c = c .days-of .ensures ∙ ap (λ (h : Header). daysOf (h .year) (h .month)) (c .before .header-at .ensures)
 
-no-runs-requires : tie.Need-no-runs-requires
-no-runs-requires c κs = search needs
-
 returns : tie.Need-returns
 returns c =
     let s = c .before .before .before .before .before in
@@ -40,9 +37,6 @@ header-at-requires : tie.Need-header-at-requires
 header-at-requires c κs =
     let a = c .before .before .before .before .args in
     book-given (a .b .now) (book-good (a .member) (a .b .now) (a .series .now) (zero c)) .long
-
-days-of-requires : tie.Need-days-of-requires
-days-of-requires c κs = search needs
 
 day-runs-requires : tie.Need-day-runs-requires
 day-runs-requires c κs =
@@ -64,9 +58,6 @@ returns-2 c =
     let z = zero (c .before .before .before .before) in
     rw (told-day (a .member) (a .b .now) (a .series .now) (a .day) z (c .before .before .days-of .result) (days (c .before .before)) (c .before .if2 .taken)) (c .day-runs .ensures)
 
-no-runs-requires-2 : tie.Need-no-runs-requires-2
-no-runs-requires-2 c κs = search needs
-
 returns-3 : tie.Need-returns-3
 returns-3 c =
     let a = c .before .before .before .before .before .before .before .before .args in
@@ -77,11 +68,11 @@ pub runs-told-spec : {M : Type 1} → statement M
 runs-told-spec =
     tie.close
     (tie.spec
-    no-runs-requires
+    (λ c κs. search needs)
     returns
     header-at-requires
-    days-of-requires
+    (λ c κs. search needs)
     day-runs-requires
     returns-2
-    no-runs-requires-2
+    (λ c κs. search needs)
     returns-3)

@@ -6,12 +6,6 @@ use borrow.Author.Needs.{needs}
 use Rattle.explain.proofs.explain.Statement.{statement}
 use Rattle.explain.proofs.explain.Tie as tie
 
-hours-sum-requires : tie.Need-hours-sum-requires
-hours-sum-requires c κs = search needs
-
-explain-with-requires : tie.Need-explain-with-requires
-explain-with-requires c κs = search needs
-
 returns : tie.Need-returns
 unfolding explaining
 returns c =
@@ -20,4 +14,4 @@ returns c =
     ∙ ap (λ (n : ℕ). explainEarned (a .member) (a .book .now) (a .series .now) (record { 0 = n }) (grainsEarned (a .member) (a .book .now) (a .series .now))) (c .before .hours-sum .ensures)
 
 pub explain-spec : {M : Type 1} → statement M
-explain-spec = tie.close (tie.spec hours-sum-requires explain-with-requires returns)
+explain-spec = tie.close (tie.spec (λ c κs. search needs) (λ c κs. search needs) returns)

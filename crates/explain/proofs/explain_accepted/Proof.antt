@@ -62,12 +62,6 @@ parts-before-requires c κs =
     let m = spans-month (s .args .book .now) (s .args .series .now) (ready s .spans) in
     ((ready s .front .line .rated .1, m .1), (omega arith, (omega arith, λ i l. rw (m .0) (all-sound (s .args .book .now) (ready s .front .book) i (omega arith)))))
 
-month-pay-requires : tie.Need-month-pay-requires
-month-pay-requires c κs = search needs
-
-plus-requires : tie.Need-plus-requires
-plus-requires c κs = search needs
-
 returns : tie.Need-returns
 unfolding explainEarned monthWh
 returns c =
@@ -81,4 +75,4 @@ returns c =
 pub explain-accepted-spec : {M : Type 1} → statement M
 explain-accepted-spec =
     tie.close
-    (tie.spec count-at-requires parts-before-requires month-pay-requires plus-requires returns)
+    (tie.spec count-at-requires parts-before-requires (λ c κs. search needs) (λ c κs. search needs) returns)

@@ -35,20 +35,8 @@ refuses : (c : tie.After-known-told2)
     (c .before .before .before .before .before .before .args .series .now) ≡ Refused (c .before .earned2 .given .0 .0) (c .before .earned2 .given .0 .1 .0)
 refuses c = sym (c .before .before .before .grains-earned .ensures) ∙ c .before .earned2 .given .1
 
-grains-earned-requires : tie.Need-grains-earned-requires
-grains-earned-requires c κs = search needs
-
-enum-known-earned : tie.Need-enum-known-earned
-enum-known-earned c = search needs
-
 explain-accepted-requires : tie.Need-explain-accepted-requires
 explain-accepted-requires c κs = accepts c
-
-enum-known-earned-2 : tie.Need-enum-known-earned-2
-enum-known-earned-2 c = search needs
-
-blank-parts-requires : tie.Need-blank-parts-requires
-blank-parts-requires c κs = search needs
 
 returns : tie.Need-returns
 returns c =
@@ -66,10 +54,10 @@ pub explain-with-spec : {M : Type 1} → statement M
 explain-with-spec =
     tie.close
     (tie.spec
-    grains-earned-requires
-    enum-known-earned
+    (λ c κs. search needs)
+    (λ c. search needs)
     explain-accepted-requires
-    enum-known-earned-2
-    blank-parts-requires
+    (λ c. search needs)
+    (λ c κs. search needs)
     returns
     returns-2)

@@ -22,9 +22,6 @@ mul-hour c = omega arith
 array-copy-out-hour : tie.Need-array-copy-out-hour Inv-loop μ-loop
 array-copy-out-hour c = omega arith
 
-plus-requires : tie.Need-plus-requires Inv-loop μ-loop
-plus-requires c κs = search needs
-
 add-i : tie.Need-add-i Inv-loop μ-loop
 add-i c = omega arith
 
@@ -54,7 +51,7 @@ hours-sum-spec =
     loop-holds
     mul-hour
     array-copy-out-hour
-    plus-requires
+    (λ c κs. search needs)
     add-i
     loop-less
     loop-again

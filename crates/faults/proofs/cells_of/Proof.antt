@@ -11,22 +11,10 @@ returns : tie.Need-returns
 returns c = let a = c .before .args in let room : length (a .ended) ≡ 8 = search needs in
     record { few = omega arith; some = omega arith; are = cells-full (a .grid) (a .ended) room (c .if1 .taken) }
 
-told-requires : tie.Need-told-requires
-told-requires c κs = search needs
-
-mul-cells : tie.Need-mul-cells
-mul-cells c = search needs
-
-array-write-cells : tie.Need-array-write-cells
-array-write-cells c = search needs
-
-add-t9 : tie.Need-add-t9
-add-t9 c = search needs
-
 returns-2 : tie.Need-returns-2
 returns-2 c = let a = c .before .before .args in let room : length (a .ended) ≡ 8 = search needs in
     record { few = omega arith; some = omega arith; are = cells-more (a .grid) (a .ended) room (c .before .if1 .left) (c .told .result) (c .told .ensures) }
 
 pub cells-of-spec : {M : Type 1} → statement M
 cells-of-spec =
-    tie.close (tie.spec returns told-requires mul-cells array-write-cells add-t9 returns-2)
+    tie.close (tie.spec returns (λ c κs. search needs) (λ c. search needs) (λ c. search needs) (λ c. search needs) returns-2)

@@ -3,12 +3,6 @@ use borrow.Author.Needs.{needs}
 use Rattle.faults.proofs.columns_of.Statement.{statement}
 use Rattle.faults.proofs.columns_of.Tie as tie
 
-enum-told : tie.Need-enum-told
-enum-told c = search needs
-
-enum-told-2 : tie.Need-enum-told-2
-enum-told-2 c = search needs
-
 returns : tie.Need-returns
 unfolding columnsOf
 returns c = rw (c .enum-told .given .1)
@@ -18,4 +12,4 @@ unfolding columnsOf
 returns-2 c = rw (c .enum-told2 .given .1)
 
 pub columns-of-spec : {M : Type 1} → statement M
-columns-of-spec = tie.close (tie.spec enum-told enum-told-2 returns returns-2)
+columns-of-spec = tie.close (tie.spec (λ c. search needs) (λ c. search needs) returns returns-2)

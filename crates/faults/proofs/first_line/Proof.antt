@@ -25,9 +25,6 @@ returns c = by-feed (c .before .before .before .before .before .args .text .now)
 shared-slice-read-is-digit : tie.Need-shared-slice-read-is-digit Inv-loop μ-loop
 shared-slice-read-is-digit c = omega arith
 
-is-digit-requires : tie.Need-is-digit-requires Inv-loop μ-loop
-is-digit-requires c κs = search needs
-
 returns-2 : tie.Need-returns-2 Inv-loop μ-loop
 returns-2 c = by-digit (c .before .before .before .before .before .before .before .before .args .text .now) (c .before .before .before .before .before .before .loop .i)
     (c .before .before .before .before .before .before .loop .inv .1) (omega arith) (c .before .before .before .if1 .left) (sym (c .before .is-digit .ensures) ∙ c .if2 .taken)
@@ -58,7 +55,7 @@ first-line-spec =
     shared-slice-read-if1
     returns
     shared-slice-read-is-digit
-    is-digit-requires
+    (λ c κs. search needs)
     returns-2
     add-i
     loop-less

@@ -8,12 +8,9 @@ returns : tie.Need-returns
 unfolding limitFault
 returns c = simp (eq-eqb _ _ (c .if1 .taken))
 
-column-fault-requires : tie.Need-column-fault-requires
-column-fault-requires c κs = search needs
-
 returns-2 : tie.Need-returns-2
 unfolding limitFault
 returns-2 c = rw (ne-eqb _ _ (c .before .if1 .left)) (c .column-fault .ensures)
 
 pub limit-fault-spec : {M : Type 1} → statement M
-limit-fault-spec = tie.close (tie.spec returns column-fault-requires returns-2)
+limit-fault-spec = tie.close (tie.spec returns (λ c κs. search needs) returns-2)

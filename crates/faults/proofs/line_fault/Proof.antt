@@ -12,12 +12,6 @@ returns : tie.Need-returns
 returns c = let a = c .before .args in let room : length (a .cells) ≡ 8 = search needs in let few : a .count ≤ length (a .cells) = omega arith in
     line-blank (a .table) (a .before) (a .cells) (a .count) few (c .if1 .taken)
 
-columns-of-requires : tie.Need-columns-of-requires
-columns-of-requires c κs = search needs
-
-cells-fault-requires : tie.Need-cells-fault-requires
-cells-fault-requires c κs = search needs
-
 returns-2 : tie.Need-returns-2
 returns-2 c = let a = c .before .before .before .before .args in let room : length (a .cells) ≡ 8 = search needs in let few : a .count ≤ length (a .cells) = omega arith in
     c .cells-fault .ensures ∙ line-cells (a .table) (a .before) (a .cells) (a .count) few (c .before .before .before .if1 .left) (c .before .if2 .taken
@@ -30,4 +24,4 @@ returns-3 c = let a = c .before .before .before .args in let room : length (a .c
 
 pub line-fault-spec : {M : Type 1} → statement M
 line-fault-spec =
-    tie.close (tie.spec returns columns-of-requires cells-fault-requires returns-2 returns-3)
+    tie.close (tie.spec returns (λ c κs. search needs) (λ c κs. search needs) returns-2 returns-3)

@@ -37,9 +37,6 @@ returns-2 : tie.Need-returns-2
 unfolding fieldFits badField
 returns-2 c = at-state (fits (c .before .before .before .before .before)) (some-member (c .before .before)) (lt-leb _ _ (c .if2 .taken))
 
-service-fits-requires : tie.Need-service-fits-requires
-service-fits-requires c κs = search needs
-
 returns-3 : tie.Need-returns-3
 unfolding fieldFits badField
 returns-3 c =
@@ -51,9 +48,6 @@ unfolding fieldFits badField
 returns-4 c =
     at-revision (fits (c .before .before .before .before .before .before .before .before .before)) (some-member (c .before .before .before .before .before .before))
     (some-state (c .before .before .before .before)) (some-service (c .before .before)) (lt-leb _ _ (c .if4 .taken))
-
-bad-term-requires : tie.Need-bad-term-requires
-bad-term-requires c κs = search needs
 
 returns-5 : tie.Need-returns-5
 unfolding badField
@@ -68,8 +62,8 @@ bad-field-spec =
     (tie.spec
     returns
     returns-2
-    service-fits-requires
+    (λ c κs. search needs)
     returns-3
     returns-4
-    bad-term-requires
+    (λ c κs. search needs)
     returns-5)

@@ -4,40 +4,13 @@ use Rattle.field.proofs.Told.{no-late, no-short, as-told}
 use Rattle.field.proofs.bad_record.Statement.{statement}
 use Rattle.field.proofs.bad_record.Tie as tie
 
-no-record-requires : tie.Need-no-record-requires
-no-record-requires c κs = search needs
-
 returns : tie.Need-returns
 returns c = c .no-record .ensures ∙ no-late _ _ (c .before .if1 .taken)
-
-place-of-requires : tie.Need-place-of-requires
-place-of-requires c κs = search needs
-
-add-if2 : tie.Need-add-if2
-add-if2 c = search needs
-
-no-record-requires-2 : tie.Need-no-record-requires-2
-no-record-requires-2 c κs = search needs
 
 returns-2 : tie.Need-returns-2
 returns-2 c =
     let short = c .before .if2 .taken in
     c .no-record2 .ensures ∙ no-short _ _ (c .before .before .before .if1 .left) (search needs)
-
-header-at-requires : tie.Need-header-at-requires
-header-at-requires c κs = search needs
-
-record-at-requires : tie.Need-record-at-requires
-record-at-requires c κs = search needs
-
-reserved-at-requires : tie.Need-reserved-at-requires
-reserved-at-requires c κs = search needs
-
-minutes-of-requires : tie.Need-minutes-of-requires
-minutes-of-requires c κs = search needs
-
-bad-field-requires : tie.Need-bad-field-requires
-bad-field-requires c κs = search needs
 
 returns-3 : tie.Need-returns-3
 returns-3 c =
@@ -50,15 +23,15 @@ pub bad-record-spec : {M : Type 1} → statement M
 bad-record-spec =
     tie.close
     (tie.spec
-    no-record-requires
+    (λ c κs. search needs)
     returns
-    place-of-requires
-    add-if2
-    no-record-requires-2
+    (λ c κs. search needs)
+    (λ c. search needs)
+    (λ c κs. search needs)
     returns-2
-    header-at-requires
-    record-at-requires
-    reserved-at-requires
-    minutes-of-requires
-    bad-field-requires
+    (λ c κs. search needs)
+    (λ c κs. search needs)
+    (λ c κs. search needs)
+    (λ c κs. search needs)
+    (λ c κs. search needs)
     returns-3)

@@ -29,18 +29,6 @@ some-b c = b-fits _ _ _ _ (c .before .before .before .before .before .before .be
 some-c : (c : tie.Else5) → fits (c .before .before .before .before .before .before .before .before .before .before .before .before .before) C ≡ true
 some-c c = c-fits _ _ _ _ (c .before .before .before .before .before .before .before .before .before .before .before .before .limits-of .ensures) (c .if5 .left)
 
-limits-of-requires : tie.Need-limits-of-requires
-limits-of-requires c κs = search needs
-
-start-fits-requires : tie.Need-start-fits-requires
-start-fits-requires c κs = search needs
-
-length-fits-requires : tie.Need-length-fits-requires
-length-fits-requires c κs = search needs
-
-a-fits-requires : tie.Need-a-fits-requires
-a-fits-requires c κs = search needs
-
 returns : tie.Need-returns
 returns c =
     at-start (fits (c .before .before .before))
@@ -89,12 +77,12 @@ pub bad-term-spec : {M : Type 1} → statement M
 bad-term-spec =
     tie.close
     (tie.spec
-    limits-of-requires
-    start-fits-requires
+    (λ c κs. search needs)
+    (λ c κs. search needs)
     returns
-    length-fits-requires
+    (λ c κs. search needs)
     returns-2
-    a-fits-requires
+    (λ c κs. search needs)
     returns-3
     returns-4
     returns-5

@@ -6,45 +6,6 @@ use borrow.Author.Needs.{needs}
 use Rattle.field.proofs.limits_of.Statement.{statement}
 use Rattle.field.proofs.limits_of.Tie as tie
 
-row-requires : tie.Need-row-requires
-row-requires c κs = search needs
-
-row-requires-2 : tie.Need-row-requires-2
-row-requires-2 c κs = search needs
-
-row-requires-3 : tie.Need-row-requires-3
-row-requires-3 c κs = search needs
-
-row-requires-4 : tie.Need-row-requires-4
-row-requires-4 c κs = search needs
-
-row-requires-5 : tie.Need-row-requires-5
-row-requires-5 c κs = search needs
-
-row-requires-6 : tie.Need-row-requires-6
-row-requires-6 c κs = search needs
-
-row-requires-7 : tie.Need-row-requires-7
-row-requires-7 c κs = search needs
-
-row-requires-8 : tie.Need-row-requires-8
-row-requires-8 c κs = search needs
-
-cast-row : tie.Need-cast-row
-cast-row c = search needs
-
-row-requires-9 : tie.Need-row-requires-9
-row-requires-9 c κs = search needs
-
-row-requires-10 : tie.Need-row-requires-10
-row-requires-10 c κs = search needs
-
-row-requires-11 : tie.Need-row-requires-11
-row-requires-11 c κs = search needs
-
-row-requires-12 : tie.Need-row-requires-12
-row-requires-12 c κs = search needs
-
 returns : tie.Need-returns
 unfolding limitsOf table
 returns c = rw (c .row .ensures, c .before .match .keys1) refl
@@ -101,19 +62,19 @@ pub limits-of-spec : {M : Type 1} → statement M
 limits-of-spec =
     tie.close
     (tie.spec
-    row-requires
-    row-requires-2
-    row-requires-3
-    row-requires-4
-    row-requires-5
-    row-requires-6
-    row-requires-7
-    row-requires-8
-    cast-row
-    row-requires-9
-    row-requires-10
-    row-requires-11
-    row-requires-12
+    (λ c κs. search needs)
+    (λ c κs. search needs)
+    (λ c κs. search needs)
+    (λ c κs. search needs)
+    (λ c κs. search needs)
+    (λ c κs. search needs)
+    (λ c κs. search needs)
+    (λ c κs. search needs)
+    (λ c. search needs)
+    (λ c κs. search needs)
+    (λ c κs. search needs)
+    (λ c κs. search needs)
+    (λ c κs. search needs)
     returns
     returns-2
     returns-3

@@ -4,19 +4,13 @@ use borrow.Author.Needs.{needs}
 use Rattle.hour_faults.proofs.blank_after.Statement.{statement}
 use Rattle.hour_faults.proofs.blank_after.Tie as tie
 
-is-heading-requires : tie.Need-is-heading-requires
-is-heading-requires c κs = search needs
-
 returns : tie.Need-returns
 unfolding blankAfter
 returns c = rw (sym (c .before .is-heading .ensures) ∙ c .if1 .taken)
-
-is-blank-requires : tie.Need-is-blank-requires
-is-blank-requires c κs = search needs
 
 returns-2 : tie.Need-returns-2
 unfolding blankAfter
 returns-2 c = rw (sym (c .before .before .is-heading .ensures) ∙ c .before .if1 .left) (c .is-blank .ensures)
 
 pub blank-after-spec : {M : Type 1} → statement M
-blank-after-spec = tie.close (tie.spec is-heading-requires returns is-blank-requires returns-2)
+blank-after-spec = tie.close (tie.spec (λ c κs. search needs) returns (λ c κs. search needs) returns-2)

@@ -4,9 +4,6 @@ use borrow.Author.Needs.{needs}
 use Rattle.hour_faults.proofs.fast_fault.Statement.{statement}
 use Rattle.hour_faults.proofs.fast_fault.Tie as tie
 
-mul-if1 : tie.Need-mul-if1
-mul-if1 c = search needs
-
 returns : tie.Need-returns
 unfolding fastFault
 returns c = simp (le-leb _ _ (c .if1 .taken))
@@ -16,4 +13,4 @@ unfolding fastFault
 returns-2 c = simp (lt-leb _ _ (c .if1 .left))
 
 pub fast-fault-spec : {M : Type 1} → statement M
-fast-fault-spec = tie.close (tie.spec mul-if1 returns returns-2)
+fast-fault-spec = tie.close (tie.spec (λ c. search needs) returns returns-2)

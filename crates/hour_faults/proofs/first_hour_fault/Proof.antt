@@ -6,18 +6,9 @@ use borrow.Author.Needs.{needs}
 use Rattle.hour_faults.proofs.first_hour_fault.Statement.{statement}
 use Rattle.hour_faults.proofs.first_hour_fault.Tie as tie
 
-start-requires : tie.Need-start-requires
-start-requires c κs = search needs
-
-feed-requires : tie.Need-feed-requires
-feed-requires c κs = search needs
-
-finish-requires : tie.Need-finish-requires
-finish-requires c κs = search needs
-
 returns : tie.Need-returns
 returns c = let text = c .before .before .before .before .args .text .now in
     c .finish .ensures ∙ c .before .feed .ensures [] ∙ ap (λ (t : List ℕ). foundLeft (c .before .before .start .result) t) (append-nil text) ∙ c .before .before .start .ensures text
 
 pub first-hour-fault-spec : {M : Type 1} → statement M
-first-hour-fault-spec = tie.close (tie.spec start-requires feed-requires finish-requires returns)
+first-hour-fault-spec = tie.close (tie.spec (λ c κs. search needs) (λ c κs. search needs) (λ c κs. search needs) returns)

@@ -29,9 +29,6 @@ returns-2 c = let a = c .before .before .before .before .before .before .args in
 shared-slice-read-is-digit : tie.Need-shared-slice-read-is-digit Inv-loop μ-loop
 shared-slice-read-is-digit c = omega arith
 
-is-digit-requires : tie.Need-is-digit-requires Inv-loop μ-loop
-is-digit-requires c κs = search needs
-
 returns-3 : tie.Need-returns-3 Inv-loop μ-loop
 returns-3 c = let a = c .before .before .before .before .before .before .before .before .before .args in let l = c .before .before .before .before .before .before .loop in
     λ rest. at-digit (a .bytes .now) (l .i) (l .inv .1) (a .known) (omega (arith, c .before .before .before .before .before .before .before .if1 .left)) rest
@@ -63,7 +60,7 @@ first-of-spec =
     shared-slice-read-if2
     returns-2
     shared-slice-read-is-digit
-    is-digit-requires
+    (λ c κs. search needs)
     returns-3
     add-i
     loop-less

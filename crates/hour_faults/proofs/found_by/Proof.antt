@@ -4,15 +4,9 @@ use borrow.Author.Needs.{needs}
 use Rattle.hour_faults.proofs.found_by.Statement.{statement}
 use Rattle.hour_faults.proofs.found_by.Tie as tie
 
-is-sound-requires : tie.Need-is-sound-requires
-is-sound-requires c κs = search needs
-
 returns : tie.Need-returns
 unfolding foundBy
 returns c = rw (sym (c .before .is-sound .ensures) ∙ c .if1 .taken)
-
-wrapping-add-usize-requires : tie.Need-wrapping-add-usize-requires
-wrapping-add-usize-requires c κs = search needs
 
 returns-2 : tie.Need-returns-2
 unfolding foundBy
@@ -20,4 +14,4 @@ returns-2 c = rw (sym (c .before .before .is-sound .ensures) ∙ c .before .if1 
 
 pub found-by-spec : {M : Type 1} → statement M
 found-by-spec =
-    tie.close (tie.spec is-sound-requires returns wrapping-add-usize-requires returns-2)
+    tie.close (tie.spec (λ c κs. search needs) returns (λ c κs. search needs) returns-2)

@@ -18,11 +18,8 @@ returns-2 c = simp (le-ltb _ _ (c .before .if1 .left), lt-ltb _ _ (c .if2 .taken
 returns-3 : tie.Need-returns-3
 returns-3 c = month-out _ _ (c .before .before .if1 .left) (c .before .if2 .left) 0 (omega arith)
 
-sub-t5 : tie.Need-sub-t5
-sub-t5 c = search needs
-
 returns-4 : tie.Need-returns-4
 returns-4 c = month-out _ _ (c .before .before .if1 .left) (c .before .if2 .left) _ refl
 
 pub month-fault-spec : {M : Type 1} → statement M
-month-fault-spec = tie.close (tie.spec returns returns-2 returns-3 sub-t5 returns-4)
+month-fault-spec = tie.close (tie.spec returns returns-2 returns-3 (λ c. search needs) returns-4)

@@ -3,9 +3,6 @@ use Rattle.hours.specs.Hours.{monthHours}
 use Rattle.hours.proofs.month_hours.Statement.{statement}
 use Rattle.hours.proofs.month_hours.Tie as tie
 
-cast-most : tie.Need-cast-most
-cast-most c = search needs
-
 returns : tie.Need-returns
 unfolding monthHours
 returns c = search needs
@@ -15,4 +12,4 @@ unfolding monthHours
 returns-2 c = search needs
 
 pub month-hours-spec : {M : Type 1} → statement M
-month-hours-spec = tie.close (tie.spec cast-most returns returns-2)
+month-hours-spec = tie.close (tie.spec (λ c. search needs) returns returns-2)

@@ -4,15 +4,6 @@ use borrow.Author.Needs.{needs}
 use Rattle.hours.proofs.read_hours.Statement.{statement}
 use Rattle.hours.proofs.read_hours.Tie as tie
 
-start-requires : tie.Need-start-requires
-start-requires c κs = search needs
-
-feed-requires : tie.Need-feed-requires
-feed-requires c κs = search needs
-
-finish-requires : tie.Need-finish-requires
-finish-requires c κs = search needs
-
 returns : tie.Need-returns
 returns c =
     let a = c .before .before .before .before .args in
@@ -20,4 +11,4 @@ returns c =
     c .finish .ensures (a .member) most (a .text .now) (c .before .feed .ensures (a .member) most [] (c .before .before .start .ensures))
 
 pub read-hours-spec : {M : Type 1} → statement M
-read-hours-spec = tie.close (tie.spec start-requires feed-requires finish-requires returns)
+read-hours-spec = tie.close (tie.spec (λ c κs. search needs) (λ c κs. search needs) (λ c κs. search needs) returns)

@@ -3,12 +3,6 @@ use borrow.Author.Needs.{needs}
 use Rattle.intake.proofs.is_taken.Statement.{statement}
 use Rattle.intake.proofs.is_taken.Tie as tie
 
-is-whole-requires : tie.Need-is-whole-requires
-is-whole-requires c κs = search needs
-
-statement-is-within-requires : tie.Need-statement-is-within-requires
-statement-is-within-requires c κs = search needs
-
 returns : tie.Need-returns
 unfolding isTaken
 returns c = rw (c .before .before .is-whole .ensures, c .statement-is-within .ensures)
@@ -17,6 +11,6 @@ pub is-taken-spec : {M : Type 1} → statement M
 is-taken-spec =
     tie.close
     (tie.spec
-    is-whole-requires
-    statement-is-within-requires
+    (λ c κs. search needs)
+    (λ c κs. search needs)
     returns)

@@ -19,12 +19,6 @@ returns-3 c =
     let a = c .before .before .before .before .before .before .before .before .before .before .before .before .before .args in not-later (a .g) (a .s)
     (c .before .before .before .before .before .before .before .if1 .left) (c .before .before .before .if2 .left) (c .if3 .taken)
 
-month-statement-requires : tie.Need-month-statement-requires
-month-statement-requires c κs = search needs
-
-statement-is-sound-requires : tie.Need-statement-is-sound-requires
-statement-is-sound-requires c κs = search needs
-
 returns-4 : tie.Need-returns-4
 returns-4 c =
     let t = c .before .before .before .before .before .before .before .before .before .before .before .before .before .before .before .before in
@@ -46,7 +40,7 @@ reason-in-spec =
     returns
     returns-2
     returns-3
-    month-statement-requires
-    statement-is-sound-requires
+    (λ c κs. search needs)
+    (λ c κs. search needs)
     returns-4
     returns-5)

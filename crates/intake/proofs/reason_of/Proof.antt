@@ -6,20 +6,8 @@ use borrow.Author.Needs.{needs}
 use Rattle.intake.proofs.reason_of.Statement.{statement}
 use Rattle.intake.proofs.reason_of.Tie as tie
 
-enum-known-reading : tie.Need-enum-known-reading
-enum-known-reading c = search needs
-
 returns : tie.Need-returns
 returns c = let a = c .before .before .before .args in line-reason (a .g) (a .p) _ (c .before .reading .given .1)
-
-enum-told : tie.Need-enum-told
-enum-told c = search needs
-
-statement-is-within-requires : tie.Need-statement-is-within-requires
-statement-is-within-requires c κs = search needs
-
-line-beyond-requires : tie.Need-line-beyond-requires
-line-beyond-requires c κs = search needs
 
 returns-2 : tie.Need-returns-2
 returns-2 c =
@@ -40,11 +28,11 @@ pub reason-of-spec : {M : Type 1} → statement M
 reason-of-spec =
     tie.close
     (tie.spec
-    enum-known-reading
+    (λ c. search needs)
     returns
-    enum-told
-    statement-is-within-requires
-    line-beyond-requires
+    (λ c. search needs)
+    (λ c κs. search needs)
+    (λ c κs. search needs)
     returns-2
     reason-in-requires
     returns-3)

@@ -5,15 +5,6 @@ use borrow.Author.Needs.{needs}
 use Rattle.join.proofs.copy_record.Statement.{statement}
 use Rattle.join.proofs.copy_record.Tie as tie
 
-words-at-requires : tie.Need-words-at-requires
-words-at-requires c κs = search needs
-
-put-words-requires : tie.Need-put-words-requires
-put-words-requires c κs = search needs
-
-same-length : tie.Need-same-length
-same-length c = search needs
-
 returns : tie.Need-returns
 unfolding IsBytes
 returns c =
@@ -23,4 +14,4 @@ returns c =
     at (c .before .before .put-words .ensures)
 
 pub copy-record-spec : {M : Type 1} → statement M
-copy-record-spec = tie.close (tie.spec words-at-requires put-words-requires same-length returns)
+copy-record-spec = tie.close (tie.spec (λ c κs. search needs) (λ c κs. search needs) (λ c. search needs) returns)

@@ -26,12 +26,6 @@ fits : (c : tie.Else2)
     (keysOfBoth (s .first .now) (s .second .now) ≤ mostRecords version) × (sizeOf (keysOfBoth (s .first .now) (s .second .now)) ≤ length (s .out .now))
 fits c = never-over _ _ (ap (λ (v : Verdict). v .number) (sym (c .before .before .overflow .ensures)) ∙ c .if2 .left)
 
-screen-requires : tie.Need-screen-requires
-screen-requires c κs = search needs
-
-join-refused-requires : tie.Need-join-refused-requires
-join-refused-requires c κs = search needs
-
 returns : tie.Need-returns
 returns c =
     let k = c .before .before .before in
@@ -39,9 +33,6 @@ returns c =
 
 overflow-requires : tie.Need-overflow-requires
 overflow-requires c κs = let s = passed-screen _ _ (none c) in (s .first, s .second)
-
-join-refused-requires-2 : tie.Need-join-refused-requires-2
-join-refused-requires-2 c κs = search needs
 
 returns-2 : tie.Need-returns-2
 returns-2 c =
@@ -57,9 +48,6 @@ put-book-requires c κs =
 size-of-requires : tie.Need-size-of-requires
 size-of-requires c κs = let f = fits (c .before .before .before .before) in omega (arith, c .before .before .put-book .ensures .0)
 
-same-length : tie.Need-same-length
-same-length c = search needs
-
 returns-3 : tie.Need-returns-3
 returns-3 c =
     let b = c .before .before .before in
@@ -72,13 +60,13 @@ pub join-spec : {M : Type 1} → statement M
 join-spec =
     tie.close
     (tie.spec
-    screen-requires
-    join-refused-requires
+    (λ c κs. search needs)
+    (λ c κs. search needs)
     returns
     overflow-requires
-    join-refused-requires-2
+    (λ c κs. search needs)
     returns-2
     put-book-requires
     size-of-requires
-    same-length
+    (λ c. search needs)
     returns-3)

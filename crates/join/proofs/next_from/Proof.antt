@@ -6,12 +6,6 @@ use borrow.Author.Needs.{needs}
 use Rattle.join.proofs.next_from.Statement.{statement}
 use Rattle.join.proofs.next_from.Tie as tie
 
-precedes-requires : tie.Need-precedes-requires
-precedes-requires c κs = search needs
-
-add-p : tie.Need-add-p
-add-p c = search needs
-
 returns : tie.Need-returns
 returns c =
     let s = c .before .before .before .before .args in
@@ -20,12 +14,6 @@ returns c =
       settled = settles-lower (callAt (s .first .now) (s .a)) (callAt (s .second .now) (s .b)) _ _ (sym (c .before .precedes .ensures) ∙ c .if1 .taken);
     }
 
-precedes-requires-2 : tie.Need-precedes-requires-2
-precedes-requires-2 c κs = search needs
-
-add-q : tie.Need-add-q
-add-q c = search needs
-
 returns-2 : tie.Need-returns-2
 returns-2 c =
     let s = c .before .before .before .before .before .before .args in
@@ -33,12 +21,6 @@ returns-2 c =
       call = callAt (s .second .now) (s .b);
       settled = settles-upper (callAt (s .first .now) (s .a)) (callAt (s .second .now) (s .b)) _ _ (sym (c .before .precedes2 .ensures) ∙ c .if2 .taken);
     }
-
-add-p-2 : tie.Need-add-p-2
-add-p-2 c = search needs
-
-add-q-2 : tie.Need-add-q-2
-add-q-2 c = search needs
 
 returns-3 : tie.Need-returns-3
 returns-3 c =
@@ -55,12 +37,12 @@ pub next-from-spec : {M : Type 1} → statement M
 next-from-spec =
     tie.close
     (tie.spec
-    precedes-requires
-    add-p
+    (λ c κs. search needs)
+    (λ c. search needs)
     returns
-    precedes-requires-2
-    add-q
+    (λ c κs. search needs)
+    (λ c. search needs)
     returns-2
-    add-p-2
-    add-q-2
+    (λ c. search needs)
+    (λ c. search needs)
     returns-3)

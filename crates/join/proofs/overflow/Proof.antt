@@ -15,15 +15,6 @@ count-at-requires c κs = long _ (c .before .before .pre .0)
 count-at-requires-2 : tie.Need-count-at-requires-2
 count-at-requires-2 c κs = long _ (c .before .before .before .pre .1)
 
-add-most : tie.Need-add-most
-add-most c = search needs
-
-size-of-requires : tie.Need-size-of-requires
-size-of-requires c κs = search needs
-
-refused-requires : tie.Need-refused-requires
-refused-requires c κs = search needs
-
 returns : tie.Need-returns
 returns c =
     let z = c .before .before in
@@ -35,23 +26,11 @@ returns c =
     let size = z .size-of .ensures in
     c .refused .ensures ∙ over-none _ _ (omega arith) (omega arith)
 
-keys-of-both-requires : tie.Need-keys-of-both-requires
-keys-of-both-requires c κs = search needs
-
-refused-requires-2 : tie.Need-refused-requires-2
-refused-requires-2 c κs = search needs
-
 returns-2 : tie.Need-returns-2
 returns-2 c =
     let k = c .before .before in
     let room = k .before .before .before .before .before .before .args .room in
     c .refused2 .ensures ∙ over-many (k .keys-of-both .result) room (c .before .if3 .taken) ∙ ap (λ (n : ℕ). overflow n room) (k .keys-of-both .ensures)
-
-size-of-requires-2 : tie.Need-size-of-requires-2
-size-of-requires-2 c κs = search needs
-
-refused-requires-3 : tie.Need-refused-requires-3
-refused-requires-3 c κs = search needs
 
 returns-3 : tie.Need-returns-3
 returns-3 c =
@@ -61,9 +40,6 @@ returns-3 c =
     let short = c .before .if4 .taken in
     let size = c .before .before .size-of2 .ensures in
     c .refused3 .ensures ∙ over-short (k .keys-of-both .result) room (f .if3 .left) (omega arith) ∙ ap (λ (n : ℕ). overflow n room) (k .keys-of-both .ensures)
-
-refused-requires-4 : tie.Need-refused-requires-4
-refused-requires-4 c κs = search needs
 
 returns-4 : tie.Need-returns-4
 returns-4 c =
@@ -80,15 +56,15 @@ overflow-spec =
     (tie.spec
     count-at-requires
     count-at-requires-2
-    add-most
-    size-of-requires
-    refused-requires
+    (λ c. search needs)
+    (λ c κs. search needs)
+    (λ c κs. search needs)
     returns
-    keys-of-both-requires
-    refused-requires-2
+    (λ c κs. search needs)
+    (λ c κs. search needs)
     returns-2
-    size-of-requires-2
-    refused-requires-3
+    (λ c κs. search needs)
+    (λ c κs. search needs)
     returns-3
-    refused-requires-4
+    (λ c κs. search needs)
     returns-4)

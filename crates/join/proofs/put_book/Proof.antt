@@ -7,29 +7,8 @@ use borrow.Author.Needs.{needs}
 use Rattle.join.proofs.put_book.Statement.{statement}
 use Rattle.join.proofs.put_book.Tie as tie
 
-sub-put-records : tie.Need-sub-put-records
-sub-put-records c = search needs
-
-part-put-records-start : tie.Need-part-put-records-start
-part-put-records-start c = search needs
-
-part-put-records-end : tie.Need-part-put-records-end
-part-put-records-end c = search needs
-
-put-records-requires : tie.Need-put-records-requires
-put-records-requires c κs = search needs
-
-cast-count : tie.Need-cast-count
-cast-count c = search needs
-
 header-at-requires : tie.Need-header-at-requires
 header-at-requires c κs = long _ (c .before .before .before .before .before .before .before .before .pre .0)
-
-put-header-requires : tie.Need-put-header-requires
-put-header-requires c κs = search needs
-
-same-length : tie.Need-same-length
-same-length c = search needs
 
 returns : tie.Need-returns
 returns c =
@@ -46,12 +25,12 @@ pub put-book-spec : {M : Type 1} → statement M
 put-book-spec =
     tie.close
     (tie.spec
-    sub-put-records
-    part-put-records-start
-    part-put-records-end
-    put-records-requires
-    cast-count
+    (λ c. search needs)
+    (λ c. search needs)
+    (λ c. search needs)
+    (λ c κs. search needs)
+    (λ c. search needs)
     header-at-requires
-    put-header-requires
-    same-length
+    (λ c κs. search needs)
+    (λ c. search needs)
     returns)

@@ -5,46 +5,13 @@ use borrow.Author.Needs.{needs}
 use Rattle.join.proofs.put_given.Statement.{statement}
 use Rattle.join.proofs.put_given.Tie as tie
 
-enum-told : tie.Need-enum-told
-enum-told c = search needs
-
-copy-record-requires : tie.Need-copy-record-requires
-copy-record-requires c κs = search needs
-
-enum-told-2 : tie.Need-enum-told-2
-enum-told-2 c = search needs
-
-copy-record-requires-2 : tie.Need-copy-record-requires-2
-copy-record-requires-2 c κs = search needs
-
-enum-told-3 : tie.Need-enum-told-3
-enum-told-3 c = search needs
-
-call-at-requires : tie.Need-call-at-requires
-call-at-requires c κs = search needs
-
-contested-requires : tie.Need-contested-requires
-contested-requires c κs = search needs
-
-put-call-requires : tie.Need-put-call-requires
-put-call-requires c κs = search needs
-
-same-length : tie.Need-same-length
-same-length c = search needs
-
 returns : tie.Need-returns
 unfolding given
 returns c = rw (c .before .before .before .before .enum-told .given .1) (c .before .before .copy-record .ensures)
 
-same-length-2 : tie.Need-same-length-2
-same-length-2 c = search needs
-
 returns-2 : tie.Need-returns-2
 unfolding given
 returns-2 c = rw (c .before .before .before .before .enum-told2 .given .1) (c .before .before .copy-record2 .ensures)
-
-same-length-3 : tie.Need-same-length-3
-same-length-3 c = search needs
 
 returns-3 : tie.Need-returns-3
 unfolding given
@@ -56,17 +23,17 @@ pub put-given-spec : {M : Type 1} → statement M
 put-given-spec =
     tie.close
     (tie.spec
-    enum-told
-    copy-record-requires
-    enum-told-2
-    copy-record-requires-2
-    enum-told-3
-    call-at-requires
-    contested-requires
-    put-call-requires
-    same-length
+    (λ c. search needs)
+    (λ c κs. search needs)
+    (λ c. search needs)
+    (λ c κs. search needs)
+    (λ c. search needs)
+    (λ c κs. search needs)
+    (λ c κs. search needs)
+    (λ c κs. search needs)
+    (λ c. search needs)
     returns
-    same-length-2
+    (λ c. search needs)
     returns-2
-    same-length-3
+    (λ c. search needs)
     returns-3)

@@ -4,9 +4,6 @@ use borrow.Author.Needs.{needs}
 use Rattle.join.proofs.put_records.Statement.{statement}
 use Rattle.join.proofs.put_records.Tie as tie
 
-put-both-requires : tie.Need-put-both-requires
-put-both-requires c κs = search needs
-
 put-rest-requires : tie.Need-put-rest-requires
 put-rest-requires c κs =
     let b = c .before .before .before in
@@ -24,9 +21,6 @@ put-rest-requires-2 c κs =
       (g .in-second, omega (arith, total (pre .0) (pre .1 .0) g, same-long (g .stored), same-long (r .put-rest .ensures .1), r .put-rest .ensures .0, pre .1 .1)),
     )
 
-same-length : tie.Need-same-length
-same-length c = search needs
-
 returns : tie.Need-returns
 returns c =
     let r = c .before .before .before .before .before .before in
@@ -39,8 +33,8 @@ pub put-records-spec : {M : Type 1} → statement M
 put-records-spec =
     tie.close
     (tie.spec
-    put-both-requires
+    (λ c κs. search needs)
     put-rest-requires
     put-rest-requires-2
-    same-length
+    (λ c. search needs)
     returns)

@@ -4,9 +4,6 @@ use borrow.Author.Needs.{needs}
 use Rattle.lines.proofs.part_then.Statement.{statement}
 use Rattle.lines.proofs.part_then.Tie as tie
 
-blank-lines-requires : tie.Need-blank-lines-requires
-blank-lines-requires c κs = search needs
-
 returns : tie.Need-returns
 returns c =
     let a = c .before .before .args in
@@ -16,4 +13,4 @@ returns-2 : tie.Need-returns-2
 returns-2 c = let a = c .before .before .args in sym (part-fair (a .part) (a .listed) (c .before .if1 .left))
 
 pub part-then-spec : {M : Type 1} → statement M
-part-then-spec = tie.close (tie.spec blank-lines-requires returns returns-2)
+part-then-spec = tie.close (tie.spec (λ c κs. search needs) returns returns-2)

@@ -18,24 +18,6 @@ in-first c = rw (c .i .given .1) at (c .before .before .before .before .pre .1 .
 in-second : (c : tie.After-j2) → c .j2 .given .0 .0 < countAt (c .before .before .before .before .before .before .before .args .second .now)
 in-second c = rw (c .j2 .given .1) at (c .before .before .before .before .before .before .before .pre .1 .1 .1)
 
-enum-told : tie.Need-enum-told
-enum-told c = search needs
-
-enum-told-2 : tie.Need-enum-told-2
-enum-told-2 c = search needs
-
-enum-known-j : tie.Need-enum-known-j
-enum-known-j c = search needs
-
-enum-known-i : tie.Need-enum-known-i
-enum-known-i c = search needs
-
-enum-told-3 : tie.Need-enum-told-3
-enum-told-3 c = search needs
-
-enum-known-j-2 : tie.Need-enum-known-j-2
-enum-known-j-2 c = search needs
-
 place-of-requires : tie.Need-place-of-requires
 place-of-requires c κs =
     let i = c .before .before .before .before in
@@ -54,9 +36,6 @@ decide-at-requires c κs =
       omega (arith, fits _ (i .i .given .0 .0) (pre .0) (in-first i), c .before .place-of .ensures),
       omega (arith, fits _ (j .j2 .given .0 .0) (pre .1 .0) (in-second j), c .place-of2 .ensures),
     )
-
-stands-at-requires : tie.Need-stands-at-requires
-stands-at-requires c κs = search needs
 
 returns : tie.Need-returns
 unfolding choose
@@ -86,16 +65,16 @@ pub choose-spec : {M : Type 1} → statement M
 choose-spec =
     tie.close
     (tie.spec
-    enum-told
-    enum-told-2
-    enum-known-j
-    enum-known-i
-    enum-told-3
-    enum-known-j-2
+    (λ c. search needs)
+    (λ c. search needs)
+    (λ c. search needs)
+    (λ c. search needs)
+    (λ c. search needs)
+    (λ c. search needs)
     place-of-requires
     place-of-requires-2
     decide-at-requires
-    stands-at-requires
+    (λ c κs. search needs)
     returns
     returns-2
     returns-3

@@ -19,53 +19,20 @@ in-second : (c : tie.After-j)
     → (c .j .given .0 .0 ≤ 65535) × (placeOf (c .j .given .0 .0) + recordSize ≤ length (c .before .before .before .before .before .args .second .now))
 in-second c = second-fits _ _ _ _ (c .before .before .which .result) (c .before .before .which .ensures) _ (c .j .given .1)
 
-which-requires : tie.Need-which-requires
-which-requires c κs = search needs
-
-enum-told : tie.Need-enum-told
-enum-told c = search needs
-
-sub-result : tie.Need-sub-result
-sub-result c = search needs
-
-part-result-start : tie.Need-part-result-start
-part-result-start c = search needs
-
-part-result-end : tie.Need-part-result-end
-part-result-end c = search needs
-
-enum-known-i : tie.Need-enum-known-i
-enum-known-i c = search needs
-
 place-of-requires : tie.Need-place-of-requires
 place-of-requires c κs = in-word _ (in-first (c .before) .0)
 
 add-e : tie.Need-add-e
 add-e c = omega (arith, in-first (c .before .before), c .place-of .ensures)
 
-sub-result-2 : tie.Need-sub-result-2
-sub-result-2 c = search needs
-
-part-result-start-2 : tie.Need-part-result-start-2
-part-result-start-2 c = search needs
-
 part-result-end-2 : tie.Need-part-result-end-2
 part-result-end-2 c = omega (arith, in-first (c .before .before), c .place-of .ensures)
-
-enum-known-j : tie.Need-enum-known-j
-enum-known-j c = search needs
 
 place-of-requires-2 : tie.Need-place-of-requires-2
 place-of-requires-2 c κs = in-word _ (in-second (c .before) .0)
 
 add-e-2 : tie.Need-add-e-2
 add-e-2 c = omega (arith, in-second (c .before .before), c .place-of2 .ensures)
-
-sub-result-3 : tie.Need-sub-result-3
-sub-result-3 c = search needs
-
-part-result-start-3 : tie.Need-part-result-start-3
-part-result-start-3 c = search needs
 
 part-result-end-3 : tie.Need-part-result-end-3
 part-result-end-3 c = omega (arith, in-second (c .before .before), c .place-of2 .ensures)
@@ -96,22 +63,22 @@ pub find-spec : {M : Type 1} → statement M
 find-spec =
     tie.close
     (tie.spec
-    which-requires
-    enum-told
-    sub-result
-    part-result-start
-    part-result-end
-    enum-known-i
+    (λ c κs. search needs)
+    (λ c. search needs)
+    (λ c. search needs)
+    (λ c. search needs)
+    (λ c. search needs)
+    (λ c. search needs)
     place-of-requires
     add-e
-    sub-result-2
-    part-result-start-2
+    (λ c. search needs)
+    (λ c. search needs)
     part-result-end-2
-    enum-known-j
+    (λ c. search needs)
     place-of-requires-2
     add-e-2
-    sub-result-3
-    part-result-start-3
+    (λ c. search needs)
+    (λ c. search needs)
     part-result-end-3
     returns
     returns-2

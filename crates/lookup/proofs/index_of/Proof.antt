@@ -28,12 +28,6 @@ returns c =
     let l = c .before .before .before in
     at-hit _ _ _ _ (c .before .before .loop-test .taken) (sym (c .before .key-at .ensures) ∙ c .if1 .taken) ∙ l .loop .inv .1
 
-add-i : tie.Need-add-i Inv-loop μ-loop
-add-i c = search needs
-
-loop-less : tie.Need-loop-less Inv-loop μ-loop
-loop-less c = search needs
-
 loop-again : tie.Need-loop-again Inv-loop μ-loop
 loop-again c =
     let l = c .before .before .before in
@@ -52,7 +46,7 @@ index-of-spec =
     loop-holds
     key-at-requires
     returns
-    add-i
-    loop-less
+    (λ c. search needs)
+    (λ c. search needs)
     loop-again
     returns-2)

@@ -16,9 +16,6 @@ participant-at-requires c κs = let s = c .before .before in omega (arith, fits 
 call-number-at-requires : tie.Need-call-number-at-requires
 call-number-at-requires c κs = let s = c .before .before .before in omega (arith, fits _ (s .args .i) (s .pre .0) (s .pre .1), c .before .place-of .ensures)
 
-key-of-requires : tie.Need-key-of-requires
-key-of-requires c κs = search needs
-
 returns : tie.Need-returns
 unfolding recordAt
 returns c =
@@ -32,5 +29,5 @@ key-at-spec =
     place-of-requires
     participant-at-requires
     call-number-at-requires
-    key-of-requires
+    (λ c κs. search needs)
     returns)

@@ -13,14 +13,8 @@ none : (c : tie.Else1)
     screen (s .first .now) (s .second .now) .number ≡ 0
 none c = ap (λ (v : Verdict). v .number) (sym (c .before .before .screen .ensures)) ∙ c .if1 .left
 
-screen-requires : tie.Need-screen-requires
-screen-requires c κs = search needs
-
 returns : tie.Need-returns
 returns c = which-refused _ _ _ _ (c .before .before .screen .result) (c .before .before .screen .ensures) (c .if1 .taken)
-
-key-of-requires : tie.Need-key-of-requires
-key-of-requires c κs = search needs
 
 index-of-requires : tie.Need-index-of-requires
 index-of-requires c κs = passed-screen _ _ (none (c .before)) .first
@@ -43,9 +37,9 @@ pub which-spec : {M : Type 1} → statement M
 which-spec =
     tie.close
     (tie.spec
-    screen-requires
+    (λ c κs. search needs)
     returns
-    key-of-requires
+    (λ c κs. search needs)
     index-of-requires
     index-of-requires-2
     choose-requires

@@ -6,12 +6,6 @@ use borrow.Author.Needs.{needs}
 use Rattle.month.proofs.earned_month.Statement.{statement}
 use Rattle.month.proofs.earned_month.Tie as tie
 
-members-earned-requires : tie.Need-members-earned-requires
-members-earned-requires c κs = search needs
-
-month-refused-requires : tie.Need-month-refused-requires
-month-refused-requires c κs = search needs
-
 returns : tie.Need-returns
 returns c =
     let a = c .before .before .before .before .before .args in
@@ -19,15 +13,6 @@ returns c =
     let e = c .before .before .members-earned .ensures .refusal (c .before .if1 .taken) in
     c .month-refused .ensures
     ∙ earned-refused (a .part) es (a .book .now) (a .ramped) (earnings es (a .book .now) (a .series .now) (a .lengths) (a .ramped)) (c .before .before .members-earned .result .fault) (e .0) (e .1)
-
-compensations-requires : tie.Need-compensations-requires
-compensations-requires c κs = search needs
-
-limited-for-requires : tie.Need-limited-for-requires
-limited-for-requires c κs = search needs
-
-shared-month-requires : tie.Need-shared-month-requires
-shared-month-requires c κs = search needs
 
 returns-2 : tie.Need-returns-2
 returns-2 c =
@@ -43,10 +28,10 @@ pub earned-month-spec : {M : Type 1} → statement M
 earned-month-spec =
     tie.close
     (tie.spec
-    members-earned-requires
-    month-refused-requires
+    (λ c κs. search needs)
+    (λ c κs. search needs)
     returns
-    compensations-requires
-    limited-for-requires
-    shared-month-requires
+    (λ c κs. search needs)
+    (λ c κs. search needs)
+    (λ c κs. search needs)
     returns-2)

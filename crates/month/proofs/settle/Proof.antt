@@ -39,31 +39,16 @@ book-is c = sym (ap (λ (v : Verdict). v .number) (c .before .check .ensures)) �
 book-sound : (c : tie.Else3) → Accepted (c .before .before .before .before .before .before .before .before .args .book .now)
 book-sound c = accepted-tests _ (zero-accepted _ (book-is c))
 
-month-refused-requires : tie.Need-month-refused-requires
-month-refused-requires c κs = search needs
-
 returns : tie.Need-returns
 returns c = c .month-refused .ensures ∙ in-part _ (c .before .if1 .taken)
 
-seen-requires : tie.Need-seen-requires
-seen-requires c κs = search needs
-
 first-bad-entry-requires : tie.Need-first-bad-entry-requires
 first-bad-entry-requires c κs = c .seen .ensures .2
-
-month-refused-requires-2 : tie.Need-month-refused-requires-2
-month-refused-requires-2 c κs = search needs
 
 returns-2 : tie.Need-returns-2
 returns-2 c =
     let b = bad-is (c .before .before) in
     c .month-refused2 .ensures ∙ rw b (in-register _ (fair (c .before .before .before .before)) (rw b at (c .before .if2 .taken)))
-
-check-requires : tie.Need-check-requires
-check-requires c κs = search needs
-
-month-refused-requires-3 : tie.Need-month-refused-requires-3
-month-refused-requires-3 c κs = search needs
 
 returns-3 : tie.Need-returns-3
 returns-3 c =
@@ -77,9 +62,6 @@ first-unlisted-requires : tie.Need-first-unlisted-requires
 first-unlisted-requires c κs =
     let k = book-sound (c .before) .count in
     (few (c .before .before .before), omega (arith, c .count-at .ensures .0))
-
-month-refused-requires-4 : tie.Need-month-refused-requires-4
-month-refused-requires-4 c κs = search needs
 
 returns-4 : tie.Need-returns-4
 returns-4 c =
@@ -102,18 +84,18 @@ pub settle-spec : {M : Type 1} → statement M
 settle-spec =
     tie.close
     (tie.spec
-    month-refused-requires
+    (λ c κs. search needs)
     returns
-    seen-requires
+    (λ c κs. search needs)
     first-bad-entry-requires
-    month-refused-requires-2
+    (λ c κs. search needs)
     returns-2
-    check-requires
-    month-refused-requires-3
+    (λ c κs. search needs)
+    (λ c κs. search needs)
     returns-3
     count-at-requires
     first-unlisted-requires
-    month-refused-requires-4
+    (λ c κs. search needs)
     returns-4
     earned-month-requires
     returns-5)

@@ -5,12 +5,6 @@ use borrow.Author.Needs.{needs}
 use Rattle.month.proofs.shared_month.Statement.{statement}
 use Rattle.month.proofs.shared_month.Tie as tie
 
-ceiled-array-requires : tie.Need-ceiled-array-requires
-ceiled-array-requires c κs = search needs
-
-month-refused-requires : tie.Need-month-refused-requires
-month-refused-requires c κs = search needs
-
 returns : tie.Need-returns
 returns c =
     let a = c .before .before .before .before .args in
@@ -18,9 +12,6 @@ returns c =
     let s = c .before .before .ceiled-array in
     c .month-refused .ensures
     ∙ shared-refused (a .part) (a .book .now) (a .lines) (a .grains) (a .ramped) (a .count) (c .before .before .before .before .pre .1) long (s .result) (s .ensures) (c .before .if1 .taken)
-
-is-below-requires : tie.Need-is-below-requires
-is-below-requires c κs = search needs
 
 filled-rows-requires : tie.Need-filled-rows-requires
 filled-rows-requires c κs =
@@ -30,12 +21,6 @@ filled-rows-requires c κs =
     let s = e .before .ceiled-array in
     shared-within (a .part) (a .book .now) (a .lines) (a .grains) (a .ramped) (a .count) (c .before .before .before .before .before .before .before .pre .1) long
     (s .result) (s .ensures) (e .if1 .left)
-
-header-at-requires : tie.Need-header-at-requires
-header-at-requires c κs = search needs
-
-count-at-requires : tie.Need-count-at-requires
-count-at-requires c κs = search needs
 
 returns-2 : tie.Need-returns-2
 returns-2 c =
@@ -51,11 +36,11 @@ pub shared-month-spec : {M : Type 1} → statement M
 shared-month-spec =
     tie.close
     (tie.spec
-    ceiled-array-requires
-    month-refused-requires
+    (λ c κs. search needs)
+    (λ c κs. search needs)
     returns
-    is-below-requires
+    (λ c κs. search needs)
     filled-rows-requires
-    header-at-requires
-    count-at-requires
+    (λ c κs. search needs)
+    (λ c κs. search needs)
     returns-2)

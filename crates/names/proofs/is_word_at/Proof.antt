@@ -6,14 +6,8 @@ use borrow.Author.Needs.{needs}
 use Rattle.names.proofs.is_word_at.Statement.{statement}
 use Rattle.names.proofs.is_word_at.Tie as tie
 
-word-at-requires : tie.Need-word-at-requires
-word-at-requires c κs = search needs
-
-is-same-requires : tie.Need-is-same-requires
-is-same-requires c κs = search needs
-
 returns : tie.Need-returns
 returns c = c .is-same .ensures ∙ ap (λ (w : List ℕ). same (c .before .before .before .before .args .text .now) w) (c .before .word-at .ensures)
 
 pub is-word-at-spec : {M : Type 1} → statement M
-is-word-at-spec = tie.close (tie.spec word-at-requires is-same-requires returns)
+is-word-at-spec = tie.close (tie.spec (λ c κs. search needs) (λ c κs. search needs) returns)

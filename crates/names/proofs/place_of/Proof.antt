@@ -16,9 +16,6 @@ abbrev μ-loop : tie.MeasureT-loop
 loop-holds : tie.Need-loop-holds Inv-loop μ-loop
 loop-holds c = let a = c .before .before .args in (omega arith, omega arith, place-starts (a .words .now) (a .text .now) (a .most))
 
-is-word-at-requires : tie.Need-is-word-at-requires Inv-loop μ-loop
-is-word-at-requires c κs = search needs
-
 returns : tie.Need-returns Inv-loop μ-loop
 returns c =
     let l = c .before .before .before .loop in
@@ -50,7 +47,7 @@ place-of-spec =
     Inv-loop
     μ-loop
     loop-holds
-    is-word-at-requires
+    (λ c κs. search needs)
     returns
     add-n
     loop-less

@@ -26,9 +26,6 @@ returns c =
 shared-slice-read-stepped : tie.Need-shared-slice-read-stepped Inv-loop μ-loop
 shared-slice-read-stepped c = omega arith
 
-stepped-requires : tie.Need-stepped-requires Inv-loop μ-loop
-stepped-requires c κs = search needs
-
 add-i : tie.Need-add-i Inv-loop μ-loop
 add-i c = omega arith
 
@@ -56,7 +53,7 @@ skipped-spec =
     loop-holds
     returns
     shared-slice-read-stepped
-    stepped-requires
+    (λ c κs. search needs)
     add-i
     loop-less
     loop-again

@@ -10,11 +10,8 @@ slice-aggregate-result c =
     let a = c .before .before .args in
     sym (length-take-le (a .n) (a .bytes .now) (omega arith))
 
-returns : tie.Need-returns
-returns c = search needs
-
 returns-2 : tie.Need-returns-2
 returns-2 c = let a = c .before .args in sym (take-all (a .n) (a .bytes .now) (omega arith))
 
 pub first-spec : {M : Type 1} → statement M
-first-spec = tie.close (tie.spec slice-aggregate-result returns returns-2)
+first-spec = tie.close (tie.spec slice-aggregate-result (λ c. search needs) returns-2)

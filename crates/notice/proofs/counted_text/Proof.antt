@@ -7,14 +7,8 @@ use Rattle.notice.proofs.counted_text.Tie as tie
 returns : tie.Need-returns
 returns c = no-room mostCounted _ (c .before .before .args .out .now) (c .if1 .taken)
 
-put-counted-requires : tie.Need-put-counted-requires
-put-counted-requires c κs = search needs
-
-same-length : tie.Need-same-length
-same-length c = search needs
-
 returns-2 : tie.Need-returns-2
 returns-2 c = rendered mostCounted (c .before .before .before .before .if1 .left) (c .before .before .put-counted .ensures)
 
 pub counted-text-spec : {M : Type 1} → statement M
-counted-text-spec = tie.close (tie.spec returns put-counted-requires same-length returns-2)
+counted-text-spec = tie.close (tie.spec returns (λ c κs. search needs) (λ c. search needs) returns-2)

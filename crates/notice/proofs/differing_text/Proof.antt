@@ -13,30 +13,15 @@ returns c =
     let a = c .before .before .before .before .args in
     no-room (mostDiffering (a .one .now) (a .other .now)) _ (a .out .now) (omega arith)
 
-sub-if2 : tie.Need-sub-if2
-sub-if2 c = search needs
-
 returns-2 : tie.Need-returns-2
 returns-2 c =
     let a = c .before .before .before .before .before .args in
     no-room (mostDiffering (a .one .now) (a .other .now)) _ (a .out .now) (omega arith)
 
-sub-if3 : tie.Need-sub-if3
-sub-if3 c = search needs
-
-sub-if3-2 : tie.Need-sub-if3-2
-sub-if3-2 c = search needs
-
 returns-3 : tie.Need-returns-3
 returns-3 c =
     let a = c .before .before .before .before .before .before .args in
     no-room (mostDiffering (a .one .now) (a .other .now)) _ (a .out .now) (omega arith)
-
-put-differing-requires : tie.Need-put-differing-requires
-put-differing-requires c κs = search needs
-
-same-length : tie.Need-same-length
-same-length c = search needs
 
 x-fits : (c : tie.Start) → SFits w64 (c .args .x)
 x-fits c = search needs
@@ -56,11 +41,11 @@ differing-text-spec =
     tie.close
     (tie.spec
     returns
-    sub-if2
+    (λ c. search needs)
     returns-2
-    sub-if3
-    sub-if3-2
+    (λ c. search needs)
+    (λ c. search needs)
     returns-3
-    put-differing-requires
-    same-length
+    (λ c κs. search needs)
+    (λ c. search needs)
     returns-4)

@@ -7,14 +7,8 @@ use Rattle.notice.proofs.no_line_for_text.Tie as tie
 returns : tie.Need-returns
 returns c = no-room mostNoLineFor _ (c .before .before .args .out .now) (c .if1 .taken)
 
-put-no-line-for-requires : tie.Need-put-no-line-for-requires
-put-no-line-for-requires c κs = search needs
-
-same-length : tie.Need-same-length
-same-length c = search needs
-
 returns-2 : tie.Need-returns-2
 returns-2 c = rendered mostNoLineFor (c .before .before .before .before .if1 .left) (c .before .before .put-no-line-for .ensures)
 
 pub no-line-for-text-spec : {M : Type 1} → statement M
-no-line-for-text-spec = tie.close (tie.spec returns put-no-line-for-requires same-length returns-2)
+no-line-for-text-spec = tie.close (tie.spec returns (λ c κs. search needs) (λ c. search needs) returns-2)

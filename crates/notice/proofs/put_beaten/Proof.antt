@@ -5,21 +5,6 @@ use borrow.Author.Needs.{needs}
 use Rattle.notice.proofs.put_beaten.Statement.{statement}
 use Rattle.notice.proofs.put_beaten.Tie as tie
 
-put-holder-requires : tie.Need-put-holder-requires
-put-holder-requires c κs = search needs
-
-put-still-requires : tie.Need-put-still-requires
-put-still-requires c κs = search needs
-
-slice-aggregate-put-word : tie.Need-slice-aggregate-put-word
-slice-aggregate-put-word c = search needs
-
-put-word-requires : tie.Need-put-word-requires
-put-word-requires c κs = search needs
-
-same-length : tie.Need-same-length
-same-length c = search needs
-
 returns : tie.Need-returns
 unfolding beatenText
 returns c =
@@ -32,9 +17,9 @@ pub put-beaten-spec : {M : Type 1} → statement M
 put-beaten-spec =
     tie.close
     (tie.spec
-    put-holder-requires
-    put-still-requires
-    slice-aggregate-put-word
-    put-word-requires
-    same-length
+    (λ c κs. search needs)
+    (λ c κs. search needs)
+    (λ c. search needs)
+    (λ c κs. search needs)
+    (λ c. search needs)
     returns)

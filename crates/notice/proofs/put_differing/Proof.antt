@@ -8,24 +8,6 @@ use borrow.Author.Needs.{needs}
 use Rattle.notice.proofs.put_differing.Statement.{statement}
 use Rattle.notice.proofs.put_differing.Tie as tie
 
-put-both-requires : tie.Need-put-both-requires
-put-both-requires c κs = search needs
-
-slice-aggregate-put-word : tie.Need-slice-aggregate-put-word
-slice-aggregate-put-word c = search needs
-
-put-word-requires : tie.Need-put-word-requires
-put-word-requires c κs = search needs
-
-put-terms-requires : tie.Need-put-terms-requires
-put-terms-requires c κs = search needs
-
-put-decided-requires : tie.Need-put-decided-requires
-put-decided-requires c κs = search needs
-
-same-length : tie.Need-same-length
-same-length c = search needs
-
 x-fits : (c : tie.Start) → SFits w64 (c .args .x)
 x-fits c = search needs
 
@@ -46,10 +28,10 @@ pub put-differing-spec : {M : Type 1} → statement M
 put-differing-spec =
     tie.close
     (tie.spec
-    put-both-requires
-    slice-aggregate-put-word
-    put-word-requires
-    put-terms-requires
-    put-decided-requires
-    same-length
+    (λ c κs. search needs)
+    (λ c. search needs)
+    (λ c κs. search needs)
+    (λ c κs. search needs)
+    (λ c κs. search needs)
+    (λ c. search needs)
     returns)

@@ -4,18 +4,6 @@ use borrow.Author.Needs.{needs}
 use Rattle.notice.proofs.put_named.Statement.{statement}
 use Rattle.notice.proofs.put_named.Tie as tie
 
-put-word-requires : tie.Need-put-word-requires
-put-word-requires c κs = search needs
-
-put-word-requires-2 : tie.Need-put-word-requires-2
-put-word-requires-2 c κs = search needs
-
-put-field-requires : tie.Need-put-field-requires
-put-field-requires c κs = search needs
-
-same-length : tie.Need-same-length
-same-length c = search needs
-
 returns : tie.Need-returns
 returns c =
     let p = c .before .before .before .before .before .before .before .before .before .before .put-word .ensures in
@@ -26,4 +14,4 @@ returns c =
 pub put-named-spec : {M : Type 1} → statement M
 put-named-spec =
     tie.close
-    (tie.spec put-word-requires put-word-requires-2 put-field-requires same-length returns)
+    (tie.spec (λ c κs. search needs) (λ c κs. search needs) (λ c κs. search needs) (λ c. search needs) returns)

@@ -8,24 +8,6 @@ use borrow.Author.Needs.{needs}
 use Rattle.notice.proofs.put_terms.Statement.{statement}
 use Rattle.notice.proofs.put_terms.Tie as tie
 
-put-name-of-requires : tie.Need-put-name-of-requires
-put-name-of-requires c κs = search needs
-
-slice-aggregate-put-signed-field : tie.Need-slice-aggregate-put-signed-field
-slice-aggregate-put-signed-field c = search needs
-
-put-signed-field-requires : tie.Need-put-signed-field-requires
-put-signed-field-requires c κs = search needs
-
-slice-aggregate-put-signed-field-2 : tie.Need-slice-aggregate-put-signed-field-2
-slice-aggregate-put-signed-field-2 c = search needs
-
-put-signed-field-requires-2 : tie.Need-put-signed-field-requires-2
-put-signed-field-requires-2 c κs = search needs
-
-same-length : tie.Need-same-length
-same-length c = search needs
-
 x-fits : (c : tie.Start) → SFits w64 (c .args .x)
 x-fits c = search needs
 
@@ -45,10 +27,10 @@ pub put-terms-spec : {M : Type 1} → statement M
 put-terms-spec =
     tie.close
     (tie.spec
-    put-name-of-requires
-    slice-aggregate-put-signed-field
-    put-signed-field-requires
-    slice-aggregate-put-signed-field-2
-    put-signed-field-requires-2
-    same-length
+    (λ c κs. search needs)
+    (λ c. search needs)
+    (λ c κs. search needs)
+    (λ c. search needs)
+    (λ c κs. search needs)
+    (λ c. search needs)
     returns)

@@ -6,20 +6,8 @@ use borrow.Author.Needs.{needs}
 use Rattle.nwb.proofs.nwb_find.Statement.{statement}
 use Rattle.nwb.proofs.nwb_find.Tie as tie
 
-which-requires : tie.Need-which-requires
-which-requires c κs = search needs
-
-enum-told : tie.Need-enum-told
-enum-told c = search needs
-
-enum-known-i : tie.Need-enum-known-i
-enum-known-i c = search needs
-
 place-of-requires : tie.Need-place-of-requires
 place-of-requires c κs = in-word _ (let w = c .before .before .before in first-fits _ _ _ _ (w .which .result) (w .which .ensures) _ (c .before .i .given .1) .0)
-
-enum-known-j : tie.Need-enum-known-j
-enum-known-j c = search needs
 
 place-of-requires-2 : tie.Need-place-of-requires-2
 place-of-requires-2 c κs = in-word _ (let w = c .before .before .before in second-fits _ _ _ _ (w .which .result) (w .which .ensures) _ (c .before .j .given .1) .0)
@@ -43,11 +31,11 @@ pub nwb-find-spec : {M : Type 1} → statement M
 nwb-find-spec =
     tie.close
     (tie.spec
-    which-requires
-    enum-told
-    enum-known-i
+    (λ c κs. search needs)
+    (λ c. search needs)
+    (λ c. search needs)
     place-of-requires
-    enum-known-j
+    (λ c. search needs)
     place-of-requires-2
     returns
     returns-2

@@ -10,12 +10,6 @@ use borrow.Author.Needs.{needs}
 use Rattle.nwb.proofs.nwb_one.Statement.{statement}
 use Rattle.nwb.proofs.nwb_one.Tie as tie
 
-write-one-requires : tie.Need-write-one-requires
-write-one-requires c κs = search needs
-
-same-length : tie.Need-same-length
-same-length c = search needs
-
 returns : tie.Need-returns
 returns c =
     let start = c .before .before .before .before .before in
@@ -25,4 +19,4 @@ returns c =
     wrote _ _ _ (c .before .before .write-one .ensures ∙ ap (λ (a : ℤ). writing (givenHeader (x .area) (x .year) (x .month)) (call a (x .b) (x .c) ∷ []) (x .out .now)) same)
 
 pub nwb-one-spec : {M : Type 1} → statement M
-nwb-one-spec = tie.close (tie.spec write-one-requires same-length returns)
+nwb-one-spec = tie.close (tie.spec (λ c κs. search needs) (λ c. search needs) returns)

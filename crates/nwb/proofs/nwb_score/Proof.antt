@@ -4,9 +4,6 @@ use borrow.Author.Needs.{needs}
 use Rattle.nwb.proofs.nwb_score.Statement.{statement}
 use Rattle.nwb.proofs.nwb_score.Tie as tie
 
-score-requires : tie.Need-score-requires
-score-requires c κs = search needs
-
 returns : tie.Need-returns
 returns c =
     let says = c .score .ensures in
@@ -18,4 +15,4 @@ returns c =
     }
 
 pub nwb-score-spec : {M : Type 1} → statement M
-nwb-score-spec = tie.close (tie.spec score-requires returns)
+nwb-score-spec = tie.close (tie.spec (λ c κs. search needs) returns)

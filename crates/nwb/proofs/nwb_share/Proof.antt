@@ -7,12 +7,6 @@ use borrow.Author.Needs.{needs}
 use Rattle.nwb.proofs.nwb_share.Statement.{statement}
 use Rattle.nwb.proofs.nwb_share.Tie as tie
 
-share-bytes-requires : tie.Need-share-bytes-requires
-share-bytes-requires c κs = search needs
-
-same-length : tie.Need-same-length
-same-length c = search needs
-
 returns : tie.Need-returns
 returns c =
     let done = c .before .before .before .before .share-bytes in
@@ -26,4 +20,4 @@ returns c =
     }
 
 pub nwb-share-spec : {M : Type 1} → statement M
-nwb-share-spec = tie.close (tie.spec share-bytes-requires same-length returns)
+nwb-share-spec = tie.close (tie.spec (λ c κs. search needs) (λ c. search needs) returns)

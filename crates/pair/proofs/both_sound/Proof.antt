@@ -14,30 +14,18 @@ first-passes c = zero-accepted _ (ap (λ (v : Verdict). v .number) (sym (c .befo
 second-passes : (c : tie.Else2) → IsAccepted (c .before .before .before .before .before .before .before .before .args .second .now)
 second-passes c = zero-accepted _ (ap (λ (v : Verdict). v .number) (sym (c .before .before .check2 .ensures)) ∙ c .if2 .left)
 
-check-requires : tie.Need-check-requires
-check-requires c κs = search needs
-
 returns : tie.Need-returns
 returns c = both-first _ _ (c .before .before .check .result) (c .before .before .check .ensures) (c .if1 .taken)
-
-check-requires-2 : tie.Need-check-requires-2
-check-requires-2 c κs = search needs
 
 add-refused : tie.Need-add-refused
 add-refused c =
     let k = c .before .before .before in
     omega (arith, check-most (k .before .before .before .before .before .before .args .second .now), ap (λ (v : Verdict). v .number) (k .check2 .ensures))
 
-refused-requires : tie.Need-refused-requires
-refused-requires c κs = search needs
-
 returns-2 : tie.Need-returns-2
 returns-2 c =
     let k = c .before .before .before .before in
     c .refused .ensures ∙ both-second _ _ (first-passes (k .before)) (k .check2 .result) (k .check2 .ensures) (c .before .before .if2 .taken)
-
-refused-requires-2 : tie.Need-refused-requires-2
-refused-requires-2 c κs = search needs
 
 returns-3 : tie.Need-returns-3
 returns-3 c = c .refused2 .ensures ∙ both-pass _ _ (first-passes (c .before .before .before .before)) (second-passes (c .before))
@@ -46,11 +34,11 @@ pub both-sound-spec : {M : Type 1} → statement M
 both-sound-spec =
     tie.close
     (tie.spec
-    check-requires
+    (λ c κs. search needs)
     returns
-    check-requires-2
+    (λ c κs. search needs)
     add-refused
-    refused-requires
+    (λ c κs. search needs)
     returns-2
-    refused-requires-2
+    (λ c κs. search needs)
     returns-3)

@@ -9,18 +9,6 @@ use borrow.Author.Needs.{needs}
 use Rattle.pair.proofs.precedes.Statement.{statement}
 use Rattle.pair.proofs.precedes.Tie as tie
 
-participant-at-requires : tie.Need-participant-at-requires
-participant-at-requires c κs = search needs
-
-participant-at-requires-2 : tie.Need-participant-at-requires-2
-participant-at-requires-2 c κs = search needs
-
-call-number-at-requires : tie.Need-call-number-at-requires
-call-number-at-requires c κs = search needs
-
-call-number-at-requires-2 : tie.Need-call-number-at-requires-2
-call-number-at-requires-2 c κs = search needs
-
 returns : tie.Need-returns
 returns c =
     let p = c .before .before .before .before in
@@ -43,9 +31,9 @@ pub precedes-spec : {M : Type 1} → statement M
 precedes-spec =
     tie.close
     (tie.spec
-    participant-at-requires
-    participant-at-requires-2
-    call-number-at-requires
-    call-number-at-requires-2
+    (λ c κs. search needs)
+    (λ c κs. search needs)
+    (λ c κs. search needs)
+    (λ c κs. search needs)
     returns
     returns-2)

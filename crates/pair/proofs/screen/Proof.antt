@@ -20,9 +20,6 @@ months : (c : tie.After-same-month)
     sameMonth (headerAt (s .args .first .now)) (headerAt (s .args .second .now)) ≡ c .same-month .result
 months c = sym (c .same-month .ensures ∙ ap₂ sameMonth (c .before .before .header-at .ensures) (c .before .header-at2 .ensures))
 
-both-sound-requires : tie.Need-both-sound-requires
-both-sound-requires c κs = search needs
-
 returns : tie.Need-returns
 returns c = screen-both _ _ (c .before .before .both-sound .result) (c .before .before .both-sound .ensures) (c .if1 .taken)
 
@@ -32,20 +29,11 @@ header-at-requires c κs = accepted-tests _ (both-pass c .0) .long
 header-at-requires-2 : tie.Need-header-at-requires-2
 header-at-requires-2 c κs = accepted-tests _ (both-pass (c .before) .1) .long
 
-same-month-requires : tie.Need-same-month-requires
-same-month-requires c κs = search needs
-
-refused-requires : tie.Need-refused-requires
-refused-requires c κs = search needs
-
 returns-2 : tie.Need-returns-2
 returns-2 c =
     let m = c .before .before in
     let p = both-pass (m .before .before .before) in
     c .refused .ensures ∙ screen-month _ _ (p .0) (p .1) (months m ∙ not-true _ (c .before .if2 .taken))
-
-refused-requires-2 : tie.Need-refused-requires-2
-refused-requires-2 c κs = search needs
 
 returns-3 : tie.Need-returns-3
 returns-3 c =
@@ -57,12 +45,12 @@ pub screen-spec : {M : Type 1} → statement M
 screen-spec =
     tie.close
     (tie.spec
-    both-sound-requires
+    (λ c κs. search needs)
     returns
     header-at-requires
     header-at-requires-2
-    same-month-requires
-    refused-requires
+    (λ c κs. search needs)
+    (λ c κs. search needs)
     returns-2
-    refused-requires-2
+    (λ c κs. search needs)
     returns-3)

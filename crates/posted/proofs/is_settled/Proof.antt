@@ -4,30 +4,6 @@ use borrow.Author.Needs.{needs}
 use Rattle.posted.proofs.is_settled.Statement.{statement}
 use Rattle.posted.proofs.is_settled.Tie as tie
 
-enum-told : tie.Need-enum-told
-enum-told c = search needs
-
-enum-told-2 : tie.Need-enum-told-2
-enum-told-2 c = search needs
-
-enum-known-fault : tie.Need-enum-known-fault
-enum-known-fault c = search needs
-
-enum-known-fault-2 : tie.Need-enum-known-fault-2
-enum-known-fault-2 c = search needs
-
-enum-known-fault-3 : tie.Need-enum-known-fault-3
-enum-known-fault-3 c = search needs
-
-enum-known-fault-4 : tie.Need-enum-known-fault-4
-enum-known-fault-4 c = search needs
-
-enum-known-fault-5 : tie.Need-enum-known-fault-5
-enum-known-fault-5 c = search needs
-
-enum-known-fault-6 : tie.Need-enum-known-fault-6
-enum-known-fault-6 c = search needs
-
 returns : tie.Need-returns
 unfolding isSettled
 returns c = sym (ap isSettled (c .enum-told .given .1))
@@ -64,14 +40,14 @@ pub is-settled-spec : {M : Type 1} → statement M
 is-settled-spec =
     tie.close
     (tie.spec
-    enum-told
-    enum-told-2
-    enum-known-fault
-    enum-known-fault-2
-    enum-known-fault-3
-    enum-known-fault-4
-    enum-known-fault-5
-    enum-known-fault-6
+    (λ c. search needs)
+    (λ c. search needs)
+    (λ c. search needs)
+    (λ c. search needs)
+    (λ c. search needs)
+    (λ c. search needs)
+    (λ c. search needs)
+    (λ c. search needs)
     returns
     returns-2
     returns-3

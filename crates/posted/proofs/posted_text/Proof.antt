@@ -11,20 +11,11 @@ use Rattle.posted.proofs.posted_text.Tie as tie
 returns : tie.Need-returns
 returns c = no-room mostPosted _ (c .before .before .args .out .now) (c .if1 .taken)
 
-is-settled-requires : tie.Need-is-settled-requires
-is-settled-requires c κs = search needs
-
 returns-2 : tie.Need-returns-2
 returns-2 c =
     let a = c .before .before .before .before .args in
     let no = sym (c .before .is-settled .ensures) ∙ not-true _ (c .if2 .taken) in
     rendered mostPosted (c .before .before .if1 .left) (same-put (unsettled-text (a .s) no) (looser mostPosted (omega arith) (none-put (a .out .now) 0)))
-
-put-posted-requires : tie.Need-put-posted-requires
-put-posted-requires c κs = search needs
-
-same-length : tie.Need-same-length
-same-length c = search needs
 
 returns-3 : tie.Need-returns-3
 returns-3 c =
@@ -35,4 +26,4 @@ returns-3 c =
 pub posted-text-spec : {M : Type 1} → statement M
 posted-text-spec =
     tie.close
-    (tie.spec returns is-settled-requires returns-2 put-posted-requires same-length returns-3)
+    (tie.spec returns (λ c κs. search needs) returns-2 (λ c κs. search needs) (λ c. search needs) returns-3)

@@ -5,29 +5,8 @@ use borrow.Author.Needs.{needs}
 use Rattle.posted.proofs.read_posted.Statement.{statement}
 use Rattle.posted.proofs.read_posted.Tie as tie
 
-head-at-requires : tie.Need-head-at-requires
-head-at-requires c κs = search needs
-
-bad-line-requires : tie.Need-bad-line-requires
-bad-line-requires c κs = search needs
-
 returns : tie.Need-returns
 returns c = reads-no-head _ (c .before .before .before .head-at .result) (c .before .before .before .head-at .ensures) _ (not-true _ (c .before .if1 .taken)) (c .bad-line .ensures)
-
-rows-at-requires : tie.Need-rows-at-requires
-rows-at-requires c κs = search needs
-
-slice-aggregate-sum-at : tie.Need-slice-aggregate-sum-at
-slice-aggregate-sum-at c = search needs
-
-sum-at-requires : tie.Need-sum-at-requires
-sum-at-requires c κs = search needs
-
-add-bad-line : tie.Need-add-bad-line
-add-bad-line c = search needs
-
-bad-line-requires-2 : tie.Need-bad-line-requires-2
-bad-line-requires-2 c κs = search needs
 
 returns-2 : tie.Need-returns-2
 returns-2 c =
@@ -37,18 +16,6 @@ returns-2 c =
     reads-no-line _ (h .head-at .result) (h .head-at .ensures) (not-false _ (l .before .if1 .left)) (l .rows-at .result) (l .rows-at .ensures) (g .sum-at .result) (g .sum-at .ensures) _
     (not-true _ (c .before .if2 .taken)) (c .bad-line2 .ensures)
 
-slice-aggregate-sum-at-2 : tie.Need-slice-aggregate-sum-at-2
-slice-aggregate-sum-at-2 c = search needs
-
-sum-at-requires-2 : tie.Need-sum-at-requires-2
-sum-at-requires-2 c κs = search needs
-
-add-bad-line-2 : tie.Need-add-bad-line-2
-add-bad-line-2 c = search needs
-
-bad-line-requires-3 : tie.Need-bad-line-requires-3
-bad-line-requires-3 c κs = search needs
-
 returns-3 : tie.Need-returns-3
 returns-3 c =
     let u = c .before .before .before in
@@ -57,12 +24,6 @@ returns-3 c =
     let h = l .before .before .before in
     reads-no-user _ (h .head-at .result) (h .head-at .ensures) (not-false _ (l .before .if1 .left)) (l .rows-at .result) (l .rows-at .ensures) (g .sum-at .result) (g .sum-at .ensures)
     (not-false _ (u .before .before .if2 .left)) (u .sum-at2 .result) (u .sum-at2 .ensures) _ (not-true _ (c .before .if3 .taken)) (c .bad-line3 .ensures)
-
-add-bad-line-3 : tie.Need-add-bad-line-3
-add-bad-line-3 c = search needs
-
-bad-line-requires-4 : tie.Need-bad-line-requires-4
-bad-line-requires-4 c κs = search needs
 
 returns-4 : tie.Need-returns-4
 returns-4 c =
@@ -89,21 +50,21 @@ pub read-posted-spec : {M : Type 1} → statement M
 read-posted-spec =
     tie.close
     (tie.spec
-    head-at-requires
-    bad-line-requires
+    (λ c κs. search needs)
+    (λ c κs. search needs)
     returns
-    rows-at-requires
-    slice-aggregate-sum-at
-    sum-at-requires
-    add-bad-line
-    bad-line-requires-2
+    (λ c κs. search needs)
+    (λ c. search needs)
+    (λ c κs. search needs)
+    (λ c. search needs)
+    (λ c κs. search needs)
     returns-2
-    slice-aggregate-sum-at-2
-    sum-at-requires-2
-    add-bad-line-2
-    bad-line-requires-3
+    (λ c. search needs)
+    (λ c κs. search needs)
+    (λ c. search needs)
+    (λ c κs. search needs)
     returns-3
-    add-bad-line-3
-    bad-line-requires-4
+    (λ c. search needs)
+    (λ c κs. search needs)
     returns-4
     returns-5)

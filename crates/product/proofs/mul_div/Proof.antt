@@ -14,12 +14,6 @@ Inv-loop n w all g₀ g = (comes all g ≡ n * w) × (g .done .r < all) × (g .s
 abbrev μ-loop : tie.MeasureT-loop
 μ-loop n w all g₀ g = g .left
 
-div-t5 : tie.Need-div-t5 Inv-loop μ-loop
-div-t5 c = search needs
-
-rem-t6 : tie.Need-rem-t6 Inv-loop μ-loop
-rem-t6 c = search needs
-
 loop-holds : tie.Need-loop-holds Inv-loop μ-loop
 loop-holds c =
     let a = c .args in
@@ -38,9 +32,6 @@ next-requires c κs =
     let step = step-le (a .n) (a .w) (a .all) (g .left) (g .step .q) (g .step .r) (whole (a .all) (g .done)) within above some (inv .0) in
     (record { some = some; done-small = inv .1; step-small = inv .2; done-fits = omega (arith, done, s .pre .0); step-fits = omega (arith, step, s .pre .0) }, s .pre .1 .1 .1)
 
-loop-less : tie.Need-loop-less Inv-loop μ-loop
-loop-less c = search needs
-
 loop-again : tie.Need-loop-again Inv-loop μ-loop
 loop-again c =
     let went = c .next .ensures in
@@ -57,4 +48,4 @@ returns c =
 pub mul-div-spec : {M : Type 1} → statement M
 mul-div-spec =
     tie.close
-    (tie.spec Inv-loop μ-loop div-t5 rem-t6 loop-holds next-requires loop-less loop-again returns)
+    (tie.spec Inv-loop μ-loop (λ c. search needs) (λ c. search needs) loop-holds next-requires (λ c. search needs) loop-again returns)

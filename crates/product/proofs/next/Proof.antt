@@ -7,9 +7,6 @@ use borrow.Author.Needs.{needs}
 use Rattle.product.proofs.next.Statement.{statement}
 use Rattle.product.proofs.next.Tie as tie
 
-plus-requires : tie.Need-plus-requires
-plus-requires c κs = search needs
-
 returns : tie.Need-returns
 returns c =
     let s = c .before .before .before .before .before .before in
@@ -22,9 +19,6 @@ returns c =
       done-small = s .pre .0 .done-small;
       step-small = twice .small;
     }
-
-plus-requires-2 : tie.Need-plus-requires-2
-plus-requires-2 c κs = search needs
 
 returns-2 : tie.Need-returns-2
 returns-2 c =
@@ -43,4 +37,4 @@ returns-2 c =
     }
 
 pub next-spec : {M : Type 1} → statement M
-next-spec = tie.close (tie.spec plus-requires returns plus-requires-2 returns-2)
+next-spec = tie.close (tie.spec (λ c κs. search needs) returns (λ c κs. search needs) returns-2)

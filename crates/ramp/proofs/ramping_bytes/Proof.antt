@@ -6,17 +6,8 @@ use Rattle.ramp.proofs.Answers.{odd-is, whole-is, bad-line-is, other-ki
 use Rattle.ramp.proofs.ramping_bytes.Statement.{statement}
 use Rattle.ramp.proofs.ramping_bytes.Tie as tie
 
-hour-refused-requires : tie.Need-hour-refused-requires
-hour-refused-requires c κs = search needs
-
 returns : tie.Need-returns
 returns c = let s = c .before .before .before .args in c .hour-refused .ensures ∙ sym (odd-is (s .member) (s .actions .now) (c .before .if1 .taken))
-
-is-sound-requires : tie.Need-is-sound-requires
-is-sound-requires c κs = search needs
-
-hour-refused-requires-2 : tie.Need-hour-refused-requires-2
-hour-refused-requires-2 c κs = search needs
 
 returns-2 : tie.Need-returns-2
 returns-2 c =
@@ -24,12 +15,6 @@ returns-2 c =
     let a = line .before .before .before .args in
     c .hour-refused2 .ensures
     ∙ sym (whole-is (a .member) (a .actions .now) (line .before .if1 .left) ∙ bad-line-is (a .member) _ (sym (line .is-sound .ensures) ∙ not-of _ (c .before .if2 .taken)))
-
-is-ramping-requires : tie.Need-is-ramping-requires
-is-ramping-requires c κs = search needs
-
-hour-refused-requires-3 : tie.Need-hour-refused-requires-3
-hour-refused-requires-3 c κs = search needs
 
 returns-3 : tie.Need-returns-3
 returns-3 c =
@@ -40,12 +25,6 @@ returns-3 c =
     c .hour-refused3 .ensures
     ∙ sym (whole-is (a .member) (a .actions .now) (line .before .if1 .left)
     ∙ other-kind-is (a .member) _ sound (sym (kind .is-ramping .ensures) ∙ not-of _ (c .before .if3 .taken)))
-
-hour-so-far-requires : tie.Need-hour-so-far-requires
-hour-so-far-requires c κs = search needs
-
-hour-refused-requires-4 : tie.Need-hour-refused-requires-4
-hour-refused-requires-4 c κs = search needs
 
 returns-4 : tie.Need-returns-4
 returns-4 c =
@@ -65,9 +44,6 @@ grains-requires c κs =
     let line = kind .before .before in
     ((_, t .hour-so-far .ensures .0), line-of (line .before .before .before .args .member) (sym (line .is-sound .ensures) ∙ not-not _ (kind .before .if2 .left)) .rated)
 
-hour-paid-requires : tie.Need-hour-paid-requires
-hour-paid-requires c κs = search needs
-
 returns-5 : tie.Need-returns-5
 returns-5 c =
     let g = c .before in
@@ -85,17 +61,17 @@ pub ramping-bytes-spec : {M : Type 1} → statement M
 ramping-bytes-spec =
     tie.close
     (tie.spec
-    hour-refused-requires
+    (λ c κs. search needs)
     returns
-    is-sound-requires
-    hour-refused-requires-2
+    (λ c κs. search needs)
+    (λ c κs. search needs)
     returns-2
-    is-ramping-requires
-    hour-refused-requires-3
+    (λ c κs. search needs)
+    (λ c κs. search needs)
     returns-3
-    hour-so-far-requires
-    hour-refused-requires-4
+    (λ c κs. search needs)
+    (λ c κs. search needs)
     returns-4
     grains-requires
-    hour-paid-requires
+    (λ c κs. search needs)
     returns-5)

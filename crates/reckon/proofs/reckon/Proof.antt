@@ -5,15 +5,9 @@ use borrow.Author.Needs.{needs}
 use Rattle.reckon.proofs.reckon.Statement.{statement}
 use Rattle.reckon.proofs.reckon.Tie as tie
 
-grains-reckoned-requires : tie.Need-grains-reckoned-requires
-grains-reckoned-requires c κs = search needs
-
-in-fen-requires : tie.Need-in-fen-requires
-in-fen-requires c κs = search needs
-
 returns : tie.Need-returns
 unfolding reckoning
 returns c = c .in-fen .ensures ∙ ap inFen (c .before .grains-reckoned .ensures)
 
 pub reckon-spec : {M : Type 1} → statement M
-reckon-spec = tie.close (tie.spec grains-reckoned-requires in-fen-requires returns)
+reckon-spec = tie.close (tie.spec (λ c κs. search needs) (λ c κs. search needs) returns)

@@ -32,9 +32,6 @@ header-at-requires c κs = book (c .before .before) .long
 count-at-requires : tie.Need-count-at-requires
 count-at-requires c κs = book (c .before .before .before) .long
 
-minutes-of-requires : tie.Need-minutes-of-requires
-minutes-of-requires c κs = search needs
-
 walked-requires : tie.Need-walked-requires
 walked-requires c κs = ready c
 
@@ -88,7 +85,7 @@ reckoned-grains-spec =
     (tie.spec
     header-at-requires
     count-at-requires
-    minutes-of-requires
+    (λ c κs. search needs)
     walked-requires
     walked-requires-2
     others-earned-requires

@@ -53,9 +53,6 @@ returns c =
     let n = c .before .before .before .count-at .ensures .0 in
     ap (λ (k : ℕ). Refused k at) e ∙ sym (records-refused (a .member) (a .b .now) (a .series .now) at (first (c .before .before)) (omega arith))
 
-reckoned-grains-requires : tie.Need-reckoned-grains-requires
-reckoned-grains-requires c κs = search needs
-
 returns-2 : tie.Need-returns-2
 returns-2 c =
     let a = c .before .before .before .before .before .before .before .args in
@@ -72,5 +69,5 @@ records-reckoned-spec =
     first-refused-requires
     refusal-of-requires
     returns
-    reckoned-grains-requires
+    (λ c κs. search needs)
     returns-2)

@@ -23,15 +23,6 @@ no-fault c = sym (ap (λ (v : Verdict). v .number) (fault-is (c .before))) ∙ c
 header-at-requires : tie.Need-header-at-requires
 header-at-requires c κs = book-given _ (c .before .before .pre .1) .long
 
-quarters-of-requires : tie.Need-quarters-of-requires
-quarters-of-requires c κs = search needs
-
-cast-series-fault : tie.Need-cast-series-fault
-cast-series-fault c = search needs
-
-series-fault-requires : tie.Need-series-fault-requires
-series-fault-requires c κs = search needs
-
 returns : tie.Need-returns
 returns c = sym (sound-refused _ _ _ (c .before .series-fault .result) (fault-is (c .before)) (c .if1 .taken))
 
@@ -50,9 +41,9 @@ sound-reckoned-spec =
     tie.close
     (tie.spec
     header-at-requires
-    quarters-of-requires
-    cast-series-fault
-    series-fault-requires
+    (λ c κs. search needs)
+    (λ c. search needs)
+    (λ c κs. search needs)
     returns
     records-reckoned-requires
     returns-2)

@@ -5,15 +5,6 @@ use borrow.Author.Needs.{needs}
 use Rattle.register.proofs.fen_of.Statement.{statement}
 use Rattle.register.proofs.fen_of.Tie as tie
 
-mul-result : tie.Need-mul-result
-mul-result c = search needs
-
-array-copy-out-result : tie.Need-array-copy-out-result
-array-copy-out-result c = search needs
-
-returns : tie.Need-returns
-returns c = search needs
-
 returns-2 : tie.Need-returns-2
 returns-2 c =
     let fens = c .before .args .t1 in
@@ -21,4 +12,4 @@ returns-2 c =
     sym (List·getD-eq-default fens (record { 0 = 0 }) (omega arith))
 
 pub fen-of-spec : {M : Type 1} → statement M
-fen-of-spec = tie.close (tie.spec mul-result array-copy-out-result returns returns-2)
+fen-of-spec = tie.close (tie.spec (λ c. search needs) (λ c. search needs) (λ c. search needs) returns-2)

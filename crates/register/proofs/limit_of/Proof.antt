@@ -7,15 +7,6 @@ use borrow.Author.Needs.{needs}
 use Rattle.register.proofs.limit_of.Statement.{statement}
 use Rattle.register.proofs.limit_of.Tie as tie
 
-mul-e : tie.Need-mul-e
-mul-e c = search needs
-
-array-copy-out-e : tie.Need-array-copy-out-e
-array-copy-out-e c = search needs
-
-returns : tie.Need-returns
-returns c = search needs
-
 returns-2 : tie.Need-returns-2
 returns-2 c =
     let entries = c .before .args .t1 in
@@ -23,4 +14,4 @@ returns-2 c =
     sym (ap (λ (e : Entry). e .limit) (List·getD-eq-default entries blankEntry (omega arith)))
 
 pub limit-of-spec : {M : Type 1} → statement M
-limit-of-spec = tie.close (tie.spec mul-e array-copy-out-e returns returns-2)
+limit-of-spec = tie.close (tie.spec (λ c. search needs) (λ c. search needs) (λ c. search needs) returns-2)

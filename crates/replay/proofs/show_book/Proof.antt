@@ -9,35 +9,17 @@ use Rattle.replay.proofs.show_book.Tie as tie
 sound : (c : tie.Else1) → check (c .before .before .before .before .args .book .now) ≡ accepted
 sound c = c .before .before .header-of .ensures .1 .0 (omega (arith, c .if1 .left))
 
-header-of-requires : tie.Need-header-of-requires
-header-of-requires c κs = search needs
-
-returns : tie.Need-returns
-returns c = search needs
-
-print-bytes-requires : tie.Need-print-bytes-requires
-print-bytes-requires c κs = search needs
-
 call-of-requires : tie.Need-call-of-requires
 call-of-requires c κs = let s = c .before .before .before in (sound s, omega (arith, s .before .before .header-of .ensures .1 .1))
-
-print-state-requires : tie.Need-print-state-requires
-print-state-requires c κs = search needs
-
-returns-2 : tie.Need-returns-2
-returns-2 c = search needs
-
-returns-3 : tie.Need-returns-3
-returns-3 c = search needs
 
 pub show-book-spec : {M : Type 1} → statement M
 show-book-spec =
     tie.close
     (tie.spec
-    header-of-requires
-    returns
-    print-bytes-requires
+    (λ c κs. search needs)
+    (λ c. search needs)
+    (λ c κs. search needs)
     call-of-requires
-    print-state-requires
-    returns-2
-    returns-3)
+    (λ c κs. search needs)
+    (λ c. search needs)
+    (λ c. search needs))

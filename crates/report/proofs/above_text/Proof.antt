@@ -7,14 +7,8 @@ use Rattle.report.proofs.above_text.Tie as tie
 returns : tie.Need-returns
 returns c = no-room mostAbove _ (c .before .before .args .out .now) (c .if1 .taken)
 
-put-above-requires : tie.Need-put-above-requires
-put-above-requires c κs = search needs
-
-same-length : tie.Need-same-length
-same-length c = search needs
-
 returns-2 : tie.Need-returns-2
 returns-2 c = rendered mostAbove (c .before .before .before .before .if1 .left) (c .before .before .put-above .ensures)
 
 pub above-text-spec : {M : Type 1} → statement M
-above-text-spec = tie.close (tie.spec returns put-above-requires same-length returns-2)
+above-text-spec = tie.close (tie.spec returns (λ c κs. search needs) (λ c. search needs) returns-2)

@@ -8,15 +8,6 @@ use Rattle.report.proofs.month_text.Tie as tie
 returns : tie.Need-returns
 returns c = no-room mostMonth _ (c .before .before .args .out .now) (c .if1 .taken)
 
-seen-requires : tie.Need-seen-requires
-seen-requires c κs = search needs
-
-put-month-requires : tie.Need-put-month-requires
-put-month-requires c κs = search needs
-
-same-length : tie.Need-same-length
-same-length c = search needs
-
 returns-2 : tie.Need-returns-2
 unfolding monthText
 returns-2 c =
@@ -25,4 +16,4 @@ returns-2 c =
 
 pub month-text-spec : {M : Type 1} → statement M
 month-text-spec =
-    tie.close (tie.spec returns seen-requires put-month-requires same-length returns-2)
+    tie.close (tie.spec returns (λ c κs. search needs) (λ c κs. search needs) (λ c. search needs) returns-2)

@@ -6,21 +6,6 @@ use borrow.Author.Needs.{needs}
 use Rattle.report.proofs.put_amount.Statement.{statement}
 use Rattle.report.proofs.put_amount.Tie as tie
 
-slice-aggregate-put-signed-yuan-field : tie.Need-slice-aggregate-put-signed-yuan-field
-slice-aggregate-put-signed-yuan-field c = search needs
-
-put-signed-yuan-field-requires : tie.Need-put-signed-yuan-field-requires
-put-signed-yuan-field-requires c κs = search needs
-
-slice-aggregate-put-word : tie.Need-slice-aggregate-put-word
-slice-aggregate-put-word c = search needs
-
-put-word-requires : tie.Need-put-word-requires
-put-word-requires c κs = search needs
-
-same-length : tie.Need-same-length
-same-length c = search needs
-
 returns : tie.Need-returns
 unfolding amountText
 returns c =
@@ -33,9 +18,9 @@ pub put-amount-spec : {M : Type 1} → statement M
 put-amount-spec =
     tie.close
     (tie.spec
-    slice-aggregate-put-signed-yuan-field
-    put-signed-yuan-field-requires
-    slice-aggregate-put-word
-    put-word-requires
-    same-length
+    (λ c. search needs)
+    (λ c κs. search needs)
+    (λ c. search needs)
+    (λ c κs. search needs)
+    (λ c. search needs)
     returns)

@@ -7,21 +7,6 @@ use borrow.Author.Needs.{needs}
 use Rattle.report.proofs.put_balance.Statement.{statement}
 use Rattle.report.proofs.put_balance.Tie as tie
 
-slice-aggregate-put-word : tie.Need-slice-aggregate-put-word
-slice-aggregate-put-word c = search needs
-
-put-word-requires : tie.Need-put-word-requires
-put-word-requires c κs = search needs
-
-sub-put-yuan : tie.Need-sub-put-yuan
-sub-put-yuan c = search needs
-
-put-yuan-requires : tie.Need-put-yuan-requires
-put-yuan-requires c κs = search needs
-
-same-length : tie.Need-same-length
-same-length c = search needs
-
 returns : tie.Need-returns
 unfolding balanceText
 returns c =
@@ -30,12 +15,6 @@ returns c =
     let q = c .before .before .before .before .before .before .put-word .ensures in
     let r = c .before .before .put-yuan .ensures in
     rw (lt-ltb (a .due) (a .owed) p) (and-then q r)
-
-put-yuan-requires-2 : tie.Need-put-yuan-requires-2
-put-yuan-requires-2 c κs = search needs
-
-same-length-2 : tie.Need-same-length-2
-same-length-2 c = search needs
 
 returns-2 : tie.Need-returns-2
 unfolding balanceText
@@ -47,12 +26,12 @@ pub put-balance-spec : {M : Type 1} → statement M
 put-balance-spec =
     tie.close
     (tie.spec
-    slice-aggregate-put-word
-    put-word-requires
-    sub-put-yuan
-    put-yuan-requires
-    same-length
+    (λ c. search needs)
+    (λ c κs. search needs)
+    (λ c. search needs)
+    (λ c κs. search needs)
+    (λ c. search needs)
     returns
-    put-yuan-requires-2
-    same-length-2
+    (λ c κs. search needs)
+    (λ c. search needs)
     returns-2)

@@ -7,24 +7,6 @@ use borrow.Author.Needs.{needs}
 use Rattle.report.proofs.put_month.Statement.{statement}
 use Rattle.report.proofs.put_month.Tie as tie
 
-totals-of-requires : tie.Need-totals-of-requires
-totals-of-requires c κs = search needs
-
-with-user-requires : tie.Need-with-user-requires
-with-user-requires c κs = search needs
-
-put-rows-requires : tie.Need-put-rows-requires
-put-rows-requires c κs = search needs
-
-put-user-requires : tie.Need-put-user-requires
-put-user-requires c κs = search needs
-
-put-totals-requires : tie.Need-put-totals-requires
-put-totals-requires c κs = search needs
-
-same-length : tie.Need-same-length
-same-length c = search needs
-
 returns : tie.Need-returns
 unfolding monthOf
 returns c =
@@ -40,10 +22,10 @@ pub put-month-spec : {M : Type 1} → statement M
 put-month-spec =
     tie.close
     (tie.spec
-    totals-of-requires
-    with-user-requires
-    put-rows-requires
-    put-user-requires
-    put-totals-requires
-    same-length
+    (λ c κs. search needs)
+    (λ c κs. search needs)
+    (λ c κs. search needs)
+    (λ c κs. search needs)
+    (λ c κs. search needs)
+    (λ c. search needs)
     returns)

@@ -4,21 +4,6 @@ use borrow.Author.Needs.{needs}
 use Rattle.report.proofs.put_row.Statement.{statement}
 use Rattle.report.proofs.put_row.Tie as tie
 
-put-earned-requires : tie.Need-put-earned-requires
-put-earned-requires c κs = search needs
-
-put-carried-requires : tie.Need-put-carried-requires
-put-carried-requires c κs = search needs
-
-put-shared-requires : tie.Need-put-shared-requires
-put-shared-requires c κs = search needs
-
-put-amount-requires : tie.Need-put-amount-requires
-put-amount-requires c κs = search needs
-
-same-length : tie.Need-same-length
-same-length c = search needs
-
 returns : tie.Need-returns
 unfolding rowText
 returns c =
@@ -31,9 +16,9 @@ pub put-row-spec : {M : Type 1} → statement M
 put-row-spec =
     tie.close
     (tie.spec
-    put-earned-requires
-    put-carried-requires
-    put-shared-requires
-    put-amount-requires
-    same-length
+    (λ c κs. search needs)
+    (λ c κs. search needs)
+    (λ c κs. search needs)
+    (λ c κs. search needs)
+    (λ c. search needs)
     returns)

@@ -21,20 +21,8 @@ abbrev μ-loop : tie.MeasureT-loop
 loop-holds : tie.Need-loop-holds Inv-loop μ-loop
 loop-holds c = let a = c .before .args in (omega arith, search needs, rows-none (a .t2) (a .out .now) 0)
 
-mul-row : tie.Need-mul-row Inv-loop μ-loop
-mul-row c = search needs
-
-array-copy-out-row : tie.Need-array-copy-out-row Inv-loop μ-loop
-array-copy-out-row c = search needs
-
 put-row-requires : tie.Need-put-row-requires Inv-loop μ-loop
 put-row-requires c κs = let v = c .before .before .before .loop .inv in omega (arith, v .1, v .2 .fits, v .2 .behind)
-
-add-i : tie.Need-add-i Inv-loop μ-loop
-add-i c = search needs
-
-loop-less : tie.Need-loop-less Inv-loop μ-loop
-loop-less c = search needs
 
 loop-again : tie.Need-loop-again Inv-loop μ-loop
 unfolding blankRow
@@ -45,9 +33,6 @@ loop-again c =
       c .before .before .put-row .kept .0 ∙ l .inv .1,
       rows-more (a .t2) (l .i) (l .inv .2) (c .before .before .put-row .ensures),
     )
-
-same-length : tie.Need-same-length Inv-loop μ-loop
-same-length c = search needs
 
 returns : tie.Need-returns Inv-loop μ-loop
 returns c =
@@ -62,11 +47,11 @@ put-rows-spec =
     Inv-loop
     μ-loop
     loop-holds
-    mul-row
-    array-copy-out-row
+    (λ c. search needs)
+    (λ c. search needs)
     put-row-requires
-    add-i
-    loop-less
+    (λ c. search needs)
+    (λ c. search needs)
     loop-again
-    same-length
+    (λ c. search needs)
     returns)

@@ -14,20 +14,11 @@ use Rattle.row.proofs.grown.Tie as tie
 returns : tie.Need-returns
 returns c = let a = c .before .args in λ rest. held-more (a .v) (a .b) rest (c .if1 .taken)
 
-mul-result : tie.Need-mul-result
-mul-result c = search needs
-
 sub-wide : tie.Need-sub-wide
 sub-wide c =
     let s = c .before in
     let b = s .args .b in
     omega (arith, leb-true (digitByte 0) b (each (leb (digitByte 0) b) (leb b (digitByte 9) ∷ []) (s .pre) .0))
-
-wide-requires : tie.Need-wide-requires
-wide-requires c κs = search needs
-
-add-result : tie.Need-add-result
-add-result c = search needs
 
 returns-2 : tie.Need-returns-2
 returns-2 c =
@@ -35,4 +26,4 @@ returns-2 c =
     λ rest. ap (λ (w : ℕ). hold (value (a .v * 10 + w) rest)) (c .wide .ensures)
 
 pub grown-spec : {M : Type 1} → statement M
-grown-spec = tie.close (tie.spec returns mul-result sub-wide wide-requires add-result returns-2)
+grown-spec = tie.close (tie.spec returns (λ c. search needs) sub-wide (λ c κs. search needs) (λ c. search needs) returns-2)

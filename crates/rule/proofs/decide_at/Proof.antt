@@ -22,12 +22,6 @@ level c =
     let v = c .if4 .left in
     record { first = rw (x, y) at (d .before .if1 .left); second = rw (x, y) at (d .if2 .left); low = omega arith; high = omega arith }
 
-state-at-requires : tie.Need-state-at-requires
-state-at-requires c κs = search needs
-
-state-at-requires-2 : tie.Need-state-at-requires-2
-state-at-requires-2 c κs = search needs
-
 returns : tie.Need-returns
 unfolding decide
 returns c = rw (← c .before .before .state-at .ensures, ← c .before .state-at2 .ensures) (simp (c .if1 .taken))
@@ -36,12 +30,6 @@ returns-2 : tie.Need-returns-2
 unfolding decide
 returns-2 c =
     rw (← c .before .before .before .state-at .ensures, ← c .before .before .state-at2 .ensures) (simp (c .before .if1 .left, c .if2 .taken))
-
-revision-at-requires : tie.Need-revision-at-requires
-revision-at-requires c κs = search needs
-
-revision-at-requires-2 : tie.Need-revision-at-requires-2
-revision-at-requires-2 c κs = search needs
 
 returns-3 : tie.Need-returns-3
 unfolding decide
@@ -61,9 +49,6 @@ returns-4 c =
 returns-5 : tie.Need-returns-5
 returns-5 c =
     contested-stands (level (c .before)) (sym (c .before .before .before .before .before .before .before .before .state-at .ensures) ∙ c .if5 .taken)
-
-same-call-at-requires : tie.Need-same-call-at-requires
-same-call-at-requires c κs = search needs
 
 returns-6 : tie.Need-returns-6
 returns-6 c = equal-stands (level (c .before .before .before)) (sym (c .before .same-call-at .ensures) ∙ c .if6 .taken)
@@ -86,16 +71,16 @@ pub decide-at-spec : {M : Type 1} → statement M
 decide-at-spec =
     tie.close
     (tie.spec
-    state-at-requires
-    state-at-requires-2
+    (λ c κs. search needs)
+    (λ c κs. search needs)
     returns
     returns-2
-    revision-at-requires
-    revision-at-requires-2
+    (λ c κs. search needs)
+    (λ c κs. search needs)
     returns-3
     returns-4
     returns-5
-    same-call-at-requires
+    (λ c κs. search needs)
     returns-6
     returns-7
     returns-8)

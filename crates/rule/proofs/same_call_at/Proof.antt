@@ -16,38 +16,17 @@ second-small : (c : tie.After-shared-slice-known2) → IsBytes (c .before .befor
 unfolding IsBytes
 second-small c i = omega (arith, c .shared-slice-known2 .given i)
 
-same-word-at-requires : tie.Need-same-word-at-requires
-same-word-at-requires c κs = search needs
-
 returns : tie.Need-returns
 returns c =
     let d = c .before .before in
     differ-first _ (first-small (d .before)) _ (second-small d) (d .before .before .args .a) (d .before .before .args .b) (d .before .before .pre .1 .1)
     (eqb-false _ _ (sym (c .before .same-word-at .ensures) ∙ not-true _ (c .if1 .taken)))
 
-add-same-word-at : tie.Need-add-same-word-at
-add-same-word-at c = search needs
-
-add-same-word-at-2 : tie.Need-add-same-word-at-2
-add-same-word-at-2 c = search needs
-
-same-word-at-requires-2 : tie.Need-same-word-at-requires-2
-same-word-at-requires-2 c κs = search needs
-
 returns-2 : tie.Need-returns-2
 returns-2 c =
     let d = c .before .before .before .before in
     differ-second _ (first-small (d .before)) _ (second-small d) (d .before .before .args .a) (d .before .before .args .b) (d .before .before .pre .1 .1)
     (eqb-false _ _ (sym (c .before .same-word-at2 .ensures) ∙ not-true _ (c .if2 .taken)))
-
-add-same-word-at-3 : tie.Need-add-same-word-at-3
-add-same-word-at-3 c = search needs
-
-add-same-word-at-4 : tie.Need-add-same-word-at-4
-add-same-word-at-4 c = search needs
-
-same-word-at-requires-3 : tie.Need-same-word-at-requires-3
-same-word-at-requires-3 c κs = search needs
 
 returns-3 : tie.Need-returns-3
 returns-3 c =
@@ -62,13 +41,13 @@ pub same-call-at-spec : {M : Type 1} → statement M
 same-call-at-spec =
     tie.close
     (tie.spec
-    same-word-at-requires
+    (λ c κs. search needs)
     returns
-    add-same-word-at
-    add-same-word-at-2
-    same-word-at-requires-2
+    (λ c. search needs)
+    (λ c. search needs)
+    (λ c κs. search needs)
     returns-2
-    add-same-word-at-3
-    add-same-word-at-4
-    same-word-at-requires-3
+    (λ c. search needs)
+    (λ c. search needs)
+    (λ c κs. search needs)
     returns-3)

@@ -21,8 +21,5 @@ cast-result-2 c = cast-pos w64 (c .before .args .n) (fits (c .before)) (c .if1 .
 returns : tie.Need-returns
 returns c = flip-neg w64 (c .before .args .n) (fits (c .before)) (c .if1 .taken)
 
-returns-2 : tie.Need-returns-2
-returns-2 c = search needs
-
 pub size-spec : {M : Type 1} → statement M
-size-spec = tie.close (tie.spec cast-result add-result cast-result-2 returns returns-2)
+size-spec = tie.close (tie.spec cast-result add-result cast-result-2 returns (λ c. search needs))

@@ -35,15 +35,6 @@ few c = headed-is (c .args .b .now) (tested c .header) .few
 header-at-requires : tie.Need-header-at-requires
 header-at-requires c κs = tested (c .before .before) .long
 
-quarters-of-requires : tie.Need-quarters-of-requires
-quarters-of-requires c κs = search needs
-
-cast-series-fault : tie.Need-cast-series-fault
-cast-series-fault c = search needs
-
-series-fault-requires : tie.Need-series-fault-requires
-series-fault-requires c κs = search needs
-
 returns : tie.Need-returns
 returns c = sym (sound-refused _ _ _ (c .before .series-fault .result) (fault-is (c .before)) (c .if1 .taken))
 
@@ -74,9 +65,9 @@ sound-earned-spec =
     tie.close
     (tie.spec
     header-at-requires
-    quarters-of-requires
-    cast-series-fault
-    series-fault-requires
+    (λ c κs. search needs)
+    (λ c. search needs)
+    (λ c κs. search needs)
     returns
     count-at-requires
     records-earned-requires

@@ -17,12 +17,6 @@ given : (c : tie.Else1) → let s = c .before .before .before in
     PartsGiven (s .args .lines) (s .args .count) (sharingCounted (s .args .part) (s .args .lines) (s .args .count)) (c .before .before .outcome .result)
 given c = c .before .before .outcome .ensures .given (none c)
 
-outcome-requires : tie.Need-outcome-requires
-outcome-requires c κs = search needs
-
-refuse-requires : tie.Need-refuse-requires
-refuse-requires c κs = search needs
-
 returns : tie.Need-returns
 unfolding sharedArray
 returns c =
@@ -48,4 +42,4 @@ returns-2 c =
     ∙ ap (λ (o : SharingOutcome). arrayOf (s .args .lines) o) (sym (t .is))
 
 pub share-spec : {M : Type 1} → statement M
-share-spec = tie.close (tie.spec outcome-requires refuse-requires returns fill-in-requires returns-2)
+share-spec = tie.close (tie.spec (λ c κs. search needs) (λ c κs. search needs) returns fill-in-requires returns-2)

@@ -8,23 +8,11 @@ use borrow.Author.Needs.{needs}
 use Rattle.share_bytes.proofs.reserved_zero.Statement.{statement}
 use Rattle.share_bytes.proofs.reserved_zero.Tie as tie
 
-add-u32-at : tie.Need-add-u32-at
-add-u32-at c = search needs
-
-u32-at-requires : tie.Need-u32-at-requires
-u32-at-requires c κs = search needs
-
 returns : tie.Need-returns
 unfolding reservedZero
 returns c =
     let a = c .before .before .before .args in
     four-bad (leAt (a .s .now) (a .at + 3) 1) (leAt (a .s .now) (a .at + 20) 4) (λ e. c .if1 .taken (c .before .u32-at .ensures ∙ e))
-
-add-u8-at : tie.Need-add-u8-at
-add-u8-at c = search needs
-
-u8-at-requires : tie.Need-u8-at-requires
-u8-at-requires c κs = search needs
 
 returns-2 : tie.Need-returns-2
 unfolding reservedZero
@@ -37,9 +25,9 @@ pub reserved-zero-spec : {M : Type 1} → statement M
 reserved-zero-spec =
     tie.close
     (tie.spec
-    add-u32-at
-    u32-at-requires
+    (λ c. search needs)
+    (λ c κs. search needs)
     returns
-    add-u8-at
-    u8-at-requires
+    (λ c. search needs)
+    (λ c κs. search needs)
     returns-2)

@@ -28,9 +28,6 @@ sums-at-requires c κs =
       (omega (arith, s .pre .1 .0, compensated-le ls (s .pre .1 .1 .1), length-lines (fieldsAt (s .args .s .now)) 0 (s .args .count)), omega (arith, assessed-fits s)),
     )
 
-refused-requires : tie.Need-refused-requires
-refused-requires c κs = search needs
-
 returns : tie.Need-returns
 returns c =
     let a = c .before .before .before .before .before .before .args in
@@ -50,9 +47,6 @@ share-gap-requires c κs =
     let sums = c .before .before .before .before .sums-at in
     (s .pre .1 .0, (s .pre .1 .1 .0, (s .pre .1 .1 .1, (omega (arith, sums .ensures .0, c .before .before .if1 .left), c .before .gap-of .ensures .1 .1 .1 .1))))
 
-same-length : tie.Need-same-length
-same-length c = search needs
-
 returns-2 : tie.Need-returns-2
 returns-2 c =
     let shared = c .before .before in
@@ -68,9 +62,9 @@ settle-bytes-spec =
     tie.close
     (tie.spec
     sums-at-requires
-    refused-requires
+    (λ c κs. search needs)
     returns
     gap-of-requires
     share-gap-requires
-    same-length
+    (λ c. search needs)
     returns-2)

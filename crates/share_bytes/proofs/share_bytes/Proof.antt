@@ -8,31 +8,16 @@ use borrow.Author.Needs.{needs}
 use Rattle.share_bytes.proofs.share_bytes.Statement.{statement}
 use Rattle.share_bytes.proofs.share_bytes.Tie as tie
 
-refused-requires : tie.Need-refused-requires
-refused-requires c κs = search needs
-
 returns : tie.Need-returns
 returns c =
     let a = c .before .before .before .before .args in
     not-shared (a .part) (a .input .now) (a .out .now) (c .refused .result) 1 0 (lit< tt)
     (sym (bytes-1 (a .part) (a .input .now) (length (a .out .now)) (c .before .if1 .taken))) (c .refused .ensures)
 
-refused-requires-2 : tie.Need-refused-requires-2
-refused-requires-2 c κs = search needs
-
 returns-2 : tie.Need-returns-2
 returns-2 c =
     let a = c .before .before .before .before .before .args in
     part-above (a .part) (a .input .now) (a .out .now) (c .refused2 .result) (c .before .before .if1 .left) (c .before .if2 .taken) (c .refused2 .ensures)
-
-seen-requires : tie.Need-seen-requires
-seen-requires c κs = search needs
-
-first-bad-bytes-requires : tie.Need-first-bad-bytes-requires
-first-bad-bytes-requires c κs = search needs
-
-refused-requires-3 : tie.Need-refused-requires-3
-refused-requires-3 c κs = search needs
 
 returns-3 : tie.Need-returns-3
 returns-3 c =
@@ -51,9 +36,6 @@ settle-bytes-requires c κs =
     none-bad (a .part) (a .input .now) _ _ (fair .before .if1 .left) (fair .if2 .left) (bad .before .seen .ensures .0) (bad .first-bad-bytes .ensures) (c .before .if3 .left) in
     (fair .if2 .left, (sound .0, (omega arith, sound .2)))
 
-same-length : tie.Need-same-length
-same-length c = search needs
-
 returns-4 : tie.Need-returns-4
 returns-4 c =
     let past = c .before .before .before .before in
@@ -67,14 +49,14 @@ pub share-bytes-spec : {M : Type 1} → statement M
 share-bytes-spec =
     tie.close
     (tie.spec
-    refused-requires
+    (λ c κs. search needs)
     returns
-    refused-requires-2
+    (λ c κs. search needs)
     returns-2
-    seen-requires
-    first-bad-bytes-requires
-    refused-requires-3
+    (λ c κs. search needs)
+    (λ c κs. search needs)
+    (λ c κs. search needs)
     returns-3
     settle-bytes-requires
-    same-length
+    (λ c. search needs)
     returns-4)

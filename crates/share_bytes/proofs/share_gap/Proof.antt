@@ -29,9 +29,6 @@ summed : (c : tie.After-total) → let a = c .before .before .before .before .be
     c .total .result ≡ total (weightsOf (a .g .negative) (speltLines (a .s .now) (a .count)))
 summed c = let into = c .before .before .before .before in c .total .ensures ∙ ap total (take-at (into .weights-into .last .1 .1 .0) _ _ (room into) ∙ weighed into)
 
-array-borrow-prefix-ws : tie.Need-array-borrow-prefix-ws
-array-borrow-prefix-ws c = search needs
-
 slice-aggregate-weights-into : tie.Need-slice-aggregate-weights-into
 slice-aggregate-weights-into c = let s = c .before .before .before in sym (length-take-le {A = ℕ} (s .args .count) (replicate 64 0) (omega (arith, s .pre .0)))
 
@@ -54,9 +51,6 @@ total-requires c κs =
     weights-fit (a .s .now) (a .count) (a .g .amount .0) (a .g .negative) _ (take-at (into .weights-into .last .1 .1 .0) _ _ (room into) ∙ weighed into)
     (s .pre .0) (s .pre .1 .1 .0) .1
 
-refused-requires : tie.Need-refused-requires
-refused-requires c κs = search needs
-
 returns : tie.Need-returns
 returns c = λ part g.
     let s = c .before .before .before .before .before .before .before .before .before .before .before in
@@ -65,15 +59,6 @@ returns c = λ part g.
     let t = none-weighs (a .g .amount .0) (c .before .before .before .total .result) (c .before .if1 .taken) in
     gap-16 (a .s .now) (a .count) (a .g .amount .0) (a .g .negative) ws refl part (a .g .whole .0) (a .g .user .0)
     (a .out .now) (c .refused .result) g (s .pre .1 .1 .1 .0) (t .0) (sym (summed (c .before .before .before)) ∙ t .1) (c .refused .ensures)
-
-mul-if2 : tie.Need-mul-if2
-mul-if2 c = search needs
-
-add-if2 : tie.Need-add-if2
-add-if2 c = search needs
-
-refused-requires-2 : tie.Need-refused-requires-2
-refused-requires-2 c κs = search needs
 
 returns-2 : tie.Need-returns-2
 returns-2 c = λ part g.
@@ -102,12 +87,6 @@ write-shared-requires c κs =
     shared-ready (a .s .now) (a .count) (a .g .amount .0) (a .g .negative) _ (take-at (into .weights-into .last .1 .1 .0) _ _ (room into) ∙ weighed into)
     (a .out .now) (s .pre .0) (s .pre .1 .0) (s .pre .1 .1 .0) (passed .if2 .left) (s .pre .1 .1 .1 .1) way
 
-accepted-requires : tie.Need-accepted-requires
-accepted-requires c κs = search needs
-
-same-length : tie.Need-same-length
-same-length c = search needs
-
 returns-3 : tie.Need-returns-3
 returns-3 c = λ part g.
     let wrote = c .before .before .before .before in
@@ -126,21 +105,21 @@ pub share-gap-spec : {M : Type 1} → statement M
 share-gap-spec =
     tie.close
     (tie.spec
-    array-borrow-prefix-ws
+    (λ c. search needs)
     slice-aggregate-weights-into
     weights-into-requires
     array-share-prefix-ws
     slice-aggregate-total
     total-requires
-    refused-requires
+    (λ c κs. search needs)
     returns
-    mul-if2
-    add-if2
-    refused-requires-2
+    (λ c. search needs)
+    (λ c. search needs)
+    (λ c κs. search needs)
     returns-2
     array-share-prefix-ws-2
     slice-aggregate-write-shared
     write-shared-requires
-    accepted-requires
-    same-length
+    (λ c κs. search needs)
+    (λ c. search needs)
     returns-3)

@@ -9,9 +9,6 @@ use borrow.Author.Needs.{needs}
 use Rattle.share_bytes.proofs.shares_into.Statement.{statement}
 use Rattle.share_bytes.proofs.shares_into.Tie as tie
 
-array-borrow-prefix-rests : tie.Need-array-borrow-prefix-rests
-array-borrow-prefix-rests c = search needs
-
 slice-aggregate-apportion-into : tie.Need-slice-aggregate-apportion-into
 slice-aggregate-apportion-into c = let s = c .before .before .before .before .before in sym (length-take-le {A = ℕ} (length (s .args .weights .now)) (replicate 64 0) (omega (arith, s .pre .0)))
 
@@ -23,12 +20,6 @@ apportion-into-requires c κs =
     let ls = ap length (s .pre .1 .1 .1 .1) ∙ length-zeros n in
     ((s .pre .1 .0, s .pre .1 .1 .1 .0 (omega arith), s .pre .1 .1 .0), (ls, lz))
 
-same-length : tie.Need-same-length
-same-length c = search needs
-
-returns : tie.Need-returns
-returns c = search needs
-
 returns-2 : tie.Need-returns-2
 returns-2 c =
     let s = c .before .before .before in
@@ -39,9 +30,9 @@ pub shares-into-spec : {M : Type 1} → statement M
 shares-into-spec =
     tie.close
     (tie.spec
-    array-borrow-prefix-rests
+    (λ c. search needs)
     slice-aggregate-apportion-into
     apportion-into-requires
-    same-length
-    returns
+    (λ c. search needs)
+    (λ c. search needs)
     returns-2)

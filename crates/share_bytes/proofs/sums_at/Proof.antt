@@ -27,9 +27,6 @@ mul-fields-at c = record { fits = omega (arith, c .before .before .before .pre .
 fields-at-requires : tie.Need-fields-at-requires Inv-loop μ-loop
 fields-at-requires c κs = omega (arith, c .before .before .before .pre .0)
 
-to-fen-requires : tie.Need-to-fen-requires Inv-loop μ-loop
-to-fen-requires c κs = search needs
-
 add-c : tie.Need-add-c Inv-loop μ-loop
 add-c c =
     let s = c .before .before .before .before .before .before in
@@ -45,12 +42,6 @@ add-a c =
     let e = ap assessed (row-step (s .args .s .now) (s .args .count) (l .i) (omega arith)) in
     let f = ap (λ (x : Line). assessmentFen x) (c .before .before .before .fields-at .ensures) in
     record { fits = omega (arith, c .before .before .to-fen .ensures, s .pre .1 .1, l .inv .2) }
-
-add-i : tie.Need-add-i Inv-loop μ-loop
-add-i c = search needs
-
-loop-less : tie.Need-loop-less Inv-loop μ-loop
-loop-less c = search needs
 
 loop-again : tie.Need-loop-again Inv-loop μ-loop
 loop-again c =
@@ -80,10 +71,10 @@ sums-at-spec =
     loop-holds
     mul-fields-at
     fields-at-requires
-    to-fen-requires
+    (λ c κs. search needs)
     add-c
     add-a
-    add-i
-    loop-less
+    (λ c. search needs)
+    (λ c. search needs)
     loop-again
     returns)

@@ -33,15 +33,6 @@ weight-of-requires c κs =
     let l = c .before .before .loop in
     rw (c .fields-at .ensures) (row-within (s .args .s .now) (length (s .args .weights .now)) (l .i) (s .pre .1) (omega (arith, l .inv .1)) .energy)
 
-mul-weights : tie.Need-mul-weights Inv-loop μ-loop
-mul-weights c = search needs
-
-slice-write-weights : tie.Need-slice-write-weights Inv-loop μ-loop
-slice-write-weights c = search needs
-
-add-i : tie.Need-add-i Inv-loop μ-loop
-add-i c = search needs
-
 loop-less : tie.Need-loop-less Inv-loop μ-loop
 loop-less c = omega (arith, c .before .before .before .loop .inv .1)
 
@@ -79,9 +70,9 @@ weights-into-spec =
     mul-fields-at
     fields-at-requires
     weight-of-requires
-    mul-weights
-    slice-write-weights
-    add-i
+    (λ c. search needs)
+    (λ c. search needs)
+    (λ c. search needs)
     loop-less
     loop-again
     same-length

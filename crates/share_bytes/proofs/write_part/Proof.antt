@@ -3,18 +3,6 @@ use borrow.Author.Needs.{needs}
 use Rattle.share_bytes.proofs.write_part.Statement.{statement}
 use Rattle.share_bytes.proofs.write_part.Tie as tie
 
-put-i64-requires : tie.Need-put-i64-requires
-put-i64-requires c κs = search needs
-
-add-put-i64 : tie.Need-add-put-i64
-add-put-i64 c = search needs
-
-put-i64-requires-2 : tie.Need-put-i64-requires-2
-put-i64-requires-2 c κs = search needs
-
-same-length : tie.Need-same-length
-same-length c = search needs
-
 returns : tie.Need-returns
 returns c =
     let s = c .before .before .before .before .before .before .before .before .before .before .before in
@@ -27,4 +15,4 @@ returns c =
 
 pub write-part-spec : {M : Type 1} → statement M
 write-part-spec =
-    tie.close (tie.spec put-i64-requires add-put-i64 put-i64-requires-2 same-length returns)
+    tie.close (tie.spec (λ c κs. search needs) (λ c. search needs) (λ c κs. search needs) (λ c. search needs) returns)

@@ -36,12 +36,6 @@ mul-fields-at c = record { fits = omega (arith, c .before .before .before .befor
 fields-at-requires : tie.Need-fields-at-requires Inv-loop μ-loop
 fields-at-requires c κs = omega (arith, c .before .before .before .before .before .pre .0)
 
-mul-t10 : tie.Need-mul-t10 Inv-loop μ-loop
-mul-t10 c = search needs
-
-shared-slice-read-t13 : tie.Need-shared-slice-read-t13 Inv-loop μ-loop
-shared-slice-read-t13 c = search needs
-
 finish-requires : tie.Need-finish-requires Inv-loop μ-loop
 finish-requires c κs =
     let s = c .before .before .before .before .before .before .before in
@@ -58,9 +52,6 @@ write-part-requires : tie.Need-write-part-requires Inv-loop μ-loop
 write-part-requires c κs =
     let here = c .before .before .before .before .before .before in
     omega (arith, here .before .loop .inv .1, here .before .before .before .before .before .pre .1 .1 .0, here .loop-test .taken)
-
-add-i : tie.Need-add-i Inv-loop μ-loop
-add-i c = search needs
 
 loop-less : tie.Need-loop-less Inv-loop μ-loop
 loop-less c = omega (arith, c .before .before .before .before .before .before .before .before .before .loop-test .taken)
@@ -79,9 +70,6 @@ loop-again c =
       part-more (a .negative) (speltLines (a .s .now) n) (a .shares .now) (each s) (l .i) blankLine _ (omega (arith, here, each s)) done (l .inv .2) (c .before .before .write-part .ensures),
     )
 
-same-length : tie.Need-same-length Inv-loop μ-loop
-same-length c = search needs
-
 returns : tie.Need-returns Inv-loop μ-loop
 returns c =
     let s = c .before .before .before .before .before in
@@ -98,13 +86,13 @@ write-parts-spec =
     loop-holds
     mul-fields-at
     fields-at-requires
-    mul-t10
-    shared-slice-read-t13
+    (λ c. search needs)
+    (λ c. search needs)
     finish-requires
     mul-write-part
     write-part-requires
-    add-i
+    (λ c. search needs)
     loop-less
     loop-again
-    same-length
+    (λ c. search needs)
     returns)

@@ -14,9 +14,6 @@ long c =
     let s = c .before .before .before .before .before in
     c .shares-into .kept .1 .1 .0 ∙ length-take-le {A = ℕ} (length (s .args .weights .now)) (replicate 64 0) (omega (arith, s .pre .0))
 
-array-borrow-prefix-shares : tie.Need-array-borrow-prefix-shares
-array-borrow-prefix-shares c = search needs
-
 slice-aggregate-shares-into : tie.Need-slice-aggregate-shares-into
 slice-aggregate-shares-into c = let s = c .before .before .before .before in sym (length-take-le {A = ℕ} (length (s .args .weights .now)) (replicate 64 0) (omega (arith, s .pre .0)))
 
@@ -49,9 +46,6 @@ write-part-requires c κs =
     let s = c .before .before .before .before .before .before .before .before .before .before .before .before in
     omega (arith, s .pre .1 .1 .1 .0, c .before .before .before .write-parts .kept .1 .1 .1 .0)
 
-same-length : tie.Need-same-length
-same-length c = search needs
-
 returns : tie.Need-returns
 returns c =
     let s = c .before .before .before .before .before .before .before .before .before .before .before .before .before .before .before in
@@ -64,7 +58,7 @@ pub write-shared-spec : {M : Type 1} → statement M
 write-shared-spec =
     tie.close
     (tie.spec
-    array-borrow-prefix-shares
+    (λ c. search needs)
     slice-aggregate-shares-into
     shares-into-requires
     array-share-prefix-shares
@@ -72,5 +66,5 @@ write-shared-spec =
     write-parts-requires
     mul-write-part
     write-part-requires
-    same-length
+    (λ c. search needs)
     returns)

@@ -10,18 +10,6 @@ use Rattle.wish.proofs.over.Tie as tie
 returns : tie.Need-returns
 returns c = sym (over-gone _ _ _ (eq-eqb _ _ (c .if1 .taken)))
 
-enum-told : tie.Need-enum-told
-enum-told c = search needs
-
-enum-told-2 : tie.Need-enum-told-2
-enum-told-2 c = search needs
-
-higher-requires : tie.Need-higher-requires
-higher-requires c κs = search needs
-
-enum-told-3 : tie.Need-enum-told-3
-enum-told-3 c = search needs
-
 returns-2 : tie.Need-returns-2
 unfolding byWish
 returns-2 c = rw (c .enum-told .given .1) (sym (over-else Enter _ _ (ne-eqb _ _ (c .before .before .if1 .left))))
@@ -39,10 +27,10 @@ over-spec =
     tie.close
     (tie.spec
     returns
-    enum-told
-    enum-told-2
-    higher-requires
-    enum-told-3
+    (λ c. search needs)
+    (λ c. search needs)
+    (λ c κs. search needs)
+    (λ c. search needs)
     returns-2
     returns-3
     returns-4)

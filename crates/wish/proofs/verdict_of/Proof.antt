@@ -4,15 +4,6 @@ use borrow.Author.Needs.{needs}
 use Rattle.wish.proofs.verdict_of.Statement.{statement}
 use Rattle.wish.proofs.verdict_of.Tie as tie
 
-enum-told : tie.Need-enum-told
-enum-told c = search needs
-
-enum-known-old : tie.Need-enum-known-old
-enum-known-old c = search needs
-
-over-requires : tie.Need-over-requires
-over-requires c κs = search needs
-
 returns : tie.Need-returns
 unfolding verdict
 returns c = rw (c .enum-told .given .1) refl
@@ -22,4 +13,4 @@ unfolding verdict
 returns-2 c = rw (c .before .before .old .given .1) (c .over .ensures)
 
 pub verdict-of-spec : {M : Type 1} → statement M
-verdict-of-spec = tie.close (tie.spec enum-told enum-known-old over-requires returns returns-2)
+verdict-of-spec = tie.close (tie.spec (λ c. search needs) (λ c. search needs) (λ c κs. search needs) returns returns-2)

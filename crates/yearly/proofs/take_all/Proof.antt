@@ -10,17 +10,8 @@ Inv-loop count run₀ i₀ run i = Unit {0}
 abbrev μ-loop : tie.MeasureT-loop
 μ-loop count run₀ i₀ run i = count - i
 
-arg-count-requires : tie.Need-arg-count-requires Inv-loop μ-loop
-arg-count-requires c κs = search needs
-
-start-requires : tie.Need-start-requires Inv-loop μ-loop
-start-requires c κs = search needs
-
 loop-holds : tie.Need-loop-holds Inv-loop μ-loop
 loop-holds c = tt
-
-next-requires : tie.Need-next-requires Inv-loop μ-loop
-next-requires c κs = search needs
 
 add-i : tie.Need-add-i Inv-loop μ-loop
 add-i c = omega arith
@@ -31,20 +22,17 @@ loop-less c = omega arith
 loop-again : tie.Need-loop-again Inv-loop μ-loop
 loop-again c = tt
 
-returns : tie.Need-returns Inv-loop μ-loop
-returns c = search needs
-
 pub take-all-spec : {M : Type 1} → statement M
 take-all-spec =
     tie.close
     (tie.spec
     Inv-loop
     μ-loop
-    arg-count-requires
-    start-requires
+    (λ c κs. search needs)
+    (λ c κs. search needs)
     loop-holds
-    next-requires
+    (λ c κs. search needs)
     add-i
     loop-less
     loop-again
-    returns)
+    (λ c. search needs))

@@ -8,27 +8,6 @@ use borrow.Author.Needs.{needs}
 use Rattle.annual.proofs.sums.with_member.Statement.{statement}
 use Rattle.annual.proofs.sums.with_member.Tie as tie
 
-to-fen-requires : tie.Need-to-fen-requires
-to-fen-requires c κs = search needs
-
-plus-requires : tie.Need-plus-requires
-plus-requires c κs = search needs
-
-plus-requires-2 : tie.Need-plus-requires-2
-plus-requires-2 c κs = search needs
-
-due-of-requires : tie.Need-due-of-requires
-due-of-requires c κs = search needs
-
-plus-requires-3 : tie.Need-plus-requires-3
-plus-requires-3 c κs = search needs
-
-owed-of-requires : tie.Need-owed-of-requires
-owed-of-requires c κs = search needs
-
-plus-requires-4 : tie.Need-plus-requires-4
-plus-requires-4 c κs = search needs
-
 returns : tie.Need-returns
 unfolding withMember
 returns c =
@@ -48,11 +27,11 @@ pub with-member-spec : {M : Type 1} → statement M
 with-member-spec =
     tie.close
     (tie.spec
-    to-fen-requires
-    plus-requires
-    plus-requires-2
-    due-of-requires
-    plus-requires-3
-    owed-of-requires
-    plus-requires-4
+    (λ c κs. search needs)
+    (λ c κs. search needs)
+    (λ c κs. search needs)
+    (λ c κs. search needs)
+    (λ c κs. search needs)
+    (λ c κs. search needs)
+    (λ c κs. search needs)
     returns)

@@ -14,15 +14,6 @@ Inv-loop bar rests n₀ i₀ n i = (i ≤ length rests) × (n + countAbove bar (
 abbrev μ-loop : tie.MeasureT-loop
 μ-loop bar rests n₀ i₀ n i = length rests - i
 
-loop-holds : tie.Need-loop-holds Inv-loop μ-loop
-loop-holds c = search needs
-
-mul-one-above : tie.Need-mul-one-above Inv-loop μ-loop
-mul-one-above c = search needs
-
-shared-slice-read-one-above : tie.Need-shared-slice-read-one-above Inv-loop μ-loop
-shared-slice-read-one-above c = search needs
-
 one-above-requires : tie.Need-one-above-requires Inv-loop μ-loop
 one-above-requires c κs =
     let s = c .before .before .before .before in
@@ -33,12 +24,6 @@ add-n c =
     let s = c .before .before .before .before .before in
     let l = c .before .before .before .loop in
     omega (arith, above-step (s .args .bar) (s .args .rests .now) (l .i) (omega arith), above-le (s .args .bar) (s .args .rests .now))
-
-add-i : tie.Need-add-i Inv-loop μ-loop
-add-i c = search needs
-
-loop-less : tie.Need-loop-less Inv-loop μ-loop
-loop-less c = search needs
 
 loop-again : tie.Need-loop-again Inv-loop μ-loop
 loop-again c =
@@ -57,12 +42,12 @@ count-above-spec =
     (tie.spec
     Inv-loop
     μ-loop
-    loop-holds
-    mul-one-above
-    shared-slice-read-one-above
+    (λ c. search needs)
+    (λ c. search needs)
+    (λ c. search needs)
     one-above-requires
     add-n
-    add-i
-    loop-less
+    (λ c. search needs)
+    (λ c. search needs)
     loop-again
     returns)

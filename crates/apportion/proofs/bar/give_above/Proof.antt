@@ -20,18 +20,6 @@ abbrev μ-loop : tie.MeasureT-loop
 loop-holds : tie.Need-loop-holds Inv-loop μ-loop
 loop-holds c = (omega arith, refl, refl, refl, refl)
 
-mul-r : tie.Need-mul-r Inv-loop μ-loop
-mul-r c = search needs
-
-slice-read-r : tie.Need-slice-read-r Inv-loop μ-loop
-slice-read-r c = search needs
-
-mul-shares : tie.Need-mul-shares Inv-loop μ-loop
-mul-shares c = search needs
-
-slice-read-shares : tie.Need-slice-read-shares Inv-loop μ-loop
-slice-read-shares c = search needs
-
 one-above-requires : tie.Need-one-above-requires Inv-loop μ-loop
 one-above-requires c κs =
     let s = c .before .before .before .before .before .before in
@@ -55,27 +43,6 @@ add-shares c =
     let one = raised-at (s .args .bar) rs ss (l .i) (omega arith) (s .pre .0) in
     omega (arith, c .one-above .ensures, ap (oneAbove (s .args .bar)) r, b, one, getD-total up (l .i), total-raised (s .args .bar) rs ss (s .pre .0))
 
-mul-shares-2 : tie.Need-mul-shares-2 Inv-loop μ-loop
-mul-shares-2 c = search needs
-
-slice-write-shares : tie.Need-slice-write-shares Inv-loop μ-loop
-slice-write-shares c = search needs
-
-unless-served-requires : tie.Need-unless-served-requires Inv-loop μ-loop
-unless-served-requires c κs = search needs
-
-mul-rests : tie.Need-mul-rests Inv-loop μ-loop
-mul-rests c = search needs
-
-slice-write-rests : tie.Need-slice-write-rests Inv-loop μ-loop
-slice-write-rests c = search needs
-
-add-i : tie.Need-add-i Inv-loop μ-loop
-add-i c = search needs
-
-loop-less : tie.Need-loop-less Inv-loop μ-loop
-loop-less c = search needs
-
 loop-again : tie.Need-loop-again Inv-loop μ-loop
 loop-again c =
     let s = c .before .before .before .before .before .before .before .before in
@@ -97,12 +64,6 @@ loop-again c =
       simp length-set (l .inv .4),
     )
 
-same-length : tie.Need-same-length Inv-loop μ-loop
-same-length c = search needs
-
-same-length-2 : tie.Need-same-length-2 Inv-loop μ-loop
-same-length-2 c = search needs
-
 returns : tie.Need-returns Inv-loop μ-loop
 returns c =
     let s = c .before .before .before .before in
@@ -121,20 +82,20 @@ give-above-spec =
     Inv-loop
     μ-loop
     loop-holds
-    mul-r
-    slice-read-r
-    mul-shares
-    slice-read-shares
+    (λ c. search needs)
+    (λ c. search needs)
+    (λ c. search needs)
+    (λ c. search needs)
     one-above-requires
     add-shares
-    mul-shares-2
-    slice-write-shares
-    unless-served-requires
-    mul-rests
-    slice-write-rests
-    add-i
-    loop-less
+    (λ c. search needs)
+    (λ c. search needs)
+    (λ c κs. search needs)
+    (λ c. search needs)
+    (λ c. search needs)
+    (λ c. search needs)
+    (λ c. search needs)
     loop-again
-    same-length
-    same-length-2
+    (λ c. search needs)
+    (λ c. search needs)
     returns)

@@ -24,26 +24,11 @@ loop-holds c =
     let s = c .before .before in
     (omega arith, given-none (s .args .left) (s .args .rests .now) (s .args .shares .now), serving-none (s .args .most) (s .args .left) (s .args .rests .now) (s .pre .1 .1))
 
-mul-r : tie.Need-mul-r Inv-loop μ-loop
-mul-r c = search needs
-
 slice-read-r : tie.Need-slice-read-r Inv-loop μ-loop
 slice-read-r c = here (c .before)
 
-one-in-turn-requires : tie.Need-one-in-turn-requires Inv-loop μ-loop
-one-in-turn-requires c κs = search needs
-
-unless-one-requires : tie.Need-unless-one-requires Inv-loop μ-loop
-unless-one-requires c κs = search needs
-
-mul-rests : tie.Need-mul-rests Inv-loop μ-loop
-mul-rests c = search needs
-
 slice-write-rests : tie.Need-slice-write-rests Inv-loop μ-loop
 slice-write-rests c = here (c .before .before .before)
-
-mul-shares : tie.Need-mul-shares Inv-loop μ-loop
-mul-shares c = search needs
 
 slice-read-shares : tie.Need-slice-read-shares Inv-loop μ-loop
 slice-read-shares c = omega (arith, here (c .before .before .before .before))
@@ -53,17 +38,11 @@ add-shares c =
     let l = c .before .before .before .before .before .loop in
     omega (arith, getD-total (l .shares) (l .i), turn-le (c .before .before .one-in-turn .ensures))
 
-mul-shares-2 : tie.Need-mul-shares-2 Inv-loop μ-loop
-mul-shares-2 c = search needs
-
 slice-write-shares : tie.Need-slice-write-shares Inv-loop μ-loop
 slice-write-shares c = omega (arith, here (c .before .before .before .before))
 
 sub-k : tie.Need-sub-k Inv-loop μ-loop
 sub-k c = turn-le (c .before .before .one-in-turn .ensures)
-
-add-i : tie.Need-add-i Inv-loop μ-loop
-add-i c = search needs
 
 loop-less : tie.Need-loop-less Inv-loop μ-loop
 loop-less c = omega (arith, here (c .before .before .before .before))
@@ -76,12 +55,6 @@ loop-again c =
     let t = serve-step (s .args .most) (l .k) x (l .i) (l .rests) (l .shares) (here (c .before .before .before .before)) (omega arith) (l .inv .2) (c .before .before .one-in-turn .ensures) in
     rw (c .before .unless-one .ensures) (omega (arith, here (c .before .before .before .before)), given-more (l .inv .1) (t .0), t .1)
 
-same-length : tie.Need-same-length Inv-loop μ-loop
-same-length c = search needs
-
-same-length-2 : tie.Need-same-length-2 Inv-loop μ-loop
-same-length-2 c = search needs
-
 returns : tie.Need-returns Inv-loop μ-loop
 returns c = c .before .loop .inv .1
 
@@ -92,21 +65,21 @@ give-equal-spec =
     Inv-loop
     μ-loop
     loop-holds
-    mul-r
+    (λ c. search needs)
     slice-read-r
-    one-in-turn-requires
-    unless-one-requires
-    mul-rests
+    (λ c κs. search needs)
+    (λ c κs. search needs)
+    (λ c. search needs)
     slice-write-rests
-    mul-shares
+    (λ c. search needs)
     slice-read-shares
     add-shares
-    mul-shares-2
+    (λ c. search needs)
     slice-write-shares
     sub-k
-    add-i
+    (λ c. search needs)
     loop-less
     loop-again
-    same-length
-    same-length-2
+    (λ c. search needs)
+    (λ c. search needs)
     returns)

@@ -3,9 +3,6 @@ use borrow.Author.Needs.{needs}
 use Rattle.book.proofs.write.fault.Statement.{statement}
 use Rattle.book.proofs.write.fault.Tie as tie
 
-is-sound-requires : tie.Need-is-sound-requires
-is-sound-requires c κs = search needs
-
 returns : tie.Need-returns
 returns c = simp (← c .before .is-sound .ensures, c .if1 .taken)
 
@@ -19,4 +16,4 @@ returns-4 : tie.Need-returns-4
 returns-4 c = simp (← c .before .before .before .is-sound .ensures, c .before .before .if1 .left, c .before .if2 .left, le-ltb _ _ (c .if3 .left))
 
 pub fault-spec : {M : Type 1} → statement M
-fault-spec = tie.close (tie.spec is-sound-requires returns returns-2 returns-3 returns-4)
+fault-spec = tie.close (tie.spec (λ c κs. search needs) returns returns-2 returns-3 returns-4)

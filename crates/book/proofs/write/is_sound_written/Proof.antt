@@ -24,18 +24,6 @@ sized c =
       most-c = search needs;
     }
 
-slice-aggregate-put-first : tie.Need-slice-aggregate-put-first
-slice-aggregate-put-first c = search needs
-
-put-first-requires : tie.Need-put-first-requires
-put-first-requires c κs = search needs
-
-slice-aggregate-check-records : tie.Need-slice-aggregate-check-records
-slice-aggregate-check-records c = search needs
-
-check-records-requires : tie.Need-check-records-requires
-check-records-requires c κs = search needs
-
 returns : tie.Need-returns
 returns c =
     let passed = c .before in
@@ -48,8 +36,8 @@ pub is-sound-written-spec : {M : Type 1} → statement M
 is-sound-written-spec =
     tie.close
     (tie.spec
-    slice-aggregate-put-first
-    put-first-requires
-    slice-aggregate-check-records
-    check-records-requires
+    (λ c. search needs)
+    (λ c κs. search needs)
+    (λ c. search needs)
+    (λ c κs. search needs)
     returns)

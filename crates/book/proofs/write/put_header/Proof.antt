@@ -6,18 +6,6 @@ use borrow.Author.Needs.{needs}
 use Rattle.book.proofs.write.put_header.Statement.{statement}
 use Rattle.book.proofs.write.put_header.Tie as tie
 
-put-mark-requires : tie.Need-put-mark-requires
-put-mark-requires c κs = search needs
-
-put-date-requires : tie.Need-put-date-requires
-put-date-requires c κs = search needs
-
-put-count-requires : tie.Need-put-count-requires
-put-count-requires c κs = search needs
-
-same-length : tie.Need-same-length
-same-length c = search needs
-
 returns : tie.Need-returns
 unfolding headBytes markBytes dateBytes leBytes
 returns c =
@@ -28,4 +16,4 @@ returns c =
 
 pub put-header-spec : {M : Type 1} → statement M
 put-header-spec =
-    tie.close (tie.spec put-mark-requires put-date-requires put-count-requires same-length returns)
+    tie.close (tie.spec (λ c κs. search needs) (λ c κs. search needs) (λ c κs. search needs) (λ c. search needs) returns)

@@ -6,21 +6,6 @@ use borrow.Author.Needs.{needs}
 use Rattle.book.proofs.write.put_mark.Statement.{statement}
 use Rattle.book.proofs.write.put_mark.Tie as tie
 
-put-u8-requires : tie.Need-put-u8-requires
-put-u8-requires c κs = search needs
-
-put-u8-requires-2 : tie.Need-put-u8-requires-2
-put-u8-requires-2 c κs = search needs
-
-put-u8-requires-3 : tie.Need-put-u8-requires-3
-put-u8-requires-3 c κs = search needs
-
-put-u8-requires-4 : tie.Need-put-u8-requires-4
-put-u8-requires-4 c κs = search needs
-
-same-length : tie.Need-same-length
-same-length c = search needs
-
 returns : tie.Need-returns
 unfolding markBytes leBytes
 returns c =
@@ -34,9 +19,9 @@ pub put-mark-spec : {M : Type 1} → statement M
 put-mark-spec =
     tie.close
     (tie.spec
-    put-u8-requires
-    put-u8-requires-2
-    put-u8-requires-3
-    put-u8-requires-4
-    same-length
+    (λ c κs. search needs)
+    (λ c κs. search needs)
+    (λ c κs. search needs)
+    (λ c κs. search needs)
+    (λ c. search needs)
     returns)

@@ -10,9 +10,6 @@ use Rattle.book.proofs.write.write_none.Tie as tie
 room : (c : tie.After-put-header-arg) → HasHeader (c .before .before .before .before .args .out .now)
 room c = room-of (c .before .before .before .before .args .h) [] _ (sym (c .before .before .fault .ensures ∙ fault-none _ _) ∙ c .before .if1 .left)
 
-fault-requires : tie.Need-fault-requires
-fault-requires c κs = search needs
-
 returns : tie.Need-returns
 returns c =
     let args = c .before .before .before .args in
@@ -20,9 +17,6 @@ returns c =
 
 put-header-requires : tie.Need-put-header-requires
 put-header-requires c κs = room c
-
-same-length : tie.Need-same-length
-same-length c = search needs
 
 returns-2 : tie.Need-returns-2
 returns-2 c =
@@ -34,4 +28,4 @@ returns-2 c =
 
 pub write-none-spec : {M : Type 1} → statement M
 write-none-spec =
-    tie.close (tie.spec fault-requires returns put-header-requires same-length returns-2)
+    tie.close (tie.spec (λ c κs. search needs) returns put-header-requires (λ c. search needs) returns-2)

@@ -28,18 +28,6 @@ room c =
     let args = c .before .before .before .before .before .before .before .args in
     room-of (args .h) (args .x ∷ []) _ (sym (faults (c .before .before)) ∙ c .before .if1 .left)
 
-minutes-of-requires : tie.Need-minutes-of-requires
-minutes-of-requires c κs = search needs
-
-is-sound-written-requires : tie.Need-is-sound-written-requires
-is-sound-written-requires c κs = search needs
-
-size-of-requires : tie.Need-size-of-requires
-size-of-requires c κs = search needs
-
-fault-requires : tie.Need-fault-requires
-fault-requires c κs = search needs
-
 returns : tie.Need-returns
 returns c =
     let args = c .before .before .before .before .before .before .args in
@@ -50,9 +38,6 @@ put-header-requires c κs = omega (arith, room c)
 
 put-first-requires : tie.Need-put-first-requires
 put-first-requires c κs = simp (c .before .before .before .put-header .ensures .is, length-sets) (room (c .before .before .before .before))
-
-same-length : tie.Need-same-length
-same-length c = search needs
 
 returns-2 : tie.Need-returns-2
 returns-2 c =
@@ -67,12 +52,12 @@ pub write-one-spec : {M : Type 1} → statement M
 write-one-spec =
     tie.close
     (tie.spec
-    minutes-of-requires
-    is-sound-written-requires
-    size-of-requires
-    fault-requires
+    (λ c κs. search needs)
+    (λ c κs. search needs)
+    (λ c κs. search needs)
+    (λ c κs. search needs)
     returns
     put-header-requires
     put-first-requires
-    same-length
+    (λ c. search needs)
     returns-2)

@@ -9,15 +9,6 @@ use Rattle.call.proofs.Limits.{framed, unframed, no-live, live, struck}
 use Rattle.call.proofs.Call.is_sound.Statement.{statement}
 use Rattle.call.proofs.Call.is_sound.Tie as tie
 
-cast-end : tie.Need-cast-end
-cast-end c = search needs
-
-cast-end-2 : tie.Need-cast-end-2
-cast-end-2 c = search needs
-
-add-end : tie.Need-add-end
-add-end c = search needs
-
 returns : tie.Need-returns
 returns c =
     let args = c .before .before .before .before .before .before .args in
@@ -28,9 +19,6 @@ returns-2 c =
     let args = c .before .before .before .before .before .before .before .before .before .before .args in
     sym (no-live (args .minutes) (args .self) (not-false (framed (args .minutes) (args .self)) (c .before .before .before .before .if1 .left)) (c .before .before .if2 .taken) (c .if3 .taken))
 
-within-requires : tie.Need-within-requires
-within-requires c κs = search needs
-
 returns-3 : tie.Need-returns-3
 unfolding limitsAllow
 returns-3 c =
@@ -39,9 +27,6 @@ returns-3 c =
     let frame = not-false (framed (args .minutes) (args .self)) (c .before .before .before .before .before .before .if1 .left) in
     rw (c .within .ensures, toZ-ofZ w32 (args .self .a) a)
     (sym (live (args .minutes) (args .self) frame (c .before .before .before .before .if2 .taken) (c .before .before .if3 .left)))
-
-within-requires-2 : tie.Need-within-requires-2
-within-requires-2 c κs = search needs
 
 returns-4 : tie.Need-returns-4
 unfolding limitsAllow
@@ -55,12 +40,12 @@ pub is-sound-spec : {M : Type 1} → statement M
 is-sound-spec =
     tie.close
     (tie.spec
-    cast-end
-    cast-end-2
-    add-end
+    (λ c. search needs)
+    (λ c. search needs)
+    (λ c. search needs)
     returns
     returns-2
-    within-requires
+    (λ c κs. search needs)
     returns-3
-    within-requires-2
+    (λ c κs. search needs)
     returns-4)

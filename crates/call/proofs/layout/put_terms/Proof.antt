@@ -10,30 +10,6 @@ use borrow.Author.Needs.{needs}
 use Rattle.call.proofs.layout.put_terms.Statement.{statement}
 use Rattle.call.proofs.layout.put_terms.Tie as tie
 
-put-i32-requires : tie.Need-put-i32-requires
-put-i32-requires c κs = search needs
-
-add-put-u32 : tie.Need-add-put-u32
-add-put-u32 c = search needs
-
-put-u32-requires : tie.Need-put-u32-requires
-put-u32-requires c κs = search needs
-
-add-put-u32-2 : tie.Need-add-put-u32-2
-add-put-u32-2 c = search needs
-
-put-u32-requires-2 : tie.Need-put-u32-requires-2
-put-u32-requires-2 c κs = search needs
-
-add-put-u32-3 : tie.Need-add-put-u32-3
-add-put-u32-3 c = search needs
-
-put-u32-requires-3 : tie.Need-put-u32-requires-3
-put-u32-requires-3 c κs = search needs
-
-same-length : tie.Need-same-length
-same-length c = search needs
-
 a-fits : (c : tie.After-struct-told) → SFits w32 (c .before .before .before .args .x .a)
 a-fits c = search needs
 
@@ -52,12 +28,12 @@ pub put-terms-spec : {M : Type 1} → statement M
 put-terms-spec =
     tie.close
     (tie.spec
-    put-i32-requires
-    add-put-u32
-    put-u32-requires
-    add-put-u32-2
-    put-u32-requires-2
-    add-put-u32-3
-    put-u32-requires-3
-    same-length
+    (λ c κs. search needs)
+    (λ c. search needs)
+    (λ c κs. search needs)
+    (λ c. search needs)
+    (λ c κs. search needs)
+    (λ c. search needs)
+    (λ c κs. search needs)
+    (λ c. search needs)
     returns)

@@ -7,24 +7,6 @@ use borrow.Author.Needs.{needs}
 use Rattle.call.proofs.layout.put_time.Statement.{statement}
 use Rattle.call.proofs.layout.put_time.Tie as tie
 
-put-u32-requires : tie.Need-put-u32-requires
-put-u32-requires c κs = search needs
-
-add-put-u16 : tie.Need-add-put-u16
-add-put-u16 c = search needs
-
-put-u16-requires : tie.Need-put-u16-requires
-put-u16-requires c κs = search needs
-
-add-put-u16-2 : tie.Need-add-put-u16-2
-add-put-u16-2 c = search needs
-
-put-u16-requires-2 : tie.Need-put-u16-requires-2
-put-u16-requires-2 c κs = search needs
-
-same-length : tie.Need-same-length
-same-length c = search needs
-
 returns : tie.Need-returns
 unfolding timeBytes leBytes
 returns c =
@@ -38,10 +20,10 @@ pub put-time-spec : {M : Type 1} → statement M
 put-time-spec =
     tie.close
     (tie.spec
-    put-u32-requires
-    add-put-u16
-    put-u16-requires
-    add-put-u16-2
-    put-u16-requires-2
-    same-length
+    (λ c κs. search needs)
+    (λ c. search needs)
+    (λ c κs. search needs)
+    (λ c. search needs)
+    (λ c κs. search needs)
+    (λ c. search needs)
     returns)

@@ -3,15 +3,9 @@ use borrow.Author.Needs.{needs}
 use Rattle.call.proofs.layout.revision_at.Statement.{statement}
 use Rattle.call.proofs.layout.revision_at.Tie as tie
 
-add-u32-at : tie.Need-add-u32-at
-add-u32-at c = search needs
-
-u32-at-requires : tie.Need-u32-at-requires
-u32-at-requires c κs = search needs
-
 returns : tie.Need-returns
 unfolding callAt
 returns c = c .u32-at .ensures
 
 pub revision-at-spec : {M : Type 1} → statement M
-revision-at-spec = tie.close (tie.spec add-u32-at u32-at-requires returns)
+revision-at-spec = tie.close (tie.spec (λ c. search needs) (λ c κs. search needs) returns)

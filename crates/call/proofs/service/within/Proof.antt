@@ -14,81 +14,6 @@ kept c =
     let fits : SFits w32 (c .args .a) = search needs in
     toZ-ofZ w32 (c .args .a) fits
 
-row-requires : tie.Need-row-requires
-row-requires c κs = search needs
-
-allow-requires : tie.Need-allow-requires
-allow-requires c κs = search needs
-
-row-requires-2 : tie.Need-row-requires-2
-row-requires-2 c κs = search needs
-
-allow-requires-2 : tie.Need-allow-requires-2
-allow-requires-2 c κs = search needs
-
-row-requires-3 : tie.Need-row-requires-3
-row-requires-3 c κs = search needs
-
-allow-requires-3 : tie.Need-allow-requires-3
-allow-requires-3 c κs = search needs
-
-row-requires-4 : tie.Need-row-requires-4
-row-requires-4 c κs = search needs
-
-allow-requires-4 : tie.Need-allow-requires-4
-allow-requires-4 c κs = search needs
-
-row-requires-5 : tie.Need-row-requires-5
-row-requires-5 c κs = search needs
-
-allow-requires-5 : tie.Need-allow-requires-5
-allow-requires-5 c κs = search needs
-
-row-requires-6 : tie.Need-row-requires-6
-row-requires-6 c κs = search needs
-
-allow-requires-6 : tie.Need-allow-requires-6
-allow-requires-6 c κs = search needs
-
-row-requires-7 : tie.Need-row-requires-7
-row-requires-7 c κs = search needs
-
-allow-requires-7 : tie.Need-allow-requires-7
-allow-requires-7 c κs = search needs
-
-row-requires-8 : tie.Need-row-requires-8
-row-requires-8 c κs = search needs
-
-allow-requires-8 : tie.Need-allow-requires-8
-allow-requires-8 c κs = search needs
-
-cast-row : tie.Need-cast-row
-cast-row c = search needs
-
-row-requires-9 : tie.Need-row-requires-9
-row-requires-9 c κs = search needs
-
-allow-requires-9 : tie.Need-allow-requires-9
-allow-requires-9 c κs = search needs
-
-row-requires-10 : tie.Need-row-requires-10
-row-requires-10 c κs = search needs
-
-allow-requires-10 : tie.Need-allow-requires-10
-allow-requires-10 c κs = search needs
-
-row-requires-11 : tie.Need-row-requires-11
-row-requires-11 c κs = search needs
-
-allow-requires-11 : tie.Need-allow-requires-11
-allow-requires-11 c κs = search needs
-
-row-requires-12 : tie.Need-row-requires-12
-row-requires-12 c κs = search needs
-
-allow-requires-12 : tie.Need-allow-requires-12
-allow-requires-12 c κs = search needs
-
 returns : tie.Need-returns
 unfolding limitsOf table
 returns c = rw (c .allow .ensures, c .before .row .ensures, c .before .before .match .keys1, kept (c .before .before .before)) refl
@@ -145,31 +70,31 @@ pub within-spec : {M : Type 1} → statement M
 within-spec =
     tie.close
     (tie.spec
-    row-requires
-    allow-requires
-    row-requires-2
-    allow-requires-2
-    row-requires-3
-    allow-requires-3
-    row-requires-4
-    allow-requires-4
-    row-requires-5
-    allow-requires-5
-    row-requires-6
-    allow-requires-6
-    row-requires-7
-    allow-requires-7
-    row-requires-8
-    allow-requires-8
-    cast-row
-    row-requires-9
-    allow-requires-9
-    row-requires-10
-    allow-requires-10
-    row-requires-11
-    allow-requires-11
-    row-requires-12
-    allow-requires-12
+    (λ c κs. search needs)
+    (λ c κs. search needs)
+    (λ c κs. search needs)
+    (λ c κs. search needs)
+    (λ c κs. search needs)
+    (λ c κs. search needs)
+    (λ c κs. search needs)
+    (λ c κs. search needs)
+    (λ c κs. search needs)
+    (λ c κs. search needs)
+    (λ c κs. search needs)
+    (λ c κs. search needs)
+    (λ c κs. search needs)
+    (λ c κs. search needs)
+    (λ c κs. search needs)
+    (λ c κs. search needs)
+    (λ c. search needs)
+    (λ c κs. search needs)
+    (λ c κs. search needs)
+    (λ c κs. search needs)
+    (λ c κs. search needs)
+    (λ c κs. search needs)
+    (λ c κs. search needs)
+    (λ c κs. search needs)
+    (λ c κs. search needs)
     returns
     returns-2
     returns-3

@@ -18,29 +18,8 @@ Inv-loop lines out₀ i₀ out i = (i ≤ 64) × (length out ≡ 64) × (out ≡
 abbrev μ-loop : tie.MeasureT-loop
 μ-loop lines out₀ i₀ out i = 64 - i
 
-blank-lines-requires : tie.Need-blank-lines-requires Inv-loop μ-loop
-blank-lines-requires c κs = search needs
-
 loop-holds : tie.Need-loop-holds Inv-loop μ-loop
 loop-holds c = (omega arith, search needs, refl)
-
-mul-l : tie.Need-mul-l Inv-loop μ-loop
-mul-l c = search needs
-
-array-copy-out-l : tie.Need-array-copy-out-l Inv-loop μ-loop
-array-copy-out-l c = search needs
-
-mul-out : tie.Need-mul-out Inv-loop μ-loop
-mul-out c = search needs
-
-array-set-from-out : tie.Need-array-set-from-out Inv-loop μ-loop
-array-set-from-out c = search needs
-
-add-i : tie.Need-add-i Inv-loop μ-loop
-add-i c = search needs
-
-loop-less : tie.Need-loop-less Inv-loop μ-loop
-loop-less c = search needs
 
 loop-again : tie.Need-loop-again Inv-loop μ-loop
 loop-again c =
@@ -72,13 +51,13 @@ plain-lines-spec =
     (tie.spec
     Inv-loop
     μ-loop
-    blank-lines-requires
+    (λ c κs. search needs)
     loop-holds
-    mul-l
-    array-copy-out-l
-    mul-out
-    array-set-from-out
-    add-i
-    loop-less
+    (λ c. search needs)
+    (λ c. search needs)
+    (λ c. search needs)
+    (λ c. search needs)
+    (λ c. search needs)
+    (λ c. search needs)
     loop-again
     returns)

@@ -6,9 +6,6 @@ use borrow.Author.Needs.{needs}
 use Rattle.ceiling.proofs.second.beyond.Statement.{statement}
 use Rattle.ceiling.proofs.second.beyond.Tie as tie
 
-paid-requires : tie.Need-paid-requires
-paid-requires c κs = search needs
-
 returns : tie.Need-returns
 returns c = let a = c .before .before .args in beyond-unlimited (a .l) (a .amount .0) (c .if1 .taken)
 
@@ -23,4 +20,4 @@ returns-3 c =
     beyond-is (a .l) (a .amount .0) _ (c .before .if1 .left) (ap (λ (p : ℕ). p - a .l .fen .0) (c .before .before .paid .ensures))
 
 pub beyond-spec : {M : Type 1} → statement M
-beyond-spec = tie.close (tie.spec paid-requires returns returns-2 returns-3)
+beyond-spec = tie.close (tie.spec (λ c κs. search needs) returns returns-2 returns-3)

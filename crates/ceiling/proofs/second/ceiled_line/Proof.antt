@@ -16,17 +16,11 @@ amount-fits z h = small-fits z (natAbs z) (omega arith) (omega arith)
 half : (n : ℕ) → n < 2 ^ 60 → n < 2 ^ 63
 half n h = omega arith
 
-cast-amount : tie.Need-cast-amount
-cast-amount c = search needs
-
 add-amount : tie.Need-add-amount
 add-amount c =
     let s = c .before .before in
     let f : SFits w64 (s .args .s .amount .0) = amount-fits (s .args .s .amount .0) (s .pre .0) in
     rw (toZ-ofZ f, toZ-pos w64 (half (s .args .u) (s .pre .1 .0))) (plus-fits (s .args .s .amount .0) (s .args .u) (s .pre .0) (s .pre .1 .0))
-
-cast-amount-2 : tie.Need-cast-amount-2
-cast-amount-2 c = search needs
 
 sub-amount : tie.Need-sub-amount
 sub-amount c =
@@ -40,9 +34,6 @@ sub-amount c =
       toZ-pos w64 (half (s .args .g) (s .pre .1 .1)),
     )
     (minus-fits z (s .args .u) (s .args .g) (s .pre .0) (s .pre .1 .0) (s .pre .1 .1))
-
-with-amount-requires : tie.Need-with-amount-requires
-with-amount-requires c κs = search needs
 
 returns : tie.Need-returns
 returns c =
@@ -61,4 +52,4 @@ returns c =
 pub ceiled-line-spec : {M : Type 1} → statement M
 ceiled-line-spec =
     tie.close
-    (tie.spec cast-amount add-amount cast-amount-2 sub-amount with-amount-requires returns)
+    (tie.spec (λ c. search needs) add-amount (λ c. search needs) sub-amount (λ c κs. search needs) returns)

@@ -18,53 +18,14 @@ Inv-loop count lines shared us gs out₀ i₀ out i =
 abbrev μ-loop : tie.MeasureT-loop
 μ-loop count lines shared us gs out₀ i₀ out i = count - i
 
-cleared-lines-requires : tie.Need-cleared-lines-requires Inv-loop μ-loop
-cleared-lines-requires c κs = search needs
-
 loop-holds : tie.Need-loop-holds Inv-loop μ-loop
 loop-holds c = (omega arith, search needs, refl)
-
-mul-l : tie.Need-mul-l Inv-loop μ-loop
-mul-l c = search needs
-
-array-copy-out-l : tie.Need-array-copy-out-l Inv-loop μ-loop
-array-copy-out-l c = search needs
-
-mul-s : tie.Need-mul-s Inv-loop μ-loop
-mul-s c = search needs
-
-array-copy-out-s : tie.Need-array-copy-out-s Inv-loop μ-loop
-array-copy-out-s c = search needs
-
-mul-ceiled-line : tie.Need-mul-ceiled-line Inv-loop μ-loop
-mul-ceiled-line c = search needs
-
-array-read-ceiled-line : tie.Need-array-read-ceiled-line Inv-loop μ-loop
-array-read-ceiled-line c = search needs
-
-mul-ceiled-line-2 : tie.Need-mul-ceiled-line-2 Inv-loop μ-loop
-mul-ceiled-line-2 c = search needs
-
-array-read-ceiled-line-2 : tie.Need-array-read-ceiled-line-2 Inv-loop μ-loop
-array-read-ceiled-line-2 c = search needs
 
 ceiled-line-requires : tie.Need-ceiled-line-requires Inv-loop μ-loop
 ceiled-line-requires c κs =
     let s = c .before .before .before .before .before in
     let i = c .before .before .before .loop .i in
     (s .pre .1 .0 i (omega arith), (s .pre .1 .1 .0 i (omega arith), s .pre .1 .1 .1 i (omega arith)))
-
-mul-out : tie.Need-mul-out Inv-loop μ-loop
-mul-out c = search needs
-
-array-set-from-out : tie.Need-array-set-from-out Inv-loop μ-loop
-array-set-from-out c = search needs
-
-add-i : tie.Need-add-i Inv-loop μ-loop
-add-i c = search needs
-
-loop-less : tie.Need-loop-less Inv-loop μ-loop
-loop-less c = search needs
 
 loop-again : tie.Need-loop-again Inv-loop μ-loop
 loop-again c =
@@ -104,20 +65,20 @@ ceiled-lines-spec =
     (tie.spec
     Inv-loop
     μ-loop
-    cleared-lines-requires
+    (λ c κs. search needs)
     loop-holds
-    mul-l
-    array-copy-out-l
-    mul-s
-    array-copy-out-s
-    mul-ceiled-line
-    array-read-ceiled-line
-    mul-ceiled-line-2
-    array-read-ceiled-line-2
+    (λ c. search needs)
+    (λ c. search needs)
+    (λ c. search needs)
+    (λ c. search needs)
+    (λ c. search needs)
+    (λ c. search needs)
+    (λ c. search needs)
+    (λ c. search needs)
     ceiled-line-requires
-    mul-out
-    array-set-from-out
-    add-i
-    loop-less
+    (λ c. search needs)
+    (λ c. search needs)
+    (λ c. search needs)
+    (λ c. search needs)
     loop-again
     returns)

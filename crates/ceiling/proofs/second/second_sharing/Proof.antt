@@ -31,9 +31,6 @@ uncollected-of-requires c κs = c .before .pre .few
 positives-requires : tie.Need-positives-requires
 positives-requires c κs = c .before .before .pre .few
 
-array-share-prefix-us : tie.Need-array-share-prefix-us
-array-share-prefix-us c = search needs
-
 slice-aggregate-total : tie.Need-slice-aggregate-total
 slice-aggregate-total c =
     let s = c .before .before .before .before in
@@ -43,9 +40,6 @@ slice-aggregate-total c =
 total-requires : tie.Need-total-requires
 total-requires c κs = omega (arith, fit (c .before) .0)
 
-array-share-prefix-ps : tie.Need-array-share-prefix-ps
-array-share-prefix-ps c = search needs
-
 slice-aggregate-total-2 : tie.Need-slice-aggregate-total-2
 slice-aggregate-total-2 c =
     let s = c .before .before .before .before .before .before in
@@ -54,9 +48,6 @@ slice-aggregate-total-2 c =
 
 total-requires-2 : tie.Need-total-requires-2
 total-requires-2 c κs = omega (arith, fit (c .before .before .before) .1)
-
-refuse-requires : tie.Need-refuse-requires
-refuse-requires c κs = search needs
 
 returns : tie.Need-returns
 returns c =
@@ -107,13 +98,13 @@ second-sharing-spec =
     (tie.spec
     uncollected-of-requires
     positives-requires
-    array-share-prefix-us
+    (λ c. search needs)
     slice-aggregate-total
     total-requires
-    array-share-prefix-ps
+    (λ c. search needs)
     slice-aggregate-total-2
     total-requires-2
-    refuse-requires
+    (λ c κs. search needs)
     returns
     given-up-requires
     ceiled-lines-requires

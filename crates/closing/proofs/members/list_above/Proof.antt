@@ -9,45 +9,18 @@ Inv-loop entries count joined series lengths ramps n₀ i₀ n i = Unit {0}
 abbrev μ-loop : tie.MeasureT-loop
 μ-loop entries count joined series lengths ramps n₀ i₀ n i = count - i
 
-loop-holds : tie.Need-loop-holds Inv-loop μ-loop
-loop-holds c = search needs
-
-part-of-requires : tie.Need-part-of-requires Inv-loop μ-loop
-part-of-requires c κs = search needs
-
-entry-at-requires : tie.Need-entry-at-requires Inv-loop μ-loop
-entry-at-requires c κs = search needs
-
-ramped-at-requires : tie.Need-ramped-at-requires Inv-loop μ-loop
-ramped-at-requires c κs = search needs
-
-list-high-requires : tie.Need-list-high-requires Inv-loop μ-loop
-list-high-requires c κs = search needs
-
-add-i : tie.Need-add-i Inv-loop μ-loop
-add-i c = search needs
-
-loop-less : tie.Need-loop-less Inv-loop μ-loop
-loop-less c = search needs
-
-loop-again : tie.Need-loop-again Inv-loop μ-loop
-loop-again c = search needs
-
-returns : tie.Need-returns Inv-loop μ-loop
-returns c = search needs
-
 pub list-above-spec : {M : Type 1} → statement M
 list-above-spec =
     tie.close
     (tie.spec
     Inv-loop
     μ-loop
-    loop-holds
-    part-of-requires
-    entry-at-requires
-    ramped-at-requires
-    list-high-requires
-    add-i
-    loop-less
-    loop-again
-    returns)
+    (λ c. search needs)
+    (λ c κs. search needs)
+    (λ c κs. search needs)
+    (λ c κs. search needs)
+    (λ c κs. search needs)
+    (λ c. search needs)
+    (λ c. search needs)
+    (λ c. search needs)
+    (λ c. search needs))

@@ -5,19 +5,10 @@ use borrow.Author.Needs.{needs}
 use Rattle.day_runs.proofs.places.begins_at.Statement.{statement}
 use Rattle.day_runs.proofs.places.begins_at.Tie as tie
 
-add-minute : tie.Need-add-minute
-add-minute c = search needs
-
-run-begins-requires : tie.Need-run-begins-requires
-run-begins-requires c κs = search needs
-
 returns : tie.Need-returns
 returns c =
     let a = c .before .before .before .before .before .before .args in
     λ m. c .run-begins .ensures ∙ sym (deep-begins (dayAt m (a .b .now) (a .deep .now) (a .reserves .now) (a .series .now) (a .first)) (a .place) (c .before .if1 .taken))
-
-run-begins-requires-2 : tie.Need-run-begins-requires-2
-run-begins-requires-2 c κs = search needs
 
 returns-2 : tie.Need-returns-2
 returns-2 c =
@@ -26,4 +17,4 @@ returns-2 c =
 
 pub begins-at-spec : {M : Type 1} → statement M
 begins-at-spec =
-    tie.close (tie.spec add-minute run-begins-requires returns run-begins-requires-2 returns-2)
+    tie.close (tie.spec (λ c. search needs) (λ c κs. search needs) returns (λ c κs. search needs) returns-2)

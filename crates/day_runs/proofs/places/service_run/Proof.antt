@@ -13,38 +13,8 @@ use Rattle.day_runs.proofs.places.service_run.Tie as tie
 pays : (c : tie.After-struct-known) → c .before .before .before .before .run-length .result * c .before .minute-at .result .0 ≤ mostRun
 pays c = mul-le-mul {n₂ = 1440} {m₂ = mostMinute} (omega (arith, c .before .before .before .before .run-length .ensures .1)) (c .before .minute-at .ensures .1)
 
-add-at : tie.Need-add-at
-add-at c = search needs
-
-sub-run-length : tie.Need-sub-run-length
-sub-run-length c = search needs
-
-run-length-requires : tie.Need-run-length-requires
-run-length-requires c κs = search needs
-
-call-over-requires : tie.Need-call-over-requires
-call-over-requires c κs = search needs
-
-output-at-requires : tie.Need-output-at-requires
-output-at-requires c κs = search needs
-
-minute-at-requires : tie.Need-minute-at-requires
-minute-at-requires c κs = search needs
-
-cast-pay : tie.Need-cast-pay
-cast-pay c = search needs
-
 mul-pay : tie.Need-mul-pay
 mul-pay c = record { fits = mul-under 1440 mostMinute (2 ^ 64) (omega (arith, c .before .before .before .before .run-length .ensures .1)) (c .before .minute-at .ensures .1) tt }
-
-cast-t17 : tie.Need-cast-t17
-cast-t17 c = search needs
-
-add-t15 : tie.Need-add-t15
-add-t15 c = search needs
-
-cast-t18 : tie.Need-cast-t18
-cast-t18 c = search needs
 
 add-t16 : tie.Need-add-t16
 add-t16 c = omega (arith, pays (c .before))
@@ -63,16 +33,16 @@ pub service-run-spec : {M : Type 1} → statement M
 service-run-spec =
     tie.close
     (tie.spec
-    add-at
-    sub-run-length
-    run-length-requires
-    call-over-requires
-    output-at-requires
-    minute-at-requires
-    cast-pay
+    (λ c. search needs)
+    (λ c. search needs)
+    (λ c κs. search needs)
+    (λ c κs. search needs)
+    (λ c κs. search needs)
+    (λ c κs. search needs)
+    (λ c. search needs)
     mul-pay
-    cast-t17
-    add-t15
-    cast-t18
+    (λ c. search needs)
+    (λ c. search needs)
+    (λ c. search needs)
     add-t16
     returns)

@@ -4,21 +4,6 @@ use borrow.Author.Needs.{needs}
 use Rattle.day_runs.proofs.runs.goes_on.Statement.{statement}
 use Rattle.day_runs.proofs.runs.goes_on.Tie as tie
 
-add-next : tie.Need-add-next
-add-next c = search needs
-
-covered-by-requires : tie.Need-covered-by-requires
-covered-by-requires c κs = search needs
-
-covered-by-requires-2 : tie.Need-covered-by-requires-2
-covered-by-requires-2 c κs = search needs
-
-output-at-requires : tie.Need-output-at-requires
-output-at-requires c κs = search needs
-
-output-at-requires-2 : tie.Need-output-at-requires-2
-output-at-requires-2 c κs = search needs
-
 returns : tie.Need-returns
 unfolding goesOn
 returns c =
@@ -29,9 +14,9 @@ pub goes-on-spec : {M : Type 1} → statement M
 goes-on-spec =
     tie.close
     (tie.spec
-    add-next
-    covered-by-requires
-    covered-by-requires-2
-    output-at-requires
-    output-at-requires-2
+    (λ c. search needs)
+    (λ c κs. search needs)
+    (λ c κs. search needs)
+    (λ c κs. search needs)
+    (λ c κs. search needs)
     returns)

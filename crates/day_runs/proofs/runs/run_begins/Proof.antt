@@ -16,9 +16,6 @@ before c =
     go : (f m : ℕ) → f ≤ m → (m ≡ f → ⊥) → f < m
     go f m l n = omega arith
 
-covered-by-requires : tie.Need-covered-by-requires
-covered-by-requires c κs = search needs
-
 returns : tie.Need-returns
 returns c =
     let a = c .before .before .before .before .before .args in
@@ -30,12 +27,6 @@ returns-2 c =
     let k = c .before .before .covered-by in
     sym (begins-at-first (a .series .now) (a .b .now) (a .places .now) (a .first) (a .minute) (k .result) (k .ensures) (omega arith) (c .if2 .taken))
 
-sub-goes-on : tie.Need-sub-goes-on
-sub-goes-on c = search needs
-
-goes-on-requires : tie.Need-goes-on-requires
-goes-on-requires c κs = search needs
-
 returns-3 : tie.Need-returns-3
 returns-3 c =
     let a = c .before .before .before .before .before .before .before .args in
@@ -46,4 +37,4 @@ returns-3 c =
 pub run-begins-spec : {M : Type 1} → statement M
 run-begins-spec =
     tie.close
-    (tie.spec covered-by-requires returns returns-2 sub-goes-on goes-on-requires returns-3)
+    (tie.spec (λ c κs. search needs) returns returns-2 (λ c. search needs) (λ c κs. search needs) returns-3)

@@ -13,9 +13,6 @@ none : (c : tie.Else1)
     screen (s .others .now) (s .book .now) .number ≡ 0
 none c = ap (λ (v : Verdict). v .number) (sym (c .before .before .screen .ensures)) ∙ c .if1 .left
 
-screen-requires : tie.Need-screen-requires
-screen-requires c κs = search needs
-
 returns : tie.Need-returns
 returns c = screened-out _ _ (c .before .before .screen .result) (c .before .before .screen .ensures) (c .if1 .taken)
 
@@ -26,4 +23,4 @@ returns-2 : tie.Need-returns-2
 returns-2 c = c .all-covered .ensures ∙ screened-in _ _ (none (c .before))
 
 pub adds-nothing-spec : {M : Type 1} → statement M
-adds-nothing-spec = tie.close (tie.spec screen-requires returns all-covered-requires returns-2)
+adds-nothing-spec = tie.close (tie.spec (λ c κs. search needs) returns all-covered-requires returns-2)

@@ -18,18 +18,6 @@ in-others c = let r = c .before .before .index-of in index-in _ _ (r .result) (r
 record-at-requires : tie.Need-record-at-requires
 record-at-requires c κs = let s = c .before .before in fits _ (s .args .i) (s .pre .1 .0) (s .pre .1 .1) .1
 
-key-requires : tie.Need-key-requires
-key-requires c κs = search needs
-
-index-of-requires : tie.Need-index-of-requires
-index-of-requires c κs = search needs
-
-enum-told : tie.Need-enum-told
-enum-told c = search needs
-
-enum-known-index : tie.Need-enum-known-index
-enum-known-index c = search needs
-
 place-of-requires : tie.Need-place-of-requires
 place-of-requires c κs = in-word _ (fits _ _ (c .before .before .before .before .before .before .before .before .pre .0) (in-others (c .before)) .0)
 
@@ -42,9 +30,6 @@ decide-at-requires c κs =
       omega (arith, fits _ (c .before .before .before .index .given .0 .0) (s .pre .0) (in-others (c .before .before .before)), c .before .place-of .ensures),
       omega (arith, fits _ (s .args .i) (s .pre .1 .0) (s .pre .1 .1), c .place-of2 .ensures),
     )
-
-is-first-requires : tie.Need-is-first-requires
-is-first-requires c κs = search needs
 
 returns : tie.Need-returns
 returns c =
@@ -71,13 +56,13 @@ covered-at-spec =
     tie.close
     (tie.spec
     record-at-requires
-    key-requires
-    index-of-requires
-    enum-told
-    enum-known-index
+    (λ c κs. search needs)
+    (λ c κs. search needs)
+    (λ c. search needs)
+    (λ c. search needs)
     place-of-requires
     place-of-requires-2
     decide-at-requires
-    is-first-requires
+    (λ c κs. search needs)
     returns
     returns-2)

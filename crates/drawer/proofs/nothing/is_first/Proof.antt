@@ -4,15 +4,6 @@ use borrow.Author.Needs.{needs}
 use Rattle.drawer.proofs.nothing.is_first.Statement.{statement}
 use Rattle.drawer.proofs.nothing.is_first.Tie as tie
 
-enum-told : tie.Need-enum-told
-enum-told c = search needs
-
-enum-told-2 : tie.Need-enum-told-2
-enum-told-2 c = search needs
-
-enum-told-3 : tie.Need-enum-told-3
-enum-told-3 c = search needs
-
 returns : tie.Need-returns
 unfolding isFirst
 returns c = rw (c .enum-told .given .1) refl
@@ -26,4 +17,4 @@ unfolding isFirst
 returns-3 c = rw (c .enum-told3 .given .1) refl
 
 pub is-first-spec : {M : Type 1} → statement M
-is-first-spec = tie.close (tie.spec enum-told enum-told-2 enum-told-3 returns returns-2 returns-3)
+is-first-spec = tie.close (tie.spec (λ c. search needs) (λ c. search needs) (λ c. search needs) returns returns-2 returns-3)

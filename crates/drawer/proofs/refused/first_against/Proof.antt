@@ -22,9 +22,6 @@ loop-holds c = (omega arith, first-none _)
 record-at-requires : tie.Need-record-at-requires Inv-loop μ-loop
 record-at-requires c κs = omega arith
 
-clashes-requires : tie.Need-clashes-requires Inv-loop μ-loop
-clashes-requires c κs = search needs
-
 returns : tie.Need-returns Inv-loop μ-loop
 unfolding firstAgainst
 returns c =
@@ -65,7 +62,7 @@ first-against-spec =
     μ-loop
     loop-holds
     record-at-requires
-    clashes-requires
+    (λ c κs. search needs)
     returns
     add-j
     loop-less

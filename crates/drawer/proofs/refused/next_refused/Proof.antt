@@ -11,9 +11,6 @@ use Rattle.drawer.proofs.refused.next_refused.Tie as tie
 none : (c : tie.Else1) → check (c .before .before .before .args .b .now) .number ≡ 0
 none c = ap (λ (v : Verdict). v .number) (sym (c .before .check .ensures)) ∙ c .if1 .left
 
-check-requires : tie.Need-check-requires
-check-requires c κs = search needs
-
 returns : tie.Need-returns
 returns c = book-refused _ _ _ (c .before .check .result) (c .before .check .ensures) (c .if1 .taken)
 
@@ -24,4 +21,4 @@ returns-2 : tie.Need-returns-2
 returns-2 c = c .refused-from .ensures ∙ next-of _ _ _ (none (c .before))
 
 pub next-refused-spec : {M : Type 1} → statement M
-next-refused-spec = tie.close (tie.spec check-requires returns refused-from-requires returns-2)
+next-refused-spec = tie.close (tie.spec (λ c κs. search needs) returns refused-from-requires returns-2)

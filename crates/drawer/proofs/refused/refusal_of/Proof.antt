@@ -7,20 +7,11 @@ use borrow.Author.Needs.{needs}
 use Rattle.drawer.proofs.refused.refusal_of.Statement.{statement}
 use Rattle.drawer.proofs.refused.refusal_of.Tie as tie
 
-record-at-requires : tie.Need-record-at-requires
-record-at-requires c κs = search needs
-
 refusal-at-requires : tie.Need-refusal-at-requires
 unfolding isOwnLive
 refusal-at-requires c κs =
     let p = c .before .before .before .before .before .before .pre in
     (omega (arith, p .0), (c .before .before .before .before .record-at .ensures, (p .1 .1, c .if1 .taken)))
-
-returns : tie.Need-returns
-returns c = search needs
-
-idle-refusal-requires : tie.Need-idle-refusal-requires
-idle-refusal-requires c κs = search needs
 
 returns-2 : tie.Need-returns-2
 unfolding isOwnLive
@@ -34,4 +25,4 @@ returns-2 c =
 pub refusal-of-spec : {M : Type 1} → statement M
 refusal-of-spec =
     tie.close
-    (tie.spec record-at-requires refusal-at-requires returns idle-refusal-requires returns-2)
+    (tie.spec (λ c κs. search needs) refusal-at-requires (λ c. search needs) (λ c κs. search needs) returns-2)

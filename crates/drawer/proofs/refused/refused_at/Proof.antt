@@ -5,9 +5,6 @@ use borrow.Author.Needs.{needs}
 use Rattle.drawer.proofs.refused.refused_at.Statement.{statement}
 use Rattle.drawer.proofs.refused.refused_at.Tie as tie
 
-record-at-requires : tie.Need-record-at-requires
-record-at-requires c κs = search needs
-
 first-against-requires : tie.Need-first-against-requires
 first-against-requires c κs = omega arith
 
@@ -16,4 +13,4 @@ unfolding refusedAt
 returns c = rw (c .first-against .ensures, c .before .record-at .ensures, c .before .before .before .pre .1) refl
 
 pub refused-at-spec : {M : Type 1} → statement M
-refused-at-spec = tie.close (tie.spec record-at-requires first-against-requires returns)
+refused-at-spec = tie.close (tie.spec (λ c κs. search needs) first-against-requires returns)

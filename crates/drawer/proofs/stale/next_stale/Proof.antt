@@ -13,9 +13,6 @@ none : (c : tie.Else1)
     screen (s .book .now) (s .joined .now) .number ≡ 0
 none c = ap (λ (v : Verdict). v .number) (sym (c .before .screen .ensures)) ∙ c .if1 .left
 
-screen-requires : tie.Need-screen-requires
-screen-requires c κs = search needs
-
 returns : tie.Need-returns
 returns c = next-refused _ _ _ (c .before .screen .result) (c .before .screen .ensures) (c .if1 .taken)
 
@@ -26,4 +23,4 @@ returns-2 : tie.Need-returns-2
 returns-2 c = c .stale-from .ensures ∙ next-of _ _ _ (none (c .before))
 
 pub next-stale-spec : {M : Type 1} → statement M
-next-stale-spec = tie.close (tie.spec screen-requires returns stale-from-requires returns-2)
+next-stale-spec = tie.close (tie.spec (λ c κs. search needs) returns stale-from-requires returns-2)

@@ -7,29 +7,11 @@ use Rattle.drawer.proofs.stale.stale_turn.Tie as tie
 record-at-requires : tie.Need-record-at-requires
 record-at-requires c κs = let s = c .before .before in fits _ (s .args .i) (s .pre .0) (s .pre .1 .1) .1
 
-key-requires : tie.Need-key-requires
-key-requires c κs = search needs
-
-index-of-requires : tie.Need-index-of-requires
-index-of-requires c κs = search needs
-
-enum-told : tie.Need-enum-told
-enum-told c = search needs
-
-enum-known-index : tie.Need-enum-known-index
-enum-known-index c = search needs
-
 record-at-requires-2 : tie.Need-record-at-requires-2
 record-at-requires-2 c κs =
     let x = c .before .index in
     let r = c .before .before .before .index-of in
     fits _ (x .given .0 .0) (c .before .before .before .before .before .before .before .before .pre .1 .0) (index-in _ _ (r .result) (r .ensures) (x .given .0 .0) (x .given .1)) .1
-
-same-call-requires : tie.Need-same-call-requires
-same-call-requires c κs = search needs
-
-why-not-requires : tie.Need-why-not-requires
-why-not-requires c κs = search needs
 
 returns : tie.Need-returns
 returns c =
@@ -54,12 +36,12 @@ stale-turn-spec =
     tie.close
     (tie.spec
     record-at-requires
-    key-requires
-    index-of-requires
-    enum-told
-    enum-known-index
+    (λ c κs. search needs)
+    (λ c κs. search needs)
+    (λ c. search needs)
+    (λ c. search needs)
     record-at-requires-2
-    same-call-requires
-    why-not-requires
+    (λ c κs. search needs)
+    (λ c κs. search needs)
     returns
     returns-2)

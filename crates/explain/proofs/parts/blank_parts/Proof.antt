@@ -6,12 +6,9 @@ use borrow.Author.Needs.{needs}
 use Rattle.explain.proofs.parts.blank_parts.Statement.{statement}
 use Rattle.explain.proofs.parts.blank_parts.Tie as tie
 
-blank-part-requires : tie.Need-blank-part-requires
-blank-part-requires c κs = search needs
-
 returns : tie.Need-returns
 unfolding filledUp
 returns c = ap (λ (p : CallPart). replicate 512 p) (c .blank-part .ensures)
 
 pub blank-parts-spec : {M : Type 1} → statement M
-blank-parts-spec = tie.close (tie.spec blank-part-requires returns)
+blank-parts-spec = tie.close (tie.spec (λ c κs. search needs) returns)

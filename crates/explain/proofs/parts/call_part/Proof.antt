@@ -14,18 +14,6 @@ part i rate wh grains quarters = record { place = i; rate = rate; wh = record { 
 same : (i : ℕ) {r r′ g g′ q q′ : ℕ} {w w′ : ℤ} → r ≡ r′ → w ≡ w′ → g ≡ g′ → q ≡ q′ → part i r w g q ≡ part i r′ w′ g′ q′
 same i a b c d = rw (a, b, c, d) refl
 
-live-rate-requires : tie.Need-live-rate-requires
-live-rate-requires c κs = search needs
-
-live-wh-requires : tie.Need-live-wh-requires
-live-wh-requires c κs = search needs
-
-live-pay-requires : tie.Need-live-pay-requires
-live-pay-requires c κs = search needs
-
-quarters-paid-requires : tie.Need-quarters-paid-requires
-quarters-paid-requires c κs = search needs
-
 returns : tie.Need-returns
 unfolding callPart
 returns c =
@@ -35,4 +23,4 @@ returns c =
 pub call-part-spec : {M : Type 1} → statement M
 call-part-spec =
     tie.close
-    (tie.spec live-rate-requires live-wh-requires live-pay-requires quarters-paid-requires returns)
+    (tie.spec (λ c κs. search needs) (λ c κs. search needs) (λ c κs. search needs) (λ c κs. search needs) returns)

@@ -13,12 +13,6 @@ use Rattle.explain.proofs.parts.live_wh.Tie as tie
 a-fits : (c : tie.After-struct-told) → mag (c .before .before .before .args .x .a) < 2 ^ 31
 a-fits c = omega arith
 
-is-by-energy-requires : tie.Need-is-by-energy-requires
-is-by-energy-requires c κs = search needs
-
-event-wh-requires : tie.Need-event-wh-requires
-event-wh-requires c κs = search needs
-
 returns : tie.Need-returns
 returns c =
     let a = c .before .before .before .before .args in
@@ -31,4 +25,4 @@ returns-2 c =
     (sym (no-energy (a .member .kind) (a .x) (sym (c .before .is-by-energy .ensures) ∙ c .if1 .left)), omega arith)
 
 pub live-wh-spec : {M : Type 1} → statement M
-live-wh-spec = tie.close (tie.spec is-by-energy-requires event-wh-requires returns returns-2)
+live-wh-spec = tie.close (tie.spec (λ c κs. search needs) (λ c κs. search needs) returns returns-2)

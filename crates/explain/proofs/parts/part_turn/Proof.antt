@@ -14,12 +14,6 @@ own : (c : tie.After-is-own-live) → c .is-own-live .result
     ≡ isOwnLive (c .before .before .before .before .args .member) (recordAt (c .before .before .before .before .args .b .now) (c .before .before .before .before .args .i))
 own c = c .is-own-live .ensures ∙ ap (isOwnLive (c .before .before .before .before .args .member)) (c .before .record-at .ensures)
 
-record-at-requires : tie.Need-record-at-requires
-record-at-requires c κs = search needs
-
-is-own-live-requires : tie.Need-is-own-live-requires
-is-own-live-requires c κs = search needs
-
 call-part-requires : tie.Need-call-part-requires
 call-part-requires c κs =
     let p = c .before .before .before .before .before .pre in
@@ -33,9 +27,6 @@ returns c =
     let yes = turn-yes (a .member) (a .b .now) (a .series .now) (a .i) (sym (own (c .before .before)) ∙ c .before .if1 .taken) in
     (ap (λ (p : CallPart). record { count = 1; part = p }) e ∙ sym yes, c .call-part .ensures .1)
 
-blank-part-requires : tie.Need-blank-part-requires
-blank-part-requires c κs = search needs
-
 returns-2 : tie.Need-returns-2
 unfolding blankPart
 returns-2 c =
@@ -47,9 +38,9 @@ pub part-turn-spec : {M : Type 1} → statement M
 part-turn-spec =
     tie.close
     (tie.spec
-    record-at-requires
-    is-own-live-requires
+    (λ c κs. search needs)
+    (λ c κs. search needs)
     call-part-requires
     returns
-    blank-part-requires
+    (λ c κs. search needs)
     returns-2)

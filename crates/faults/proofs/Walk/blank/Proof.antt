@@ -6,16 +6,10 @@ use borrow.Author.Needs.{needs}
 use Rattle.faults.proofs.Walk.blank.Statement.{statement}
 use Rattle.faults.proofs.Walk.blank.Tie as tie
 
-wrapping-add-usize-requires : tie.Need-wrapping-add-usize-requires
-wrapping-add-usize-requires c κs = search needs
-
-sub-t7 : tie.Need-sub-t7
-sub-t7 c = search needs
-
 returns : tie.Need-returns
 unfolding isSound
 returns c = let a = c .before .before .before .before .args in
     (λ text end held. by-held text (a .self) end held (c .before .wrapping-add-usize .result) (a .self .blanks - 1) (c .before .wrapping-add-usize .ensures) refl, refl)
 
 pub blank-spec : {M : Type 1} → statement M
-blank-spec = tie.close (tie.spec wrapping-add-usize-requires sub-t7 returns)
+blank-spec = tie.close (tie.spec (λ c κs. search needs) (λ c. search needs) returns)

@@ -6,27 +6,12 @@ use borrow.Author.Needs.{needs}
 use Rattle.faults.proofs.Walk.ended.Statement.{statement}
 use Rattle.faults.proofs.Walk.ended.Tie as tie
 
-is-heading-requires : tie.Need-is-heading-requires
-is-heading-requires c κs = search needs
-
-passing-requires : tie.Need-passing-requires
-passing-requires c κs = search needs
-
 returns : tie.Need-returns
 returns c = (
   λ text end. by-heading text (c .before .before .before .before .args .self) end (sym (c .before .before .is-heading .ensures) ∙ c .before .if1 .taken) (c .passing .result)
       (c .passing .ensures),
   λ s. c .passing .ensures .at,
 )
-
-is-blank-requires : tie.Need-is-blank-requires
-is-blank-requires c κs = search needs
-
-wrapping-add-usize-requires : tie.Need-wrapping-add-usize-requires
-wrapping-add-usize-requires c κs = search needs
-
-passing-requires-2 : tie.Need-passing-requires-2
-passing-requires-2 c κs = search needs
 
 returns-2 : tie.Need-returns-2
 returns-2 c = (
@@ -35,9 +20,6 @@ returns-2 c = (
       (c .before .wrapping-add-usize .result) (c .before .wrapping-add-usize .ensures) (c .passing2 .ensures),
   λ s. c .passing2 .ensures .at,
 )
-
-blank-requires : tie.Need-blank-requires
-blank-requires c κs = search needs
 
 returns-3 : tie.Need-returns-3
 returns-3 c = (
@@ -50,9 +32,6 @@ returns-3 c = (
   }),
   λ s. absurd (holds-or-fails s (c .blank .ensures .1)),
 )
-
-line-requires : tie.Need-line-requires
-line-requires c κs = search needs
 
 returns-4 : tie.Need-returns-4
 returns-4 c = (
@@ -70,14 +49,14 @@ pub ended-spec : {M : Type 1} → statement M
 ended-spec =
     tie.close
     (tie.spec
-    is-heading-requires
-    passing-requires
+    (λ c κs. search needs)
+    (λ c κs. search needs)
     returns
-    is-blank-requires
-    wrapping-add-usize-requires
-    passing-requires-2
+    (λ c κs. search needs)
+    (λ c κs. search needs)
+    (λ c κs. search needs)
     returns-2
-    blank-requires
+    (λ c κs. search needs)
     returns-3
-    line-requires
+    (λ c κs. search needs)
     returns-4)

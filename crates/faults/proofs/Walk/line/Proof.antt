@@ -12,27 +12,6 @@ use borrow.Author.Needs.{needs}
 use Rattle.faults.proofs.Walk.line.Statement.{statement}
 use Rattle.faults.proofs.Walk.line.Tie as tie
 
-cells-of-requires : tie.Need-cells-of-requires
-cells-of-requires c κs = search needs
-
-line-fault-requires : tie.Need-line-fault-requires
-line-fault-requires c κs = search needs
-
-wrapping-add-usize-requires : tie.Need-wrapping-add-usize-requires
-wrapping-add-usize-requires c κs = search needs
-
-array-read-number-of : tie.Need-array-read-number-of
-array-read-number-of c = search needs
-
-number-of-requires : tie.Need-number-of-requires
-number-of-requires c κs = search needs
-
-passing-requires : tie.Need-passing-requires
-passing-requires c κs = search needs
-
-is-sound-requires : tie.Need-is-sound-requires
-is-sound-requires c κs = search needs
-
 returns : tie.Need-returns
 returns c = let a = c .before .before .before .before .before .before .before .before .before .before .args in
     let row = c .before .before .before .before .before .before .before .cells-of in let cells = row .result .cells in let are = row .ensures .are in
@@ -62,12 +41,12 @@ pub line-spec : {M : Type 1} → statement M
 line-spec =
     tie.close
     (tie.spec
-    cells-of-requires
-    line-fault-requires
-    wrapping-add-usize-requires
-    array-read-number-of
-    number-of-requires
-    passing-requires
-    is-sound-requires
+    (λ c κs. search needs)
+    (λ c κs. search needs)
+    (λ c κs. search needs)
+    (λ c. search needs)
+    (λ c κs. search needs)
+    (λ c κs. search needs)
+    (λ c κs. search needs)
     returns
     returns-2)

@@ -21,15 +21,6 @@ abbrev μ-loop : tie.MeasureT-loop
 loop-holds : tie.Need-loop-holds Inv-loop μ-loop
 loop-holds c = λ left w. w
 
-to-end-requires : tie.Need-to-end-requires Inv-loop μ-loop
-to-end-requires c κs = search needs
-
-ended-requires : tie.Need-ended-requires Inv-loop μ-loop
-ended-requires c κs = search needs
-
-is-sound-requires : tie.Need-is-sound-requires Inv-loop μ-loop
-is-sound-requires c κs = search needs
-
 returns : tie.Need-returns Inv-loop μ-loop
 returns c = let a = c .before .before .before .before .before .before .before .before .before .args in let l = c .before .before .before .before .before .before .before .loop in
     let to = c .before .before .before .before .to-end in let r = c .before .before .before .ended in let told = r .ensures .0 (a .text .now) (to .ensures .ends) in
@@ -54,9 +45,6 @@ loop-again c = let a = c .before .before .before .before .before .before .before
     let s = sym (c .before .before .is-sound .ensures) ∙ not-false _ (c .before .if2 .left) in let within : to .result .at ≤ length (a .text .now) = to .ensures .within (omega arith) in
     λ left w. goes-on (a .text .now) (a .self) (l .walk) (to .result) (l .inv) (to .ensures) (r .result) told s within left w
 
-ended-requires-2 : tie.Need-ended-requires-2 Inv-loop μ-loop
-ended-requires-2 c κs = search needs
-
 returns-2 : tie.Need-returns-2 Inv-loop μ-loop
 returns-2 c = let a = c .before .before .before .before .before .args in let l = c .before .before .before .loop in
     let told = c .ended2 .ensures .0 (a .text .now) (λ h. absurd (omega arith)) in (
@@ -72,11 +60,11 @@ next-fault-spec =
     Inv-loop
     μ-loop
     loop-holds
-    to-end-requires
-    ended-requires
-    is-sound-requires
+    (λ c κs. search needs)
+    (λ c κs. search needs)
+    (λ c κs. search needs)
     returns
     loop-less
     loop-again
-    ended-requires-2
+    (λ c κs. search needs)
     returns-2)

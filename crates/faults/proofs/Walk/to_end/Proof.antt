@@ -26,9 +26,6 @@ shared-slice-read-if1 c = omega arith
 returns : tie.Need-returns Inv-loop μ-loop
 returns c = let l = c .before .before .before .loop in record { on = l .inv .0; within = l .inv .1; ends = λ h. c .if1 .taken; same = l .inv .3 }
 
-slice-aggregate-step : tie.Need-slice-aggregate-step Inv-loop μ-loop
-slice-aggregate-step c = search needs
-
 step-requires : tie.Need-step-requires Inv-loop μ-loop
 step-requires c κs = (omega arith, (omega arith, c .before .if1 .left))
 
@@ -57,7 +54,7 @@ to-end-spec =
     loop-holds
     shared-slice-read-if1
     returns
-    slice-aggregate-step
+    (λ c. search needs)
     step-requires
     loop-less
     loop-again

@@ -5,21 +5,6 @@ use borrow.Author.Needs.{needs}
 use Rattle.faults.proofs.words.put_count.Statement.{statement}
 use Rattle.faults.proofs.words.put_count.Tie as tie
 
-put-word-requires : tie.Need-put-word-requires
-put-word-requires c κs = search needs
-
-put-has-requires : tie.Need-put-has-requires
-put-has-requires c κs = search needs
-
-put-lines-requires : tie.Need-put-lines-requires
-put-lines-requires c κs = search needs
-
-put-wanted-requires : tie.Need-put-wanted-requires
-put-wanted-requires c κs = search needs
-
-same-length : tie.Need-same-length
-same-length c = search needs
-
 returns : tie.Need-returns
 unfolding countText
 returns c =
@@ -33,9 +18,9 @@ pub put-count-spec : {M : Type 1} → statement M
 put-count-spec =
     tie.close
     (tie.spec
-    put-word-requires
-    put-has-requires
-    put-lines-requires
-    put-wanted-requires
-    same-length
+    (λ c κs. search needs)
+    (λ c κs. search needs)
+    (λ c κs. search needs)
+    (λ c κs. search needs)
+    (λ c. search needs)
     returns)

@@ -7,85 +7,25 @@ use borrow.Author.Needs.{needs}
 use Rattle.faults.proofs.words.put_wrong.Statement.{statement}
 use Rattle.faults.proofs.words.put_wrong.Tie as tie
 
-enum-told : tie.Need-enum-told
-enum-told c = search needs
-
-slice-aggregate-put-word : tie.Need-slice-aggregate-put-word
-slice-aggregate-put-word c = search needs
-
-put-word-requires : tie.Need-put-word-requires
-put-word-requires c κs = search needs
-
-enum-told-2 : tie.Need-enum-told-2
-enum-told-2 c = search needs
-
-slice-aggregate-put-word-2 : tie.Need-slice-aggregate-put-word-2
-slice-aggregate-put-word-2 c = search needs
-
-put-word-requires-2 : tie.Need-put-word-requires-2
-put-word-requires-2 c κs = search needs
-
-enum-known-wrong : tie.Need-enum-known-wrong
-enum-known-wrong c = search needs
-
-put-columns-requires : tie.Need-put-columns-requires
-put-columns-requires c κs = search needs
-
-enum-known-wrong-2 : tie.Need-enum-known-wrong-2
-enum-known-wrong-2 c = search needs
-
-put-no-number-requires : tie.Need-put-no-number-requires
-put-no-number-requires c κs = search needs
-
-enum-known-wrong-3 : tie.Need-enum-known-wrong-3
-enum-known-wrong-3 c = search needs
-
-put-outside-requires : tie.Need-put-outside-requires
-put-outside-requires c κs = search needs
-
-enum-known-wrong-4 : tie.Need-enum-known-wrong-4
-enum-known-wrong-4 c = search needs
-
-put-not-above-requires : tie.Need-put-not-above-requires
-put-not-above-requires c κs = search needs
-
-same-length : tie.Need-same-length
-same-length c = search needs
-
 returns : tie.Need-returns
 returns c = same-put (ap (λ (w : Wrong). wrongText (c .before .before .before .before .before .before .before .before .args .table) w) (sym
     (c .before .before .before .before .before .enum-told .given .1))) (looser _ (omega arith) (c .before .before .put-word .ensures))
-
-same-length-2 : tie.Need-same-length-2
-same-length-2 c = search needs
 
 returns-2 : tie.Need-returns-2
 returns-2 c = same-put (ap (λ (w : Wrong). wrongText (c .before .before .before .before .before .before .before .before .args .table) w) (sym
     (c .before .before .before .before .before .enum-told2 .given .1))) (looser _ (omega arith) (c .before .before .put-word2 .ensures))
 
-same-length-3 : tie.Need-same-length-3
-same-length-3 c = search needs
-
 returns-3 : tie.Need-returns-3
 returns-3 c = same-put (ap (λ (w : Wrong). wrongText (c .before .before .before .before .before .before .before .before .args .table) w) (sym
     (c .before .before .before .before .before .wrong .given .1))) (c .before .before .put-columns .ensures)
-
-same-length-4 : tie.Need-same-length-4
-same-length-4 c = search needs
 
 returns-4 : tie.Need-returns-4
 returns-4 c = same-put (ap (λ (w : Wrong). wrongText (c .before .before .before .before .before .before .before .before .args .table) w) (sym
     (c .before .before .before .before .before .wrong2 .given .1))) (c .before .before .put-no-number .ensures)
 
-same-length-5 : tie.Need-same-length-5
-same-length-5 c = search needs
-
 returns-5 : tie.Need-returns-5
 returns-5 c = same-put (ap (λ (w : Wrong). wrongText (c .before .before .before .before .before .before .before .before .args .table) w) (sym
     (c .before .before .before .before .before .wrong3 .given .1))) (c .before .before .put-outside .ensures)
-
-same-length-6 : tie.Need-same-length-6
-same-length-6 c = search needs
 
 returns-6 : tie.Need-returns-6
 returns-6 c = same-put (ap (λ (w : Wrong). wrongText (c .before .before .before .before .before .before .before .before .args .table) w) (sym
@@ -95,29 +35,29 @@ pub put-wrong-spec : {M : Type 1} → statement M
 put-wrong-spec =
     tie.close
     (tie.spec
-    enum-told
-    slice-aggregate-put-word
-    put-word-requires
-    enum-told-2
-    slice-aggregate-put-word-2
-    put-word-requires-2
-    enum-known-wrong
-    put-columns-requires
-    enum-known-wrong-2
-    put-no-number-requires
-    enum-known-wrong-3
-    put-outside-requires
-    enum-known-wrong-4
-    put-not-above-requires
-    same-length
+    (λ c. search needs)
+    (λ c. search needs)
+    (λ c κs. search needs)
+    (λ c. search needs)
+    (λ c. search needs)
+    (λ c κs. search needs)
+    (λ c. search needs)
+    (λ c κs. search needs)
+    (λ c. search needs)
+    (λ c κs. search needs)
+    (λ c. search needs)
+    (λ c κs. search needs)
+    (λ c. search needs)
+    (λ c κs. search needs)
+    (λ c. search needs)
     returns
-    same-length-2
+    (λ c. search needs)
     returns-2
-    same-length-3
+    (λ c. search needs)
     returns-3
-    same-length-4
+    (λ c. search needs)
     returns-4
-    same-length-5
+    (λ c. search needs)
     returns-5
-    same-length-6
+    (λ c. search needs)
     returns-6)

@@ -3,18 +3,6 @@ use borrow.Author.Needs.{needs}
 use Rattle.grid.proofs.Grid.after_run.Statement.{statement}
 use Rattle.grid.proofs.Grid.after_run.Tie as tie
 
-opened-requires : tie.Need-opened-requires
-opened-requires c κs = search needs
-
-so-far-requires : tie.Need-so-far-requires
-so-far-requires c κs = search needs
-
-run-from-requires : tie.Need-run-from-requires
-run-from-requires c κs = search needs
-
-digits-requires : tie.Need-digits-requires
-digits-requires c κs = search needs
-
 returns : tie.Need-returns
 returns c = let s = c .before .before .before .before .before in
     let a = s .args in
@@ -24,4 +12,4 @@ returns c = let s = c .before .before .before .before .before in
 
 pub after-run-spec : {M : Type 1} → statement M
 after-run-spec =
-    tie.close (tie.spec opened-requires so-far-requires run-from-requires digits-requires returns)
+    tie.close (tie.spec (λ c κs. search needs) (λ c κs. search needs) (λ c κs. search needs) (λ c κs. search needs) returns)

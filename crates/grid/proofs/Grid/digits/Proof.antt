@@ -5,12 +5,9 @@ use borrow.Author.Needs.{needs}
 use Rattle.grid.proofs.Grid.digits.Statement.{statement}
 use Rattle.grid.proofs.Grid.digits.Tie as tie
 
-digits-requires : tie.Need-digits-requires
-digits-requires c κs = search needs
-
 returns : tie.Need-returns
 returns c = let g = c .before .args .self in
     ap (λ (x : Cell). record { stage = 4; separator = g .separator; filled = true; shut = g .shut; cell = x; at = g .at }) (c .digits .ensures)
 
 pub digits-spec : {M : Type 1} → statement M
-digits-spec = tie.close (tie.spec digits-requires returns)
+digits-spec = tie.close (tie.spec (λ c κs. search needs) returns)

@@ -3,9 +3,6 @@ use borrow.Author.Needs.{needs}
 use Rattle.grid.proofs.Grid.known.Statement.{statement}
 use Rattle.grid.proofs.Grid.known.Tie as tie
 
-is-separator-requires : tie.Need-is-separator-requires
-is-separator-requires c κs = search needs
-
 returns : tie.Need-returns
 returns c = rw (sym (c .before .is-separator .ensures) ∙ c .if1 .taken)
 
@@ -13,4 +10,4 @@ returns-2 : tie.Need-returns-2
 returns-2 c = rw (sym (c .before .is-separator .ensures) ∙ c .if1 .left)
 
 pub known-spec : {M : Type 1} → statement M
-known-spec = tie.close (tie.spec is-separator-requires returns returns-2)
+known-spec = tie.close (tie.spec (λ c κs. search needs) returns returns-2)

@@ -7,19 +7,10 @@ use borrow.Author.Needs.{needs}
 use Rattle.grid.proofs.Grid.marked.Statement.{statement}
 use Rattle.grid.proofs.Grid.marked.Tie as tie
 
-first-requires : tie.Need-first-requires
-first-requires c κs = search needs
-
 returns : tie.Need-returns
 returns c = let s = c .before .before in
     λ ended. subst (λ (r : Grid). Follows (s .args .self) ended (s .args .b) r ended) (sym (c .first .ensures))
     (by-mark-last (s .args .self) (s .args .b) (s .pre .1) (s .pre .0) (omega arith) ended)
-
-add-self : tie.Need-add-self
-add-self c = search needs
-
-spoilt-requires : tie.Need-spoilt-requires
-spoilt-requires c κs = search needs
 
 returns-2 : tie.Need-returns-2
 returns-2 c = let s = c .before .before in
@@ -27,4 +18,4 @@ returns-2 c = let s = c .before .before in
     (by-mark-more (s .args .self) (s .args .b) (s .pre .1) (s .pre .0) (omega arith) ended)
 
 pub marked-spec : {M : Type 1} → statement M
-marked-spec = tie.close (tie.spec first-requires returns add-self spoilt-requires returns-2)
+marked-spec = tie.close (tie.spec (λ c κs. search needs) returns (λ c. search needs) (λ c κs. search needs) returns-2)

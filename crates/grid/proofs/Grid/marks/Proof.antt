@@ -5,9 +5,6 @@ use borrow.Author.Needs.{needs}
 use Rattle.grid.proofs.Grid.marks.Statement.{statement}
 use Rattle.grid.proofs.Grid.marks.Tie as tie
 
-mark-at-requires : tie.Need-mark-at-requires
-mark-at-requires c κs = search needs
-
 returns : tie.Need-returns
 returns c = let low : c .before .before .args .self .stage < 3 = omega arith in rw (lt-ltb (c .before .before .args .self .stage) 3 low, c .mark-at .ensures low)
 
@@ -15,4 +12,4 @@ returns-2 : tie.Need-returns-2
 returns-2 c = rw (le-ltb (c .before .args .self .stage) 3 (omega arith))
 
 pub marks-spec : {M : Type 1} → statement M
-marks-spec = tie.close (tie.spec mark-at-requires returns returns-2)
+marks-spec = tie.close (tie.spec (λ c κs. search needs) returns returns-2)

@@ -5,8 +5,5 @@ use Rattle.grid.proofs.Grid.opened.Tie as tie
 returns : tie.Need-returns
 returns c = rw (c .if1 .taken)
 
-returns-2 : tie.Need-returns-2
-returns-2 c = search needs
-
 pub opened-spec : {M : Type 1} → statement M
-opened-spec = tie.close (tie.spec returns returns-2)
+opened-spec = tie.close (tie.spec returns (λ c. search needs))

@@ -6,12 +6,6 @@ use borrow.Author.Needs.{needs}
 use Rattle.grid.proofs.Grid.other.Statement.{statement}
 use Rattle.grid.proofs.Grid.other.Tie as tie
 
-opened-requires : tie.Need-opened-requires
-opened-requires c κs = search needs
-
-marks-requires : tie.Need-marks-requires
-marks-requires c κs = search needs
-
 marked-requires : tie.Need-marked-requires
 marked-requires c κs = let s = c .before .before .before .before in
     (sym (c .before .marks .ensures) ∙ c .if1 .taken, open-clear (s .args .self) (c .before .before .opened .result) (s .args .b) (s .pre .1 .1) (c .before .before .opened .ensures))
@@ -21,17 +15,11 @@ returns c = let s = c .before .before .before .before .before in
     let o = c .before .before .before .opened in
     opens (s .args .self) (o .result) (s .args .b) (s .pre .1 .1) (o .ensures) (c .marked .result) (s .args .ended .now) (s .args .ended .now) (c .marked .ensures (s .args .ended .now))
 
-begun-requires : tie.Need-begun-requires
-begun-requires c κs = search needs
-
 typed-requires : tie.Need-typed-requires
 typed-requires c κs = let s = c .before .before .before .before .before .before in
     let o = c .before .before .before .before .opened in
     let clear = open-clear (s .args .self) (o .result) (s .args .b) (s .pre .1 .1) (o .ensures) in
     (search needs, (subst InLine (sym (c .before .begun .ensures)) (begun-in-line (o .result) clear), s .pre .1))
-
-same-length : tie.Need-same-length
-same-length c = search needs
 
 returns-2 : tie.Need-returns-2
 returns-2 c = let s = c .before .before .before .before .before .before .before .before .before in
@@ -44,11 +32,11 @@ pub other-spec : {M : Type 1} → statement M
 other-spec =
     tie.close
     (tie.spec
-    opened-requires
-    marks-requires
+    (λ c κs. search needs)
+    (λ c κs. search needs)
     marked-requires
     returns
-    begun-requires
+    (λ c κs. search needs)
     typed-requires
-    same-length
+    (λ c. search needs)
     returns-2)

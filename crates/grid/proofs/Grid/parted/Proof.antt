@@ -6,21 +6,6 @@ use borrow.Author.Needs.{needs}
 use Rattle.grid.proofs.Grid.parted.Statement.{statement}
 use Rattle.grid.proofs.Grid.parted.Tie as tie
 
-told-requires : tie.Need-told-requires
-told-requires c κs = search needs
-
-mul-ended : tie.Need-mul-ended
-mul-ended c = search needs
-
-slice-write-ended : tie.Need-slice-write-ended
-slice-write-ended c = search needs
-
-add-t8 : tie.Need-add-t8
-add-t8 c = search needs
-
-same-length : tie.Need-same-length
-same-length c = search needs
-
 returns : tie.Need-returns
 returns c = let s = c .before .before .before in
     let g = s .args .self in
@@ -36,4 +21,4 @@ returns-2 c = let s = c .before .before in
 pub parted-spec : {M : Type 1} → statement M
 parted-spec =
     tie.close
-    (tie.spec told-requires mul-ended slice-write-ended add-t8 same-length returns returns-2)
+    (tie.spec (λ c κs. search needs) (λ c. search needs) (λ c. search needs) (λ c. search needs) (λ c. search needs) returns returns-2)

@@ -3,25 +3,16 @@ use borrow.Author.Needs.{needs}
 use Rattle.grid.proofs.Grid.separated.Statement.{statement}
 use Rattle.grid.proofs.Grid.separated.Tie as tie
 
-known-requires : tie.Need-known-requires
-known-requires c κs = search needs
-
 parted-requires : tie.Need-parted-requires
 parted-requires c κs = let s = c .before .before .before .before .before in
     let k = known-line (s .args .self) (c .before .before .before .known .result) (s .args .b) (s .pre .1 .0) (s .pre .1 .1) (c .before .before .before .known .ensures) in
     (search needs, (k .0, k .1))
-
-same-length : tie.Need-same-length
-same-length c = search needs
 
 returns : tie.Need-returns
 returns c = let s = c .before .before .before .before .before .before .before .before in
     let k = c .before .before .before .before .before .before .known in
     separates (s .args .self) (k .result) (s .args .b) (s .pre .1 .0) (s .pre .1 .1) (k .ensures) (c .before .before .parted .result) (s .args .ended .now) _
     (c .before .before .before .before .if1 .taken) (c .before .before .parted .ensures)
-
-spoilt-requires : tie.Need-spoilt-requires
-spoilt-requires c κs = search needs
 
 returns-2 : tie.Need-returns-2
 returns-2 c = let s = c .before .before .before .before .before in
@@ -31,4 +22,4 @@ returns-2 c = let s = c .before .before .before .before .before in
 pub separated-spec : {M : Type 1} → statement M
 separated-spec =
     tie.close
-    (tie.spec known-requires parted-requires same-length returns spoilt-requires returns-2)
+    (tie.spec (λ c κs. search needs) parted-requires (λ c. search needs) returns (λ c κs. search needs) returns-2)

@@ -4,12 +4,6 @@ use borrow.Author.Needs.{needs}
 use Rattle.grid.proofs.Grid.step.Statement.{statement}
 use Rattle.grid.proofs.Grid.step.Tie as tie
 
-shared-slice-read-b : tie.Need-shared-slice-read-b
-shared-slice-read-b c = search needs
-
-is-digit-requires : tie.Need-is-digit-requires
-is-digit-requires c κs = search needs
-
 after-run-requires : tie.Need-after-run-requires
 after-run-requires c κs = let s = c .before .before .before .before .before in (s .pre .1 .0, sym (c .before .is-digit .ensures) ∙ c .if1 .taken)
 
@@ -18,12 +12,6 @@ returns c = c .after-run .ensures (c .before .before .before .before .before .be
 
 other-requires : tie.Need-other-requires
 other-requires c κs = let s = c .before .before .before .before .before .before in (search needs, (sym (c .before .before .is-digit .ensures) ∙ c .before .if1 .left, s .pre .1 .1))
-
-add-t12 : tie.Need-add-t12
-add-t12 c = search needs
-
-same-length : tie.Need-same-length
-same-length c = search needs
 
 returns-2 : tie.Need-returns-2
 returns-2 c = let s = c .before .before .before .before .before .before .before .before .before in
@@ -34,11 +22,11 @@ pub step-spec : {M : Type 1} → statement M
 step-spec =
     tie.close
     (tie.spec
-    shared-slice-read-b
-    is-digit-requires
+    (λ c. search needs)
+    (λ c κs. search needs)
     after-run-requires
     returns
     other-requires
-    add-t12
-    same-length
+    (λ c. search needs)
+    (λ c. search needs)
     returns-2)

@@ -7,41 +7,20 @@ use borrow.Author.Needs.{needs}
 use Rattle.grid.proofs.Grid.typed.Statement.{statement}
 use Rattle.grid.proofs.Grid.typed.Tie as tie
 
-is-separator-requires : tie.Need-is-separator-requires
-is-separator-requires c κs = search needs
-
 separated-requires : tie.Need-separated-requires
 separated-requires c κs = let s = c .before .before .before .before in (search needs, (s .pre .1 .0, sym (c .before .before .is-separator .ensures) ∙ c .before .if1 .taken))
-
-same-length : tie.Need-same-length
-same-length c = search needs
-
-returns : tie.Need-returns
-returns c = search needs
-
-quoted-requires : tie.Need-quoted-requires
-quoted-requires c κs = search needs
 
 returns-2 : tie.Need-returns-2
 returns-2 c = let s = c .before .before .before .before .before in
     subst (λ (b : ℕ). Follows (s .args .self) (s .args .ended .now) b (c .quoted .result) (s .args .ended .now)) (sym (c .before .if2 .taken)) (c .quoted .ensures (s .args .ended .now))
 
-returned-requires : tie.Need-returned-requires
-returned-requires c κs = search needs
-
 returns-3 : tie.Need-returns-3
 returns-3 c = let s = c .before .before .before .before .before .before in
     subst (λ (b : ℕ). Follows (s .args .self) (s .args .ended .now) b (c .returned .result) (s .args .ended .now)) (sym (c .before .if3 .taken)) (c .returned .ensures (s .args .ended .now))
 
-dashed-requires : tie.Need-dashed-requires
-dashed-requires c κs = search needs
-
 returns-4 : tie.Need-returns-4
 returns-4 c = let s = c .before .before .before .before .before .before .before in
     subst (λ (b : ℕ). Follows (s .args .self) (s .args .ended .now) b (c .dashed .result) (s .args .ended .now)) (sym (c .before .if4 .taken)) (c .dashed .ensures (s .args .ended .now))
-
-spoilt-requires : tie.Need-spoilt-requires
-spoilt-requires c κs = search needs
 
 returns-5 : tie.Need-returns-5
 returns-5 c = let s = c .before .before .before .before .before .before .before in
@@ -54,15 +33,15 @@ pub typed-spec : {M : Type 1} → statement M
 typed-spec =
     tie.close
     (tie.spec
-    is-separator-requires
+    (λ c κs. search needs)
     separated-requires
-    same-length
-    returns
-    quoted-requires
+    (λ c. search needs)
+    (λ c. search needs)
+    (λ c κs. search needs)
     returns-2
-    returned-requires
+    (λ c κs. search needs)
     returns-3
-    dashed-requires
+    (λ c κs. search needs)
     returns-4
-    spoilt-requires
+    (λ c κs. search needs)
     returns-5)

@@ -16,9 +16,6 @@ Inv-loop bytes first grid₀ ended₀ blank₀ judge₀ i₀ grid ended blank ju
 abbrev μ-loop : tie.MeasureT-loop
 μ-loop bytes first grid₀ ended₀ blank₀ judge₀ i₀ grid ended blank judge i = length bytes - i
 
-first-of-requires : tie.Need-first-of-requires Inv-loop μ-loop
-first-of-requires c κs = search needs
-
 loop-holds : tie.Need-loop-holds Inv-loop μ-loop
 loop-holds c = (omega arith, search needs, λ rest. refl)
 
@@ -50,9 +47,6 @@ loop-again c = let a = c .before .before .before .before .before .before .before
           (c .before .before .after .ensures) (c .before .blank-after .ensures) (c .next .ensures),
     )
 
-slice-aggregate-step : tie.Need-slice-aggregate-step Inv-loop μ-loop
-slice-aggregate-step c = search needs
-
 step-requires : tie.Need-step-requires Inv-loop μ-loop
 step-requires c κs = (omega arith, (omega arith, c .before .if1 .left))
 
@@ -82,7 +76,7 @@ feed-spec =
     (tie.spec
     Inv-loop
     μ-loop
-    first-of-requires
+    (λ c κs. search needs)
     loop-holds
     shared-slice-read-if1
     after-requires
@@ -91,7 +85,7 @@ feed-spec =
     add-i
     loop-less
     loop-again
-    slice-aggregate-step
+    (λ c. search needs)
     step-requires
     loop-less-2
     loop-again-2

@@ -7,9 +7,6 @@ use Rattle.hour_faults.proofs.Streaming.{settled-is, found-settled}
 use Rattle.hour_faults.proofs.Finder.is_settled.Statement.{statement}
 use Rattle.hour_faults.proofs.Finder.is_settled.Tie as tie
 
-is-sound-requires : tie.Need-is-sound-requires
-is-sound-requires c κs = search needs
-
 returns : tie.Need-returns
 returns c = let f = c .before .before .before .args .self in (
   settled-is f (c .before .is-sound .result) (c .before .is-sound .ensures),
@@ -19,4 +16,4 @@ returns c = let f = c .before .before .before .args .self in (
 )
 
 pub is-settled-spec : {M : Type 1} → statement M
-is-settled-spec = tie.close (tie.spec is-sound-requires returns)
+is-settled-spec = tie.close (tie.spec (λ c κs. search needs) returns)

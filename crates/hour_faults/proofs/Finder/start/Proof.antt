@@ -8,15 +8,6 @@ use Rattle.hour_faults.proofs.Following.{found-start}
 use Rattle.hour_faults.proofs.Finder.start.Statement.{statement}
 use Rattle.hour_faults.proofs.Finder.start.Tie as tie
 
-start-requires : tie.Need-start-requires
-start-requires c κs = search needs
-
-month-hours-requires : tie.Need-month-hours-requires
-month-hours-requires c κs = search needs
-
-start-requires-2 : tie.Need-start-requires-2
-start-requires-2 c κs = search needs
-
 month-few : (hours : ℕ) → monthHours hours ≤ mostHours
 unfolding monthHours
 month-few hours = omega arith
@@ -27,4 +18,4 @@ returns c = let a = c .before .before .before .args in
     (c .start2 .ensures ∙ ap judgeFirst (c .before .month-hours .ensures))
 
 pub start-spec : {M : Type 1} → statement M
-start-spec = tie.close (tie.spec start-requires month-hours-requires start-requires-2 returns)
+start-spec = tie.close (tie.spec (λ c κs. search needs) (λ c κs. search needs) (λ c κs. search needs) returns)

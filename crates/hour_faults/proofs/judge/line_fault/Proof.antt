@@ -6,12 +6,6 @@ use borrow.Author.Needs.{needs}
 use Rattle.hour_faults.proofs.judge.line_fault.Statement.{statement}
 use Rattle.hour_faults.proofs.judge.line_fault.Tie as tie
 
-cells-fault-requires : tie.Need-cells-fault-requires
-cells-fault-requires c κs = search needs
-
-is-sound-requires : tie.Need-is-sound-requires
-is-sound-requires c κs = search needs
-
 returns : tie.Need-returns
 returns c = let wrong = c .before .before .cells-fault .ensures in let bad = ap isSound (sym wrong) ∙ sym (c .before .is-sound .ensures) ∙ not-true _ (c .if1 .taken) in
     rw bad wrong
@@ -26,4 +20,4 @@ returns-2 c = let wrong = c .before .before .before .cells-fault .ensures in let
 pub line-fault-spec : {M : Type 1} → statement M
 line-fault-spec =
     tie.close
-    (tie.spec cells-fault-requires is-sound-requires returns action-fault-requires returns-2)
+    (tie.spec (λ c κs. search needs) (λ c κs. search needs) returns action-fault-requires returns-2)

@@ -5,24 +5,6 @@ use borrow.Author.Needs.{needs}
 use Rattle.hour_faults.proofs.words.put_move.Statement.{statement}
 use Rattle.hour_faults.proofs.words.put_move.Tie as tie
 
-put-column-requires : tie.Need-put-column-requires
-put-column-requires c κs = search needs
-
-slice-aggregate-put-field : tie.Need-slice-aggregate-put-field
-slice-aggregate-put-field c = search needs
-
-put-field-requires : tie.Need-put-field-requires
-put-field-requires c κs = search needs
-
-slice-aggregate-put-word : tie.Need-slice-aggregate-put-word
-slice-aggregate-put-word c = search needs
-
-put-word-requires : tie.Need-put-word-requires
-put-word-requires c κs = search needs
-
-same-length : tie.Need-same-length
-same-length c = search needs
-
 returns : tie.Need-returns
 unfolding moveText
 returns c =
@@ -34,10 +16,10 @@ pub put-move-spec : {M : Type 1} → statement M
 put-move-spec =
     tie.close
     (tie.spec
-    put-column-requires
-    slice-aggregate-put-field
-    put-field-requires
-    slice-aggregate-put-word
-    put-word-requires
-    same-length
+    (λ c κs. search needs)
+    (λ c. search needs)
+    (λ c κs. search needs)
+    (λ c. search needs)
+    (λ c κs. search needs)
+    (λ c. search needs)
     returns)

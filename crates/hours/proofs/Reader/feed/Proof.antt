@@ -51,9 +51,6 @@ loop-again c = let a = c .before .before .before .before .before .before .before
           (c .next .ensures) (c .before .held-behind .ensures) (c .before .before .after .ensures) (l .inv .2),
     )
 
-slice-aggregate-step : tie.Need-slice-aggregate-step Inv-loop μ-loop
-slice-aggregate-step c = search needs
-
 step-requires : tie.Need-step-requires Inv-loop μ-loop
 step-requires c κs = (omega arith, (omega arith, c .before .if1 .left))
 
@@ -89,7 +86,7 @@ feed-spec =
     add-i
     loop-less
     loop-again
-    slice-aggregate-step
+    (λ c. search needs)
     step-requires
     loop-less-2
     loop-again-2

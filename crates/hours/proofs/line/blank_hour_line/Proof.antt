@@ -10,12 +10,9 @@ use Rattle.hours.proofs.line.blank_hour_line.Tie as tie
 abbrev first : Action → HourLine
 first a = record { hour = 0; action = a }
 
-no-action-requires : tie.Need-no-action-requires
-no-action-requires c κs = search needs
-
 returns : tie.Need-returns
 unfolding blankHourLine
 returns c = ap first (c .no-action .ensures)
 
 pub blank-hour-line-spec : {M : Type 1} → statement M
-blank-hour-line-spec = tie.close (tie.spec no-action-requires returns)
+blank-hour-line-spec = tie.close (tie.spec (λ c κs. search needs) returns)

@@ -6,24 +6,6 @@ use borrow.Author.Needs.{needs}
 use Rattle.hours.proofs.line.typed.Statement.{statement}
 use Rattle.hours.proofs.line.typed.Tie as tie
 
-array-read-h : tie.Need-array-read-h
-array-read-h c = search needs
-
-array-read-s : tie.Need-array-read-s
-array-read-s c = search needs
-
-array-read-e : tie.Need-array-read-e
-array-read-e c = search needs
-
-array-read-c : tie.Need-array-read-c
-array-read-c c = search needs
-
-array-read-d : tie.Need-array-read-d
-array-read-d c = search needs
-
-array-read-x : tie.Need-array-read-x
-array-read-x c = search needs
-
 limits : (c : tie.Then1) → let a = c .before .args in Casts (a .t1) (a .standard)
 limits c = let a = c .before .args in seven-casts (a .t1) (a .standard) (c .if1 .taken)
 
@@ -54,9 +36,6 @@ returns c =
     let long : length (a .t1) ≡ 8 = search needs in
     seven-fits (a .t1) (a .standard) long (c .if1 .taken)
 
-blank-hour-line-requires : tie.Need-blank-hour-line-requires
-blank-hour-line-requires c κs = search needs
-
 returns-2 : tie.Need-returns-2
 returns-2 c =
     let a = c .before .before .args in
@@ -67,12 +46,12 @@ pub typed-spec : {M : Type 1} → statement M
 typed-spec =
     tie.close
     (tie.spec
-    array-read-h
-    array-read-s
-    array-read-e
-    array-read-c
-    array-read-d
-    array-read-x
+    (λ c. search needs)
+    (λ c. search needs)
+    (λ c. search needs)
+    (λ c. search needs)
+    (λ c. search needs)
+    (λ c. search needs)
     cast-t36
     cast-t37
     cast-t39
@@ -81,5 +60,5 @@ typed-spec =
     cast-t44
     cast-t45
     returns
-    blank-hour-line-requires
+    (λ c κs. search needs)
     returns-2)

@@ -3,16 +3,10 @@ use borrow.Author.Needs.{needs}
 use Rattle.hours.proofs.sheet.hours_refused.Statement.{statement}
 use Rattle.hours.proofs.sheet.hours_refused.Tie as tie
 
-no-grains-requires : tie.Need-no-grains-requires
-no-grains-requires c κs = search needs
-
-no-actions-requires : tie.Need-no-actions-requires
-no-actions-requires c κs = search needs
-
 returns : tie.Need-returns
 unfolding hoursRefused
 returns c = let fault = c .before .before .args .fault in
     λ i. record { fault = fault; count = 0; sum = record { 0 = 0 }; grains = c .before .no-grains .ensures i; actions = c .no-actions .ensures i }
 
 pub hours-refused-spec : {M : Type 1} → statement M
-hours-refused-spec = tie.close (tie.spec no-grains-requires no-actions-requires returns)
+hours-refused-spec = tie.close (tie.spec (λ c κs. search needs) (λ c κs. search needs) returns)

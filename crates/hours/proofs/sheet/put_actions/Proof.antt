@@ -7,12 +7,6 @@ use borrow.Author.Needs.{needs}
 use Rattle.hours.proofs.sheet.put_actions.Statement.{statement}
 use Rattle.hours.proofs.sheet.put_actions.Tie as tie
 
-array-write-all : tie.Need-array-write-all
-array-write-all c = search needs
-
-returns : tie.Need-returns
-returns c = search needs
-
 returns-2 : tie.Need-returns-2
 returns-2 c =
     let a = c .before .args in
@@ -20,4 +14,4 @@ returns-2 c =
     sym (set-out (a .t1) (a .at) _ (omega (arith, long)))
 
 pub put-actions-spec : {M : Type 1} → statement M
-put-actions-spec = tie.close (tie.spec array-write-all returns returns-2)
+put-actions-spec = tie.close (tie.spec (λ c. search needs) (λ c. search needs) returns-2)

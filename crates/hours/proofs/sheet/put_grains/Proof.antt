@@ -7,15 +7,6 @@ use borrow.Author.Needs.{needs}
 use Rattle.hours.proofs.sheet.put_grains.Statement.{statement}
 use Rattle.hours.proofs.sheet.put_grains.Tie as tie
 
-mul-all : tie.Need-mul-all
-mul-all c = search needs
-
-array-set-from-all : tie.Need-array-set-from-all
-array-set-from-all c = search needs
-
-returns : tie.Need-returns
-returns c = search needs
-
 returns-2 : tie.Need-returns-2
 returns-2 c =
     let a = c .before .args in
@@ -23,4 +14,4 @@ returns-2 c =
     sym (set-out (a .t1) (a .at) _ (omega (arith, long)))
 
 pub put-grains-spec : {M : Type 1} → statement M
-put-grains-spec = tie.close (tie.spec mul-all array-set-from-all returns returns-2)
+put-grains-spec = tie.close (tie.spec (λ c. search needs) (λ c. search needs) (λ c. search needs) returns-2)

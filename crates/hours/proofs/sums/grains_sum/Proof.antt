@@ -21,9 +21,6 @@ loop-holds c = (omega arith, omega arith, sum-starts (c .args .t1))
 mul-plus : tie.Need-mul-plus Inv-loop μ-loop
 mul-plus c = omega arith
 
-array-copy-out-plus : tie.Need-array-copy-out-plus Inv-loop μ-loop
-array-copy-out-plus c = search needs
-
 plus-requires : tie.Need-plus-requires Inv-loop μ-loop
 plus-requires c κs = tt
 
@@ -59,7 +56,7 @@ grains-sum-spec =
     μ-loop
     loop-holds
     mul-plus
-    array-copy-out-plus
+    (λ c. search needs)
     plus-requires
     add-i
     loop-less

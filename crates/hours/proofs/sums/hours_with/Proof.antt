@@ -18,9 +18,6 @@ abbrev μ-loop : tie.MeasureT-loop
 loop-holds : tie.Need-loop-holds Inv-loop μ-loop
 loop-holds c = (omega arith, omega arith, zero-add (hoursWith (c .args .t1)))
 
-array-read-one-if : tie.Need-array-read-one-if Inv-loop μ-loop
-array-read-one-if c = search needs
-
 one-if-requires : tie.Need-one-if-requires Inv-loop μ-loop
 one-if-requires c κs = tt
 
@@ -58,7 +55,7 @@ hours-with-spec =
     Inv-loop
     μ-loop
     loop-holds
-    array-read-one-if
+    (λ c. search needs)
     one-if-requires
     add-count
     add-i

@@ -5,9 +5,6 @@ use Rattle.hours_file.specs.Given.{hoursOf}
 use Rattle.hours_file.proofs.given.hours_of.Statement.{statement}
 use Rattle.hours_file.proofs.given.hours_of.Tie as tie
 
-days-of-requires : tie.Need-days-of-requires
-days-of-requires c κs = search needs
-
 mul-result : tie.Need-mul-result
 mul-result c = record { fits = omega (arith, c .days-of .ensures, days-most (c .before .args .year) (c .before .args .month)) }
 
@@ -19,4 +16,4 @@ unfolding hoursOf
 returns c = rw (c .days-of .ensures)
 
 pub hours-of-spec : {M : Type 1} → statement M
-hours-of-spec = tie.close (tie.spec days-of-requires mul-result cast-result returns)
+hours-of-spec = tie.close (tie.spec (λ c κs. search needs) mul-result cast-result returns)

@@ -13,18 +13,6 @@ by-fault : (h : Hours) (f : HoursFault) → h .fault ≡ f → rampedBy f (h .co
 unfolding rampedOf
 by-fault h f e = ap (λ (x : HoursFault). rampedBy x (h .count) (h .sum)) (sym e)
 
-enum-told : tie.Need-enum-told
-enum-told c = search needs
-
-hours-told-requires : tie.Need-hours-told-requires
-hours-told-requires c κs = search needs
-
-enum-known-fault : tie.Need-enum-known-fault
-enum-known-fault c = search needs
-
-enum-known-fault-2 : tie.Need-enum-known-fault-2
-enum-known-fault-2 c = search needs
-
 returns : tie.Need-returns
 returns c =
     let h = c .before .before .before .before .args .h in
@@ -37,4 +25,4 @@ returns-3 : tie.Need-returns-3
 returns-3 c = by-fault _ (AtLine _) (c .before .fault2 .given .1)
 
 pub ramped-of-spec : {M : Type 1} → statement M
-ramped-of-spec = tie.close (tie.spec enum-told hours-told-requires enum-known-fault enum-known-fault-2 returns returns-2 returns-3)
+ramped-of-spec = tie.close (tie.spec (λ c. search needs) (λ c κs. search needs) (λ c. search needs) (λ c. search needs) returns returns-2 returns-3)

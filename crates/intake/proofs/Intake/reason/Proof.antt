@@ -3,9 +3,6 @@ use borrow.Author.Needs.{needs}
 use Rattle.intake.proofs.Intake.reason.Statement.{statement}
 use Rattle.intake.proofs.Intake.reason.Tie as tie
 
-read-posted-requires : tie.Need-read-posted-requires
-read-posted-requires c κs = search needs
-
 reason-of-requires : tie.Need-reason-of-requires
 reason-of-requires c κs = read-few (c .read-posted .ensures)
 
@@ -16,6 +13,6 @@ pub reason-spec : {M : Type 1} → statement M
 reason-spec =
     tie.close
     (tie.spec
-    read-posted-requires
+    (λ c κs. search needs)
     reason-of-requires
     returns)

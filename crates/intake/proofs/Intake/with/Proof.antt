@@ -3,17 +3,8 @@ use borrow.Author.Needs.{needs}
 use Rattle.intake.proofs.Intake.with.Statement.{statement}
 use Rattle.intake.proofs.Intake.with.Tie as tie
 
-read-posted-requires : tie.Need-read-posted-requires
-read-posted-requires c κs = search needs
-
-area-after-requires : tie.Need-area-after-requires
-area-after-requires c κs = search needs
-
 as-statement-requires : tie.Need-as-statement-requires
 as-statement-requires c κs = read-few (c .before .read-posted .ensures)
-
-with-requires : tie.Need-with-requires
-with-requires c κs = search needs
 
 returns : tie.Need-returns
 returns c =
@@ -29,8 +20,8 @@ pub with-spec : {M : Type 1} → statement M
 with-spec =
     tie.close
     (tie.spec
-    read-posted-requires
-    area-after-requires
+    (λ c κs. search needs)
+    (λ c κs. search needs)
     as-statement-requires
-    with-requires
+    (λ c κs. search needs)
     returns)

@@ -3,15 +3,9 @@ use borrow.Author.Needs.{needs}
 use Rattle.intake.proofs.limits.head_is_within.Statement.{statement}
 use Rattle.intake.proofs.limits.head_is_within.Tie as tie
 
-is-sound-requires : tie.Need-is-sound-requires
-is-sound-requires c κs = search needs
-
-most-records-requires : tie.Need-most-records-requires
-most-records-requires c κs = search needs
-
 returns : tie.Need-returns
 unfolding headIsWithin
 returns c = rw (c .before .is-sound .ensures, c .most-records .ensures)
 
 pub head-is-within-spec : {M : Type 1} → statement M
-head-is-within-spec = tie.close (tie.spec is-sound-requires most-records-requires returns)
+head-is-within-spec = tie.close (tie.spec (λ c κs. search needs) (λ c κs. search needs) returns)

@@ -7,17 +7,8 @@ use borrow.Author.Needs.{needs}
 use Rattle.intake.proofs.limits.line_beyond.Statement.{statement}
 use Rattle.intake.proofs.limits.line_beyond.Tie as tie
 
-head-is-within-requires : tie.Need-head-is-within-requires
-head-is-within-requires c κs = search needs
-
 returns : tie.Need-returns
 returns c = at-head (c .before .before .before .args .s) (sym (c .before .head-is-within .ensures) ∙ not-true _ (c .if1 .taken))
-
-first-beyond-requires : tie.Need-first-beyond-requires
-first-beyond-requires c κs = search needs
-
-add-result : tie.Need-add-result
-add-result c = search needs
 
 returns-2 : tie.Need-returns-2
 returns-2 c =
@@ -25,24 +16,12 @@ returns-2 c =
     let head = sym (c .before .before .before .before .head-is-within .ensures) ∙ not-false _ (c .before .before .before .if1 .left) in
     ap (λ (n : ℕ). 1 + n) b ∙ at-row (c .before .before .before .before .before .before .args .s) head (omega (arith, b, c .if2 .taken))
 
-gap-is-within-requires : tie.Need-gap-is-within-requires
-gap-is-within-requires c κs = search needs
-
-add-result-2 : tie.Need-add-result-2
-add-result-2 c = search needs
-
 returns-3 : tie.Need-returns-3
 returns-3 c =
     let b = c .before .before .before .before .first-beyond .ensures .0 in
     let head = sym (c .before .before .before .before .before .before .before .head-is-within .ensures) ∙ not-false _ (c .before .before .before .before .before .before .if1 .left) in
     at-gap (c .before .before .before .before .before .before .before .before .before .args .s) head (omega (arith, b, c .before .before .before .if2 .left)) (sym
     (c .before .gap-is-within .ensures) ∙ not-true _ (c .if3 .taken))
-
-is-within-requires : tie.Need-is-within-requires
-is-within-requires c κs = search needs
-
-add-result-3 : tie.Need-add-result-3
-add-result-3 c = search needs
 
 returns-4 : tie.Need-returns-4
 returns-4 c =
@@ -52,9 +31,6 @@ returns-4 c =
     let gap = sym (c .before .before .before .before .gap-is-within .ensures) ∙ not-false _ (c .before .before .before .if3 .left) in
     at-user (c .before .before .before .before .before .before .before .before .before .before .before .before .args .s) head
     (omega (arith, b, c .before .before .before .before .before .before .if2 .left)) gap (sym (c .before .is-within .ensures) ∙ not-true _ (c .if4 .taken))
-
-add-result-4 : tie.Need-add-result-4
-add-result-4 c = search needs
 
 returns-5 : tie.Need-returns-5
 returns-5 c =
@@ -69,16 +45,16 @@ pub line-beyond-spec : {M : Type 1} → statement M
 line-beyond-spec =
     tie.close
     (tie.spec
-    head-is-within-requires
+    (λ c κs. search needs)
     returns
-    first-beyond-requires
-    add-result
+    (λ c κs. search needs)
+    (λ c. search needs)
     returns-2
-    gap-is-within-requires
-    add-result-2
+    (λ c κs. search needs)
+    (λ c. search needs)
     returns-3
-    is-within-requires
-    add-result-3
+    (λ c κs. search needs)
+    (λ c. search needs)
     returns-4
-    add-result-4
+    (λ c. search needs)
     returns-5)

@@ -3,9 +3,6 @@ use borrow.Author.Needs.{needs}
 use Rattle.intake.proofs.lines.month_statement.Statement.{statement}
 use Rattle.intake.proofs.lines.month_statement.Tie as tie
 
-year-lines-requires : tie.Need-year-lines-requires
-year-lines-requires c κs = search needs
-
 returns : tie.Need-returns
 unfolding monthStatement
 returns c =
@@ -16,5 +13,5 @@ pub month-statement-spec : {M : Type 1} → statement M
 month-statement-spec =
     tie.close
     (tie.spec
-    year-lines-requires
+    (λ c κs. search needs)
     returns)

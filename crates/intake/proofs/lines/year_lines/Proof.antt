@@ -16,9 +16,6 @@ Inv-loop rows lines₀ i₀ lines i = (i ≤ 64) × (length lines ≡ 64) × (li
 abbrev μ-loop : tie.MeasureT-loop
 μ-loop rows lines₀ i₀ lines i = 64 - i
 
-blank-lines-requires : tie.Need-blank-lines-requires Inv-loop μ-loop
-blank-lines-requires c κs = search needs
-
 loop-holds : tie.Need-loop-holds Inv-loop μ-loop
 loop-holds c = (omega arith, rw (c .blank-lines .ensures) (length-replicate 64 blankLine), refl)
 
@@ -27,9 +24,6 @@ mul-r c = omega arith
 
 array-copy-out-r : tie.Need-array-copy-out-r Inv-loop μ-loop
 array-copy-out-r c = omega arith
-
-year-line-requires : tie.Need-year-line-requires Inv-loop μ-loop
-year-line-requires c κs = search needs
 
 mul-lines : tie.Need-mul-lines Inv-loop μ-loop
 mul-lines c = omega arith
@@ -69,11 +63,11 @@ year-lines-spec =
     (tie.spec
     Inv-loop
     μ-loop
-    blank-lines-requires
+    (λ c κs. search needs)
     loop-holds
     mul-r
     array-copy-out-r
-    year-line-requires
+    (λ c κs. search needs)
     mul-lines
     array-set-from-lines
     add-i

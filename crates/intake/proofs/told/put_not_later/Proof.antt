@@ -5,21 +5,6 @@ use borrow.Author.Needs.{needs}
 use Rattle.intake.proofs.told.put_not_later.Statement.{statement}
 use Rattle.intake.proofs.told.put_not_later.Tie as tie
 
-put-month-requires : tie.Need-put-month-requires
-put-month-requires c κs = search needs
-
-slice-aggregate-put-word : tie.Need-slice-aggregate-put-word
-slice-aggregate-put-word c = search needs
-
-put-word-requires : tie.Need-put-word-requires
-put-word-requires c κs = search needs
-
-put-month-requires-2 : tie.Need-put-month-requires-2
-put-month-requires-2 c κs = search needs
-
-same-length : tie.Need-same-length
-same-length c = search needs
-
 returns : tie.Need-returns
 unfolding notLaterText
 returns c =
@@ -30,9 +15,9 @@ pub put-not-later-spec : {M : Type 1} → statement M
 put-not-later-spec =
     tie.close
     (tie.spec
-    put-month-requires
-    slice-aggregate-put-word
-    put-word-requires
-    put-month-requires-2
-    same-length
+    (λ c κs. search needs)
+    (λ c. search needs)
+    (λ c κs. search needs)
+    (λ c κs. search needs)
+    (λ c. search needs)
     returns)

@@ -5,21 +5,6 @@ use borrow.Author.Needs.{needs}
 use Rattle.intake.proofs.told.put_other.Statement.{statement}
 use Rattle.intake.proofs.told.put_other.Tie as tie
 
-put-field-requires : tie.Need-put-field-requires
-put-field-requires c κs = search needs
-
-slice-aggregate-put-word : tie.Need-slice-aggregate-put-word
-slice-aggregate-put-word c = search needs
-
-put-word-requires : tie.Need-put-word-requires
-put-word-requires c κs = search needs
-
-put-field-requires-2 : tie.Need-put-field-requires-2
-put-field-requires-2 c κs = search needs
-
-same-length : tie.Need-same-length
-same-length c = search needs
-
 returns : tie.Need-returns
 unfolding otherText
 returns c =
@@ -30,9 +15,9 @@ pub put-other-spec : {M : Type 1} → statement M
 put-other-spec =
     tie.close
     (tie.spec
-    put-field-requires
-    slice-aggregate-put-word
-    put-word-requires
-    put-field-requires-2
-    same-length
+    (λ c κs. search needs)
+    (λ c. search needs)
+    (λ c κs. search needs)
+    (λ c κs. search needs)
+    (λ c. search needs)
     returns)

@@ -11,26 +11,11 @@ use borrow.Author.Needs.{needs}
 use Rattle.lines.proofs.Reader.feed.Statement.{statement}
 use Rattle.lines.proofs.Reader.feed.Tie as tie
 
-head-requires : tie.Need-head-requires
-head-requires c κs = search needs
-
 returns : tie.Need-returns
 returns c =
     let a = c .before .before .before .before .before .args in
     let h = c .before .before .before .head in
     read-on (a .self) _ (a .bytes .now) (fed-still (a .self) (a .bytes .now) (h .result) (h .ensures) (c .if1 .taken))
-
-sub-feed : tie.Need-sub-feed
-sub-feed c = search needs
-
-part-feed-start : tie.Need-part-feed-start
-part-feed-start c = search needs
-
-part-feed-end : tie.Need-part-feed-end
-part-feed-end c = search needs
-
-feed-requires : tie.Need-feed-requires
-feed-requires c κs = search needs
 
 returns-2 : tie.Need-returns-2
 returns-2 c =
@@ -46,4 +31,4 @@ returns-2 c =
 pub feed-spec : {M : Type 1} → statement M
 feed-spec =
     tie.close
-    (tie.spec head-requires returns sub-feed part-feed-start part-feed-end feed-requires returns-2)
+    (tie.spec (λ c κs. search needs) returns (λ c. search needs) (λ c. search needs) (λ c. search needs) (λ c κs. search needs) returns-2)

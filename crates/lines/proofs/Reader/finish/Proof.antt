@@ -5,24 +5,12 @@ use borrow.Author.Needs.{needs}
 use Rattle.lines.proofs.Reader.finish.Statement.{statement}
 use Rattle.lines.proofs.Reader.finish.Tie as tie
 
-finish-requires : tie.Need-finish-requires
-finish-requires c κs = search needs
-
-part-in-requires : tie.Need-part-in-requires
-part-in-requires c κs = search needs
-
-part-then-requires : tie.Need-part-then-requires
-part-then-requires c κs = search needs
-
 returns : tie.Need-returns
 returns c =
     let s = c .before .before .before .before .before .args .self in
     let l = c .before .before .before .finish in
     let p = c .before .part-in in
     read-answer s (c .part-then .result) (c .part-then .ensures ∙ ends-ahead s (p .result) (l .result) (c .before .before .if1 .taken) (p .ensures) (l .ensures))
-
-part-then-requires-2 : tie.Need-part-then-requires-2
-part-then-requires-2 c κs = search needs
 
 returns-2 : tie.Need-returns-2
 returns-2 c =
@@ -33,9 +21,9 @@ pub finish-spec : {M : Type 1} → statement M
 finish-spec =
     tie.close
     (tie.spec
-    finish-requires
-    part-in-requires
-    part-then-requires
+    (λ c κs. search needs)
+    (λ c κs. search needs)
+    (λ c κs. search needs)
     returns
-    part-then-requires-2
+    (λ c κs. search needs)
     returns-2)

@@ -8,20 +8,11 @@ use Rattle.lines.proofs.Reader.head.Tie as tie
 returns : tie.Need-returns
 returns c = let a = c .before .before .before .before .args in head-behind (a .self) (a .bytes .now) (not-true _ (c .if1 .taken))
 
-first-line-requires : tie.Need-first-line-requires
-first-line-requires c κs = search needs
-
 returns-2 : tie.Need-returns-2
 returns-2 c =
     let a = c .before .before .before .before .before .before .before .before .args in
     let l = c .before .before .before .first-line in
     head-still (a .self) (a .bytes .now) (not-false _ (c .before .before .before .before .if1 .left)) (l .result) (l .ensures) (omega arith)
-
-add-t7 : tie.Need-add-t7
-add-t7 c = search needs
-
-part-in-requires : tie.Need-part-in-requires
-part-in-requires c κs = search needs
 
 returns-3 : tie.Need-returns-3
 returns-3 c =
@@ -31,4 +22,4 @@ returns-3 c =
 
 pub head-spec : {M : Type 1} → statement M
 head-spec =
-    tie.close (tie.spec returns first-line-requires returns-2 add-t7 part-in-requires returns-3)
+    tie.close (tie.spec returns (λ c κs. search needs) returns-2 (λ c. search needs) (λ c κs. search needs) returns-3)

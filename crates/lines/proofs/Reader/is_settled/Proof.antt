@@ -5,17 +5,11 @@ use borrow.Author.Needs.{needs}
 use Rattle.lines.proofs.Reader.is_settled.Statement.{statement}
 use Rattle.lines.proofs.Reader.is_settled.Tie as tie
 
-is-past-requires : tie.Need-is-past-requires
-is-past-requires c κs = search needs
-
 returns : tie.Need-returns
 returns c = let s = c .before .before .args .self in read-settled s _ (tells-ahead s (c .before .if1 .taken) _ (c .is-past .ensures))
 
 returns-2 : tie.Need-returns-2
 returns-2 c = let s = c .before .before .before .args .self in read-settled s true (tells-past s (c .before .before .if1 .left) (c .if2 .taken))
-
-is-settled-requires : tie.Need-is-settled-requires
-is-settled-requires c κs = search needs
 
 returns-3 : tie.Need-returns-3
 returns-3 c =
@@ -24,4 +18,4 @@ returns-3 c =
 
 pub is-settled-spec : {M : Type 1} → statement M
 is-settled-spec =
-    tie.close (tie.spec is-past-requires returns returns-2 is-settled-requires returns-3)
+    tie.close (tie.spec (λ c κs. search needs) returns returns-2 (λ c κs. search needs) returns-3)

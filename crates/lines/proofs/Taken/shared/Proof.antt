@@ -4,17 +4,11 @@ use borrow.Author.Needs.{needs}
 use Rattle.lines.proofs.Taken.shared.Statement.{statement}
 use Rattle.lines.proofs.Taken.shared.Tie as tie
 
-share-front-requires : tie.Need-share-front-requires
-share-front-requires c κs = search needs
-
 returns : tie.Need-returns
 returns c = c .share-front .ensures ∙ shared-yes (c .before .before .before .before .args .self) (c .before .if1 .taken)
-
-nothing-shared-requires : tie.Need-nothing-shared-requires
-nothing-shared-requires c κs = search needs
 
 returns-2 : tie.Need-returns-2
 returns-2 c = c .nothing-shared .ensures ∙ shared-no (c .before .before .before .before .args .self) (c .before .if1 .left)
 
 pub shared-spec : {M : Type 1} → statement M
-shared-spec = tie.close (tie.spec share-front-requires returns nothing-shared-requires returns-2)
+shared-spec = tie.close (tie.spec (λ c κs. search needs) returns (λ c κs. search needs) returns-2)

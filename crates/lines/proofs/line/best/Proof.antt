@@ -25,12 +25,6 @@ stepped-requires c κs = tt
 stepped-requires-2 : tie.Need-stepped-requires-2 Inv-loop μ-loop
 stepped-requires-2 c κs = tt
 
-add-i : tie.Need-add-i Inv-loop μ-loop
-add-i c = search needs
-
-loop-less : tie.Need-loop-less Inv-loop μ-loop
-loop-less c = search needs
-
 loop-again : tie.Need-loop-again Inv-loop μ-loop
 loop-again c =
     let l = c .before .before .before .loop in
@@ -54,7 +48,7 @@ best-spec =
     loop-holds
     stepped-requires
     stepped-requires-2
-    add-i
-    loop-less
+    (λ c. search needs)
+    (λ c. search needs)
     loop-again
     returns)

@@ -15,19 +15,10 @@ ends r row bytes e h rest = h rest ∙ ap (λ (bs : List ℕ). rowLine row (bs +
 returns : tie.Need-returns
 returns c = ends _ (c .before .before .before .args .row) [] (number-has (c .before .before .before .args .row) (c .before .if1 .taken) (c .if2 .taken)) (λ rest. refl)
 
-stepped-requires : tie.Need-stepped-requires
-stepped-requires c κs = search needs
-
 returns-2 : tie.Need-returns-2
 returns-2 c =
     let row = c .before .before .before .before .args .row in
     ends _ row (48 ∷ []) (number-zero row (c .before .before .if1 .taken) (c .before .if2 .left)) (c .stepped .ensures .line)
-
-stepped-requires-2 : tie.Need-stepped-requires-2
-stepped-requires-2 c κs = search needs
-
-stepped-requires-3 : tie.Need-stepped-requires-3
-stepped-requires-3 c κs = search needs
 
 returns-3 : tie.Need-returns-3
 returns-3 c =
@@ -35,16 +26,10 @@ returns-3 c =
     ends _ row (54 ∷ 52 ∷ []) (number-64 row (c .before .before .before .before .if1 .left) (c .before .before .if3 .taken))
     (λ rest. c .stepped3 .ensures .line rest ∙ c .before .stepped2 .ensures .line (52 ∷ rest))
 
-stepped-requires-4 : tie.Need-stepped-requires-4
-stepped-requires-4 c κs = search needs
-
 returns-4 : tie.Need-returns-4
 returns-4 c =
     let row = c .before .before .before .before .before .before .before .args .row in
     ends _ row (57 ∷ []) (number-9 row (c .before .before .before .before .before .if1 .left) (c .before .before .before .if3 .left) (c .before .if4 .taken)) (c .stepped4 .ensures .line)
-
-stepped-requires-5 : tie.Need-stepped-requires-5
-stepped-requires-5 c κs = search needs
 
 returns-5 : tie.Need-returns-5
 returns-5 c =
@@ -65,13 +50,13 @@ numbered-spec =
     tie.close
     (tie.spec
     returns
-    stepped-requires
+    (λ c κs. search needs)
     returns-2
-    stepped-requires-2
-    stepped-requires-3
+    (λ c κs. search needs)
+    (λ c κs. search needs)
     returns-3
-    stepped-requires-4
+    (λ c κs. search needs)
     returns-4
-    stepped-requires-5
+    (λ c κs. search needs)
     returns-5
     returns-6)

@@ -3,11 +3,8 @@ use borrow.Author.Needs.{needs}
 use Rattle.lines.proofs.line.stepped.Statement.{statement}
 use Rattle.lines.proofs.line.stepped.Tie as tie
 
-step-requires : tie.Need-step-requires
-step-requires c κs = search needs
-
 returns : tie.Need-returns
 returns c = line-follows (c .step .ensures)
 
 pub stepped-spec : {M : Type 1} → statement M
-stepped-spec = tie.close (tie.spec step-requires returns)
+stepped-spec = tie.close (tie.spec (λ c κs. search needs) returns)

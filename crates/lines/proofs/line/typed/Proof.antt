@@ -6,21 +6,6 @@ use borrow.Author.Needs.{needs}
 use Rattle.lines.proofs.line.typed.Statement.{statement}
 use Rattle.lines.proofs.line.typed.Tie as tie
 
-array-read-n : tie.Need-array-read-n
-array-read-n c = search needs
-
-array-read-s : tie.Need-array-read-s
-array-read-s c = search needs
-
-array-read-e : tie.Need-array-read-e
-array-read-e c = search needs
-
-array-read-c : tie.Need-array-read-c
-array-read-c c = search needs
-
-numbers-are-sound-requires : tie.Need-numbers-are-sound-requires
-numbers-are-sound-requires c κs = search needs
-
 limits : (c : tie.Then1) → let a = c .before .before .args in Casts (a .t1) (a .assessed)
 limits c =
     let a = c .before .before .args in
@@ -44,9 +29,6 @@ returns c =
     let long : length (a .t1) ≡ 5 = search needs in
     five-sound (a .t1) (a .assessed) long (sym (c .before .numbers-are-sound .ensures) ∙ c .if1 .taken)
 
-blank-line-requires : tie.Need-blank-line-requires
-blank-line-requires c κs = search needs
-
 returns-2 : tie.Need-returns-2
 returns-2 c =
     let a = c .before .before .before .args in
@@ -57,15 +39,15 @@ pub typed-spec : {M : Type 1} → statement M
 typed-spec =
     tie.close
     (tie.spec
-    array-read-n
-    array-read-s
-    array-read-e
-    array-read-c
-    numbers-are-sound-requires
+    (λ c. search needs)
+    (λ c. search needs)
+    (λ c. search needs)
+    (λ c. search needs)
+    (λ c κs. search needs)
     cast-t18
     cast-t19
     cast-t20
     cast-t23
     returns
-    blank-line-requires
+    (λ c κs. search needs)
     returns-2)

@@ -6,30 +6,15 @@ use borrow.Author.Needs.{needs}
 use Rattle.lines.proofs.part.part_in.Statement.{statement}
 use Rattle.lines.proofs.part.part_in.Tie as tie
 
-is-whole-requires : tie.Need-is-whole-requires
-is-whole-requires c κs = search needs
-
-add-result : tie.Need-add-result
-add-result c = search needs
-
 returns : tie.Need-returns
 returns c =
     let none = part-none (c .before .before .args .row) (sym (c .before .is-whole .ensures) ∙ not-true _ (c .if1 .taken)) in
     omega (arith, none)
 
-cast-if2 : tie.Need-cast-if2
-cast-if2 c = search needs
-
-add-result-2 : tie.Need-add-result-2
-add-result-2 c = search needs
-
 returns-2 : tie.Need-returns-2
 returns-2 c =
     let is = part-whole (c .before .before .before .before .args .row) (sym (c .before .before .before .is-whole .ensures) ∙ not-false _ (c .before .before .if1 .left)) in
     omega (arith, is, c .if2 .taken)
-
-cast-result : tie.Need-cast-result
-cast-result c = search needs
 
 returns-3 : tie.Need-returns-3
 returns-3 c =
@@ -40,11 +25,11 @@ pub part-in-spec : {M : Type 1} → statement M
 part-in-spec =
     tie.close
     (tie.spec
-    is-whole-requires
-    add-result
+    (λ c κs. search needs)
+    (λ c. search needs)
     returns
-    cast-if2
-    add-result-2
+    (λ c. search needs)
+    (λ c. search needs)
     returns-2
-    cast-result
+    (λ c. search needs)
     returns-3)

@@ -21,9 +21,6 @@ loop-holds c = (omega arith, unlisted-from _ _ _)
 record-at-requires : tie.Need-record-at-requires Inv-loop μ-loop
 record-at-requires c κs = omega arith
 
-is-unlisted-requires : tie.Need-is-unlisted-requires Inv-loop μ-loop
-is-unlisted-requires c κs = search needs
-
 returns : tie.Need-returns Inv-loop μ-loop
 returns c =
     let s = c .before .before .before .before .before .before in
@@ -62,7 +59,7 @@ first-unlisted-spec =
     μ-loop
     loop-holds
     record-at-requires
-    is-unlisted-requires
+    (λ c κs. search needs)
     returns
     add-i
     loop-less

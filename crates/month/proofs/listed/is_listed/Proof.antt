@@ -21,12 +21,6 @@ abbrev μ-loop : tie.MeasureT-loop
 loop-holds : tie.Need-loop-holds Inv-loop μ-loop
 loop-holds c = (omega arith, refl)
 
-mul-e : tie.Need-mul-e Inv-loop μ-loop
-mul-e c = search needs
-
-array-copy-out-e : tie.Need-array-copy-out-e Inv-loop μ-loop
-array-copy-out-e c = search needs
-
 returns : tie.Need-returns Inv-loop μ-loop
 returns c =
     let s = c .before .before .before .before .before in
@@ -34,12 +28,6 @@ returns c =
     let long : length (s .args .t1) ≡ 64 = search needs in
     let e = ap (λ (es : List Entry). isListed es (s .args .number)) (part-step (s .args .t1) (s .args .count) (l .i) blankEntry (omega arith) (omega arith)) in
     sym (e ∙ listed-here _ _ _ (c .if1 .taken)) ∙ l .inv .1
-
-add-i : tie.Need-add-i Inv-loop μ-loop
-add-i c = search needs
-
-loop-less : tie.Need-loop-less Inv-loop μ-loop
-loop-less c = search needs
 
 loop-again : tie.Need-loop-again Inv-loop μ-loop
 loop-again c =
@@ -64,10 +52,10 @@ is-listed-spec =
     Inv-loop
     μ-loop
     loop-holds
-    mul-e
-    array-copy-out-e
+    (λ c. search needs)
+    (λ c. search needs)
     returns
-    add-i
-    loop-less
+    (λ c. search needs)
+    (λ c. search needs)
     loop-again
     returns-2)

@@ -6,18 +6,6 @@ use Rattle.month.specs.Settling.{earnedGrains, compensationOf}
 use Rattle.month.proofs.members.compensation_of.Statement.{statement}
 use Rattle.month.proofs.members.compensation_of.Tie as tie
 
-enum-known-earned : tie.Need-enum-known-earned
-enum-known-earned c = search needs
-
-to-fen-requires : tie.Need-to-fen-requires
-to-fen-requires c κs = search needs
-
-enum-told : tie.Need-enum-told
-enum-told c = search needs
-
-enum-told-2 : tie.Need-enum-told-2
-enum-told-2 c = search needs
-
 returns : tie.Need-returns
 unfolding compensationOf earnedGrains
 returns c = rw (c .before .before .earned .given .1) (ap (λ (n : ℕ). record { 0 = n }) (c .to-fen .ensures))
@@ -31,4 +19,4 @@ unfolding compensationOf earnedGrains grainsToFen
 returns-3 c = rw (c .enum-told2 .given .1) refl
 
 pub compensation-of-spec : {M : Type 1} → statement M
-compensation-of-spec = tie.close (tie.spec enum-known-earned to-fen-requires enum-told enum-told-2 returns returns-2 returns-3)
+compensation-of-spec = tie.close (tie.spec (λ c. search needs) (λ c κs. search needs) (λ c. search needs) (λ c. search needs) returns returns-2 returns-3)

@@ -16,9 +16,6 @@ Inv-loop grains fens₀ i₀ fens i = (i ≤ 64) × (length fens ≡ 64) × (fen
 abbrev μ-loop : tie.MeasureT-loop
 μ-loop grains fens₀ i₀ fens i = 64 - i
 
-no-fens-requires : tie.Need-no-fens-requires Inv-loop μ-loop
-no-fens-requires c κs = search needs
-
 loop-holds : tie.Need-loop-holds Inv-loop μ-loop
 loop-holds c = (omega arith, c .no-fens .ensures, refl)
 
@@ -27,9 +24,6 @@ mul-g c = omega arith
 
 array-copy-out-g : tie.Need-array-copy-out-g Inv-loop μ-loop
 array-copy-out-g c = omega arith
-
-to-fen-requires : tie.Need-to-fen-requires Inv-loop μ-loop
-to-fen-requires c κs = search needs
 
 mul-fens : tie.Need-mul-fens Inv-loop μ-loop
 mul-fens c = omega arith
@@ -68,11 +62,11 @@ compensations-spec =
     (tie.spec
     Inv-loop
     μ-loop
-    no-fens-requires
+    (λ c κs. search needs)
     loop-holds
     mul-g
     array-copy-out-g
-    to-fen-requires
+    (λ c κs. search needs)
     mul-fens
     array-set-from-fens
     add-i

@@ -4,14 +4,8 @@ use Rattle.month.specs.Settling.{compensationOf}
 use Rattle.month.proofs.members.member_compensation.Statement.{statement}
 use Rattle.month.proofs.members.member_compensation.Tie as tie
 
-member-earned-requires : tie.Need-member-earned-requires
-member-earned-requires c κs = search needs
-
-compensation-of-requires : tie.Need-compensation-of-requires
-compensation-of-requires c κs = search needs
-
 returns : tie.Need-returns
 returns c = c .compensation-of .ensures ∙ ap compensationOf (c .before .member-earned .ensures)
 
 pub member-compensation-spec : {M : Type 1} → statement M
-member-compensation-spec = tie.close (tie.spec member-earned-requires compensation-of-requires returns)
+member-compensation-spec = tie.close (tie.spec (λ c κs. search needs) (λ c κs. search needs) returns)

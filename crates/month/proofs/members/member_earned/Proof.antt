@@ -6,18 +6,6 @@ use borrow.Author.Needs.{needs}
 use Rattle.month.proofs.members.member_earned.Statement.{statement}
 use Rattle.month.proofs.members.member_earned.Tie as tie
 
-grains-earned-requires : tie.Need-grains-earned-requires
-grains-earned-requires c κs = search needs
-
-enum-known-earned : tie.Need-enum-known-earned
-enum-known-earned c = search needs
-
-with-ramping-requires : tie.Need-with-ramping-requires
-with-ramping-requires c κs = search needs
-
-enum-known-earned-2 : tie.Need-enum-known-earned-2
-enum-known-earned-2 c = search needs
-
 returns : tie.Need-returns
 returns c =
     let is = sym (c .before .before .before .before .grains-earned .ensures) ∙ c .before .before .earned .given .1 in
@@ -32,9 +20,9 @@ pub member-earned-spec : {M : Type 1} → statement M
 member-earned-spec =
     tie.close
     (tie.spec
-    grains-earned-requires
-    enum-known-earned
-    with-ramping-requires
-    enum-known-earned-2
+    (λ c κs. search needs)
+    (λ c. search needs)
+    (λ c κs. search needs)
+    (λ c. search needs)
     returns
     returns-2)

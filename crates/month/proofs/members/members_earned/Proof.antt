@@ -29,9 +29,6 @@ Inv-loop count book series entries lengths ramped grains₀ at₀ i₀ grains at
 abbrev μ-loop : tie.MeasureT-loop
 μ-loop count book series entries lengths ramped grains₀ at₀ i₀ grains at i = count - i
 
-no-grains-requires : tie.Need-no-grains-requires Inv-loop μ-loop
-no-grains-requires c κs = search needs
-
 loop-holds : tie.Need-loop-holds Inv-loop μ-loop
 loop-holds c = (omega arith, c .no-grains .ensures, walk-start _ _ _ _ _ _)
 
@@ -55,27 +52,6 @@ mul-x c = omega arith
 
 array-copy-out-x : tie.Need-array-copy-out-x Inv-loop μ-loop
 array-copy-out-x c = omega arith
-
-mul-member-earned : tie.Need-mul-member-earned Inv-loop μ-loop
-mul-member-earned c = search needs
-
-sub-member-earned : tie.Need-sub-member-earned Inv-loop μ-loop
-sub-member-earned c = search needs
-
-part-member-earned-start : tie.Need-part-member-earned-start Inv-loop μ-loop
-part-member-earned-start c = search needs
-
-part-member-earned-end : tie.Need-part-member-earned-end Inv-loop μ-loop
-part-member-earned-end c = search needs
-
-member-earned-requires : tie.Need-member-earned-requires Inv-loop μ-loop
-member-earned-requires c κs = search needs
-
-enum-known-earned : tie.Need-enum-known-earned Inv-loop μ-loop
-enum-known-earned c = search needs
-
-member-fault-requires : tie.Need-member-fault-requires Inv-loop μ-loop
-member-fault-requires c κs = search needs
 
 -- the turn of line i, over the member's own part of the series
 turned : (c : tie.After-member-earned Inv-loop μ-loop)
@@ -139,7 +115,7 @@ members-earned-spec =
     (tie.spec
     Inv-loop
     μ-loop
-    no-grains-requires
+    (λ c κs. search needs)
     loop-holds
     mul-part-end
     array-read-part-end
@@ -148,13 +124,13 @@ members-earned-spec =
     array-copy-out-e
     mul-x
     array-copy-out-x
-    mul-member-earned
-    sub-member-earned
-    part-member-earned-start
-    part-member-earned-end
-    member-earned-requires
-    enum-known-earned
-    member-fault-requires
+    (λ c. search needs)
+    (λ c. search needs)
+    (λ c. search needs)
+    (λ c. search needs)
+    (λ c κs. search needs)
+    (λ c. search needs)
+    (λ c κs. search needs)
     returns
     mul-grains
     array-set-from-grains

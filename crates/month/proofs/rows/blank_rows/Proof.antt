@@ -5,11 +5,8 @@ use borrow.Author.Needs.{needs}
 use Rattle.month.proofs.rows.blank_rows.Statement.{statement}
 use Rattle.month.proofs.rows.blank_rows.Tie as tie
 
-blank-row-requires : tie.Need-blank-row-requires
-blank-row-requires c κs = search needs
-
 returns : tie.Need-returns
 returns c = ap (λ (r : Row). replicate 64 r) (c .blank-row .ensures)
 
 pub blank-rows-spec : {M : Type 1} → statement M
-blank-rows-spec = tie.close (tie.spec blank-row-requires returns)
+blank-rows-spec = tie.close (tie.spec (λ c κs. search needs) returns)

@@ -24,9 +24,6 @@ Inv-loop count negative lines grains ramped rows₀ i₀ rows i =
 abbrev μ-loop : tie.MeasureT-loop
 μ-loop count negative lines grains ramped rows₀ i₀ rows i = count - i
 
-blank-rows-requires : tie.Need-blank-rows-requires Inv-loop μ-loop
-blank-rows-requires c κs = search needs
-
 loop-holds : tie.Need-loop-holds Inv-loop μ-loop
 loop-holds c = (omega arith, rw (c .blank-rows .ensures) (length-replicate 64 blankRow), refl)
 
@@ -95,7 +92,7 @@ filled-rows-spec =
     (tie.spec
     Inv-loop
     μ-loop
-    blank-rows-requires
+    (λ c κs. search needs)
     loop-holds
     mul-l
     array-copy-out-l

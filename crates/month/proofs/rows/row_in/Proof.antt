@@ -5,12 +5,9 @@ use borrow.Author.Needs.{needs}
 use Rattle.month.proofs.rows.row_in.Statement.{statement}
 use Rattle.month.proofs.rows.row_in.Tie as tie
 
-weight-of-requires : tie.Need-weight-of-requires
-weight-of-requires c κs = search needs
-
 returns : tie.Need-returns
 unfolding rowIn rowOf
 returns c = rw (c .before .before .before .before .before .before .before .weight-of .ensures) refl
 
 pub row-in-spec : {M : Type 1} → statement M
-row-in-spec = tie.close (tie.spec weight-of-requires returns)
+row-in-spec = tie.close (tie.spec (λ c κs. search needs) returns)

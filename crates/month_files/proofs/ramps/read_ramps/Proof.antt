@@ -10,26 +10,11 @@ Inv-loop count hours goes-on entries ramps₀ i₀ ramps i = (i ≤ count) × (r
 abbrev μ-loop : tie.MeasureT-loop
 μ-loop count hours goes-on entries ramps₀ i₀ ramps i = count - i
 
-no-ramps-requires : tie.Need-no-ramps-requires Inv-loop μ-loop
-no-ramps-requires c κs = search needs
-
 loop-holds : tie.Need-loop-holds Inv-loop μ-loop
 loop-holds c = (omega arith, omega (arith, c .no-ramps .ensures))
 
-mul-e : tie.Need-mul-e Inv-loop μ-loop
-mul-e c = search needs
-
-array-copy-out-e : tie.Need-array-copy-out-e Inv-loop μ-loop
-array-copy-out-e c = search needs
-
 read-next-requires : tie.Need-read-next-requires Inv-loop μ-loop
 read-next-requires c κs = (omega arith, c .before .before .loop .inv .1)
-
-add-i : tie.Need-add-i Inv-loop μ-loop
-add-i c = search needs
-
-loop-less : tie.Need-loop-less Inv-loop μ-loop
-loop-less c = search needs
 
 loop-again : tie.Need-loop-again Inv-loop μ-loop
 loop-again c = let l = c .before .before .before .loop in (omega arith, omega (arith, c .read-next .ensures, l .inv .1))
@@ -43,12 +28,12 @@ read-ramps-spec =
     (tie.spec
     Inv-loop
     μ-loop
-    no-ramps-requires
+    (λ c κs. search needs)
     loop-holds
-    mul-e
-    array-copy-out-e
+    (λ c. search needs)
+    (λ c. search needs)
     read-next-requires
-    add-i
-    loop-less
+    (λ c. search needs)
+    (λ c. search needs)
     loop-again
     returns)

@@ -14,35 +14,17 @@ Inv-loop count goes-on series₀ entries lengths₀ i₀ series lengths i =
 abbrev μ-loop : tie.MeasureT-loop
 μ-loop count goes-on series₀ entries lengths₀ i₀ series lengths i = count - i
 
-none-read-requires : tie.Need-none-read-requires Inv-loop μ-loop
-none-read-requires c κs = search needs
-
 loop-holds : tie.Need-loop-holds Inv-loop μ-loop
 loop-holds c = let z = c .none-read .ensures in (omega arith, omega (arith, z .1), omega (arith, z .0), search needs)
 
-mul-e : tie.Need-mul-e Inv-loop μ-loop
-mul-e c = search needs
-
-array-copy-out-e : tie.Need-array-copy-out-e Inv-loop μ-loop
-array-copy-out-e c = search needs
-
 read-next-requires : tie.Need-read-next-requires Inv-loop μ-loop
 read-next-requires c κs = let v = c .before .before .before .loop .inv in (omega arith, (v .1, omega (arith, v .2, v .3)))
-
-add-i : tie.Need-add-i Inv-loop μ-loop
-add-i c = search needs
-
-loop-less : tie.Need-loop-less Inv-loop μ-loop
-loop-less c = search needs
 
 loop-again : tie.Need-loop-again Inv-loop μ-loop
 loop-again c =
     let l = c .before .before .before .before .before .before .loop in
     let r = c .before .before .read-next in
     (omega arith, omega (arith, r .ensures .1 .0, l .inv .1), omega (arith, r .ensures .0, l .inv .2), r .ensures .1 .1 ∙ l .inv .3)
-
-same-length : tie.Need-same-length Inv-loop μ-loop
-same-length c = search needs
 
 returns : tie.Need-returns Inv-loop μ-loop
 returns c = let v = c .before .loop .inv in omega (arith, v .0, v .1)
@@ -53,13 +35,13 @@ read-all-spec =
     (tie.spec
     Inv-loop
     μ-loop
-    none-read-requires
+    (λ c κs. search needs)
     loop-holds
-    mul-e
-    array-copy-out-e
+    (λ c. search needs)
+    (λ c. search needs)
     read-next-requires
-    add-i
-    loop-less
+    (λ c. search needs)
+    (λ c. search needs)
     loop-again
-    same-length
+    (λ c. search needs)
     returns)

@@ -20,9 +20,6 @@ returns c = (simp (c .if1 .taken), omega arith)
 cast-moved : tie.Need-cast-moved
 cast-moved c = wide-fits (c .before .args .a) (c .before .fits .a .sfits)
 
-cast-most : tie.Need-cast-most
-cast-most c = search needs
-
 returns-2 : tie.Need-returns-2
 unfolding eventWh
 returns-2 c =
@@ -46,4 +43,4 @@ returns-3 c =
     simp p (e, rw (← e) at (event-most (a .a) (a .b) (a .c) mostWh (omega arith)))
 
 pub event-wh-spec : {M : Type 1} → statement M
-event-wh-spec = tie.close (tie.spec returns cast-moved cast-most returns-2 returns-3)
+event-wh-spec = tie.close (tie.spec returns cast-moved (λ c. search needs) returns-2 returns-3)

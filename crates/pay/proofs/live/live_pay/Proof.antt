@@ -23,9 +23,6 @@ top c = simp (back32 (c .before .before .before .before .args .x .a) (omega arit
 window-pay-requires : tie.Need-window-pay-requires
 window-pay-requires c κs = omega (arith, ends (c .before .before))
 
-called-up-requires : tie.Need-called-up-requires
-called-up-requires c κs = search needs
-
 window-pay-requires-2 : tie.Need-window-pay-requires-2
 window-pay-requires-2 c κs =
     let s = c .before .before .before .before in
@@ -68,7 +65,7 @@ live-pay-spec =
     tie.close
     (tie.spec
     window-pay-requires
-    called-up-requires
+    (λ c κs. search needs)
     window-pay-requires-2
     rated-pay-requires
     returns

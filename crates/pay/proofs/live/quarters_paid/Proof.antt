@@ -23,9 +23,6 @@ top c = simp (back32 (c .before .before .before .before .args .x .a) (omega arit
 window-quarters-requires : tie.Need-window-quarters-requires
 window-quarters-requires c κs = omega (arith, ends (c .before .before))
 
-called-up-requires : tie.Need-called-up-requires
-called-up-requires c κs = search needs
-
 window-quarters-requires-2 : tie.Need-window-quarters-requires-2
 window-quarters-requires-2 c κs =
     let s = c .before .before .before .before in
@@ -48,7 +45,7 @@ quarters-paid-spec =
     tie.close
     (tie.spec
     window-quarters-requires
-    called-up-requires
+    (λ c κs. search needs)
     window-quarters-requires-2
     returns
     returns-2

@@ -6,15 +6,9 @@ use borrow.Author.Needs.{needs}
 use Rattle.pay.proofs.open.black_start_open.Statement.{statement}
 use Rattle.pay.proofs.open.black_start_open.Tie as tie
 
-closing-month-requires : tie.Need-closing-month-requires
-closing-month-requires c κs = search needs
-
-is-before-requires : tie.Need-is-before-requires
-is-before-requires c κs = search needs
-
 returns : tie.Need-returns
 unfolding blackStartOpen
 returns c = c .is-before .ensures ∙ ap (isBefore (c .before .before .args .month)) (c .before .closing-month .ensures)
 
 pub black-start-open-spec : {M : Type 1} → statement M
-black-start-open-spec = tie.close (tie.spec closing-month-requires is-before-requires returns)
+black-start-open-spec = tie.close (tie.spec (λ c κs. search needs) (λ c κs. search needs) returns)

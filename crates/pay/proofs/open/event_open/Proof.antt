@@ -12,12 +12,6 @@ by-cases : (t u : Bool) → (not t || u) ≡ cond t u true
 by-cases true u = refl
 by-cases false u = refl
 
-is-zero-requires : tie.Need-is-zero-requires
-is-zero-requires c κs = search needs
-
-is-by-rate-requires : tie.Need-is-by-rate-requires
-is-by-rate-requires c κs = search needs
-
 returns : tie.Need-returns
 unfolding eventOpen
 returns c =
@@ -26,4 +20,4 @@ returns c =
     rw (e, c .is-by-rate .ensures) (by-cases (isByRate (s .args .kind)) (isZero (s .args .a) && leb (s .args .b) 10000))
 
 pub event-open-spec : {M : Type 1} → statement M
-event-open-spec = tie.close (tie.spec is-zero-requires is-by-rate-requires returns)
+event-open-spec = tie.close (tie.spec (λ c κs. search needs) (λ c κs. search needs) returns)

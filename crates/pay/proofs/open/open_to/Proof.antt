@@ -7,18 +7,6 @@ use borrow.Author.Needs.{needs}
 use Rattle.pay.proofs.open.open_to.Statement.{statement}
 use Rattle.pay.proofs.open.open_to.Tie as tie
 
-reserve-open-requires : tie.Need-reserve-open-requires
-reserve-open-requires c κs = search needs
-
-has-availability-requires : tie.Need-has-availability-requires
-has-availability-requires c κs = search needs
-
-black-start-open-requires : tie.Need-black-start-open-requires
-black-start-open-requires c κs = search needs
-
-event-open-requires : tie.Need-event-open-requires
-event-open-requires c κs = search needs
-
 returns : tie.Need-returns
 unfolding openTo
 returns c = simp (c .match .keys1)
@@ -87,10 +75,10 @@ pub open-to-spec : {M : Type 1} → statement M
 open-to-spec =
     tie.close
     (tie.spec
-    reserve-open-requires
-    black-start-open-requires
-    has-availability-requires
-    event-open-requires
+    (λ c κs. search needs)
+    (λ c κs. search needs)
+    (λ c κs. search needs)
+    (λ c κs. search needs)
     returns
     returns-2
     returns-3

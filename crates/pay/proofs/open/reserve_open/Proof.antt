@@ -12,12 +12,6 @@ use Rattle.pay.proofs.open.reserve_open.Tie as tie
 cast-wide : tie.Need-cast-wide
 cast-wide c = wide-fits (c .args .a) (c .fits .a .sfits)
 
-cast-most : tie.Need-cast-most
-cast-most c = search needs
-
-is-zero-requires : tie.Need-is-zero-requires
-is-zero-requires c κs = search needs
-
 returns : tie.Need-returns
 unfolding reserveOpen
 returns c =
@@ -44,4 +38,4 @@ returns-4 c = let r = c .match .rest in simp (ne-eqb _ _ (r .0 .0 .1), ne-eqb _ 
 
 pub reserve-open-spec : {M : Type 1} → statement M
 reserve-open-spec =
-    tie.close (tie.spec cast-wide cast-most is-zero-requires returns returns-2 returns-3 returns-4)
+    tie.close (tie.spec cast-wide (λ c. search needs) (λ c κs. search needs) returns returns-2 returns-3 returns-4)

@@ -24,19 +24,10 @@ none kind b h = go (hasAvailability kind) h
     go true h = omega (arith, ltb-false 9800 b h)
     go false h = refl
 
-has-availability-requires : tie.Need-has-availability-requires
-has-availability-requires c κs = search needs
-
 sub-t6 : tie.Need-sub-t6
 sub-t6 c =
     let b = c .before .before .args .b in
     omega (arith, ltb-true 9800 b (each (c .before .has-availability .result) (ltb 9800 b ∷ []) (c .if1 .taken) .1 .0))
-
-cast-t7 : tie.Need-cast-t7
-cast-t7 c = search needs
-
-mul-t8 : tie.Need-mul-t8
-mul-t8 c = search needs
 
 returns : tie.Need-returns
 returns c =
@@ -49,4 +40,4 @@ returns-2 c =
     none _ _ (ap (λ (t : Bool). t && ltb 9800 (c .before .before .args .b)) (sym e) ∙ c .if1 .left)
 
 pub availability-rate-spec : {M : Type 1} → statement M
-availability-rate-spec = tie.close (tie.spec has-availability-requires sub-t6 cast-t7 mul-t8 returns returns-2)
+availability-rate-spec = tie.close (tie.spec (λ c κs. search needs) sub-t6 (λ c. search needs) (λ c. search needs) returns returns-2)

@@ -13,9 +13,6 @@ use Rattle.pay.proofs.rate.avc_rate.Tie as tie
 sub-t7 : tie.Need-sub-t7
 sub-t7 c = let a = c .before .args in omega (arith, leb-true 9900 (a .b) (each (leb 9800 (a .c)) (leb 9900 (a .b) ∷ []) (c .if1 .taken) .1 .0))
 
-cast-t8 : tie.Need-cast-t8
-cast-t8 c = search needs
-
 mul-t10 : tie.Need-mul-t10
 mul-t10 c = record { fits = mul-under 4294967295 65535 (2 ^ 64) (omega arith) (omega arith) tt }
 
@@ -28,4 +25,4 @@ unfolding avcRate
 returns-2 c = simp (c .if1 .left)
 
 pub avc-rate-spec : {M : Type 1} → statement M
-avc-rate-spec = tie.close (tie.spec sub-t7 cast-t8 mul-t10 returns returns-2)
+avc-rate-spec = tie.close (tie.spec sub-t7 (λ c. search needs) mul-t10 returns returns-2)

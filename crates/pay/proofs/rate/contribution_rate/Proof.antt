@@ -4,21 +4,6 @@ use borrow.Author.Needs.{needs}
 use Rattle.pay.proofs.rate.contribution_rate.Statement.{statement}
 use Rattle.pay.proofs.rate.contribution_rate.Tie as tie
 
-mul-thermal : tie.Need-mul-thermal
-mul-thermal c = search needs
-
-mul-water : tie.Need-mul-water
-mul-water c = search needs
-
-percents-above-requires : tie.Need-percents-above-requires
-percents-above-requires c κs = search needs
-
-cast-sky : tie.Need-cast-sky
-cast-sky c = search needs
-
-mul-sky : tie.Need-mul-sky
-mul-sky c = search needs
-
 returns : tie.Need-returns
 unfolding contributionRate
 returns c = simp (c .match .keys1)
@@ -62,11 +47,11 @@ pub contribution-rate-spec : {M : Type 1} → statement M
 contribution-rate-spec =
     tie.close
     (tie.spec
-    mul-thermal
-    mul-water
-    percents-above-requires
-    cast-sky
-    mul-sky
+    (λ c. search needs)
+    (λ c. search needs)
+    (λ c κs. search needs)
+    (λ c. search needs)
+    (λ c. search needs)
     returns
     returns-2
     returns-3

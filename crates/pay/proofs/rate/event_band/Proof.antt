@@ -8,15 +8,6 @@ returns : tie.Need-returns
 unfolding eventBand
 returns c = simp (c .if1 .taken)
 
-cast-t7 : tie.Need-cast-t7
-cast-t7 c = search needs
-
-mul-t8 : tie.Need-mul-t8
-mul-t8 c = search needs
-
-add-t9 : tie.Need-add-t9
-add-t9 c = search needs
-
 returns-2 : tie.Need-returns-2
 unfolding eventBand
 returns-2 c = simp (ne-eqb _ _ (c .before .if1 .left), lt-ltb _ _ (c .if2 .taken))
@@ -30,4 +21,4 @@ unfolding eventBand
 returns-4 c = simp (ne-eqb _ _ (c .before .before .if1 .left), le-ltb _ _ (c .before .if2 .left), le-ltb _ _ (c .if3 .left))
 
 pub event-band-spec : {M : Type 1} → statement M
-event-band-spec = tie.close (tie.spec returns cast-t7 mul-t8 add-t9 returns-2 returns-3 returns-4)
+event-band-spec = tie.close (tie.spec returns (λ c. search needs) (λ c. search needs) (λ c. search needs) returns-2 returns-3 returns-4)

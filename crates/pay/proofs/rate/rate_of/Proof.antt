@@ -4,27 +4,6 @@ use borrow.Author.Needs.{needs}
 use Rattle.pay.proofs.rate.rate_of.Statement.{statement}
 use Rattle.pay.proofs.rate.rate_of.Tie as tie
 
-start-stop-rate-requires : tie.Need-start-stop-rate-requires
-start-stop-rate-requires c κs = search needs
-
-standby-rate-requires : tie.Need-standby-rate-requires
-standby-rate-requires c κs = search needs
-
-black-start-rate-requires : tie.Need-black-start-rate-requires
-black-start-rate-requires c κs = search needs
-
-availability-rate-requires : tie.Need-availability-rate-requires
-availability-rate-requires c κs = search needs
-
-contribution-rate-requires : tie.Need-contribution-rate-requires
-contribution-rate-requires c κs = search needs
-
-event-rate-requires : tie.Need-event-rate-requires
-event-rate-requires c κs = search needs
-
-avc-rate-requires : tie.Need-avc-rate-requires
-avc-rate-requires c κs = search needs
-
 returns : tie.Need-returns
 unfolding rateOf
 returns c = simp (c .before .match .keys1, c .start-stop-rate .ensures)
@@ -68,13 +47,13 @@ pub rate-of-spec : {M : Type 1} → statement M
 rate-of-spec =
     tie.close
     (tie.spec
-    start-stop-rate-requires
-    standby-rate-requires
-    black-start-rate-requires
-    availability-rate-requires
-    contribution-rate-requires
-    event-rate-requires
-    avc-rate-requires
+    (λ c κs. search needs)
+    (λ c κs. search needs)
+    (λ c κs. search needs)
+    (λ c κs. search needs)
+    (λ c κs. search needs)
+    (λ c κs. search needs)
+    (λ c κs. search needs)
     returns
     returns-2
     returns-3

@@ -20,12 +20,6 @@ open-ended : (t : Bool) (whole : ℕ) → (t && ltb mostBlackStart whole) ≡ fa
 open-ended true whole h = omega (arith, ltb-false mostBlackStart whole h)
 open-ended false whole h = refl
 
-rate-of-requires : tie.Need-rate-of-requires
-rate-of-requires c κs = search needs
-
-cast-whole : tie.Need-cast-whole
-cast-whole c = search needs
-
 mul-whole : tie.Need-mul-whole
 mul-whole c =
     let a = c .before .before .before .args in
@@ -46,4 +40,4 @@ returns-2 c =
     rw (← r .ensures) (open-ended (eqb (a .x .service) blackStart) (a .member .rated .0 * r .result .0) (c .if1 .left))
 
 pub rated-pay-spec : {M : Type 1} → statement M
-rated-pay-spec = tie.close (tie.spec rate-of-requires cast-whole mul-whole returns returns-2)
+rated-pay-spec = tie.close (tie.spec (λ c κs. search needs) (λ c. search needs) mul-whole returns returns-2)

@@ -5,15 +5,6 @@ use borrow.Author.Needs.{needs}
 use Rattle.pay.proofs.rate.standby_rate.Statement.{statement}
 use Rattle.pay.proofs.rate.standby_rate.Tie as tie
 
-cast-t7 : tie.Need-cast-t7
-cast-t7 c = search needs
-
-mul-t8 : tie.Need-mul-t8
-mul-t8 c = search needs
-
-mul-t9 : tie.Need-mul-t9
-mul-t9 c = search needs
-
 returns : tie.Need-returns
 unfolding standbyRate
 returns c = simp (c .before .match .keys1) (omega arith)
@@ -27,4 +18,4 @@ unfolding standbyRate
 returns-3 c = simp (ne-eqb _ _ (c .match .rest .1))
 
 pub standby-rate-spec : {M : Type 1} → statement M
-standby-rate-spec = tie.close (tie.spec cast-t7 mul-t8 mul-t9 returns returns-2 returns-3)
+standby-rate-spec = tie.close (tie.spec (λ c. search needs) (λ c. search needs) (λ c. search needs) returns returns-2 returns-3)

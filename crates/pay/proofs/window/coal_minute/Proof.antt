@@ -22,27 +22,6 @@ top-ahead s = ltb (10 * s .args .p .0) (10 * s .args .top .0)
 within : (c : tie.After-coal-band) → Hold (half-passed (c .before .before .before .before .before) ∷ top-ahead (c .before .before .before .before .before) ∷ [])
 within c = let s = c .before .before .before .before .before in each (half-passed s) (top-ahead s ∷ []) (c .before .if1 .taken)
 
-cast-half : tie.Need-cast-half
-cast-half c = search needs
-
-mul-half : tie.Need-mul-half
-mul-half c = search needs
-
-cast-at : tie.Need-cast-at
-cast-at c = search needs
-
-mul-at : tie.Need-mul-at
-mul-at c = search needs
-
-cast-to : tie.Need-cast-to
-cast-to c = search needs
-
-mul-to : tie.Need-mul-to
-mul-to c = search needs
-
-coal-band-requires : tie.Need-coal-band-requires
-coal-band-requires c κs = search needs
-
 sub-t12 : tie.Need-sub-t12
 sub-t12 c = let a = c .before .before .before .before .before .args in omega (arith, ltb-true (10 * (a .p .0)) (10 * (a .top .0)) (within c .1 .0))
 
@@ -65,13 +44,13 @@ pub coal-minute-spec : {M : Type 1} → statement M
 coal-minute-spec =
     tie.close
     (tie.spec
-    cast-half
-    mul-half
-    cast-at
-    mul-at
-    cast-to
-    mul-to
-    coal-band-requires
+    (λ c. search needs)
+    (λ c. search needs)
+    (λ c. search needs)
+    (λ c. search needs)
+    (λ c. search needs)
+    (λ c. search needs)
+    (λ c κs. search needs)
     sub-t12
     mul-t13
     returns

@@ -5,15 +5,6 @@ use borrow.Author.Needs.{needs}
 use Rattle.pay.proofs.window.lacking.Statement.{statement}
 use Rattle.pay.proofs.window.lacking.Tie as tie
 
-mul-short : tie.Need-mul-short
-mul-short c = search needs
-
-sub-short : tie.Need-sub-short
-sub-short c = search needs
-
-cast-t9 : tie.Need-cast-t9
-cast-t9 c = search needs
-
 returns : tie.Need-returns
 returns c = sym (lack-some _ _ (omega arith))
 
@@ -21,4 +12,4 @@ returns-2 : tie.Need-returns-2
 returns-2 c = sym (lack-none _ _ (omega arith))
 
 pub lacking-spec : {M : Type 1} → statement M
-lacking-spec = tie.close (tie.spec mul-short sub-short cast-t9 returns returns-2)
+lacking-spec = tie.close (tie.spec (λ c. search needs) (λ c. search needs) (λ c. search needs) returns returns-2)

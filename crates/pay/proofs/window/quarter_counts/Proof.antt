@@ -11,15 +11,6 @@ pays : (c : tie.After-window-pay) → c .window-pay .result .0
     ≡ quarterAt (c .before .before .args .member) (c .before .before .args .service) (c .before .before .args .top .0) (c .before .before .args .series .now) (c .before .before .args .i)
 pays c = c .window-pay .ensures ∙ one-quarter _ _ _ _ _ _ (search needs)
 
-mul-start : tie.Need-mul-start
-mul-start c = search needs
-
-cast-start : tie.Need-cast-start
-cast-start c = search needs
-
-window-pay-requires : tie.Need-window-pay-requires
-window-pay-requires c κs = search needs
-
 returns : tie.Need-returns
 returns c = (sym (counts _ _ _ _ _ (omega (arith, pays (c .before .before), c .if1 .taken))), omega arith)
 
@@ -28,4 +19,4 @@ returns-2 c = (sym (counts-not _ _ _ _ _ (omega (arith, pays (c .before .before)
 
 pub quarter-counts-spec : {M : Type 1} → statement M
 quarter-counts-spec =
-    tie.close (tie.spec mul-start cast-start window-pay-requires returns returns-2)
+    tie.close (tie.spec (λ c. search needs) (λ c. search needs) (λ c κs. search needs) returns returns-2)

@@ -19,29 +19,11 @@ abbrev μ-loop : tie.MeasureT-loop
 loop-holds : tie.Need-loop-holds Inv-loop μ-loop
 loop-holds c = (search needs, sym (total-none _ _))
 
-add-t10 : tie.Need-add-t10 Inv-loop μ-loop
-add-t10 c = search needs
-
-mul-t11 : tie.Need-mul-t11 Inv-loop μ-loop
-mul-t11 c = search needs
-
-shared-slice-read-t13 : tie.Need-shared-slice-read-t13 Inv-loop μ-loop
-shared-slice-read-t13 c = search needs
-
-coal-minute-requires : tie.Need-coal-minute-requires Inv-loop μ-loop
-coal-minute-requires c κs = search needs
-
 add-sum : tie.Need-add-sum Inv-loop μ-loop
 add-sum c =
     let l = c .before .before .before .before .loop in
     let a = c .before .before .before .before .before .before .args in
     omega (arith, coal-run-most (a .rated .0) (a .top .0) (a .series .now) (a .from) (l .k) (omega arith), coal-most (a .rated .0) (a .top .0) (getD (a .series .now) (a .from + l .k) 0))
-
-add-k : tie.Need-add-k Inv-loop μ-loop
-add-k c = search needs
-
-loop-less : tie.Need-loop-less Inv-loop μ-loop
-loop-less c = search needs
 
 loop-again : tie.Need-loop-again Inv-loop μ-loop
 unfolding coalAt
@@ -62,13 +44,13 @@ run-coal-spec =
     Inv-loop
     μ-loop
     loop-holds
-    add-t10
-    mul-t11
-    shared-slice-read-t13
-    coal-minute-requires
+    (λ c. search needs)
+    (λ c. search needs)
+    (λ c. search needs)
+    (λ c κs. search needs)
     add-sum
-    add-k
-    loop-less
+    (λ c. search needs)
+    (λ c. search needs)
     loop-again
     mul-t15
     returns)

@@ -17,35 +17,14 @@ Inv-loop level series from count full sum₀ k₀ sum k = (k ≤ count) × (sum 
 abbrev μ-loop : tie.MeasureT-loop
 μ-loop level series from count full sum₀ k₀ sum k = count - k
 
-add-t9 : tie.Need-add-t9 Inv-loop μ-loop
-add-t9 c = search needs
-
 loop-holds : tie.Need-loop-holds Inv-loop μ-loop
 loop-holds c = (search needs, sym (total-none _ _))
-
-add-t12 : tie.Need-add-t12 Inv-loop μ-loop
-add-t12 c = search needs
-
-mul-t13 : tie.Need-mul-t13 Inv-loop μ-loop
-mul-t13 c = search needs
-
-shared-slice-read-t15 : tie.Need-shared-slice-read-t15 Inv-loop μ-loop
-shared-slice-read-t15 c = search needs
-
-lacking-requires : tie.Need-lacking-requires Inv-loop μ-loop
-lacking-requires c κs = search needs
 
 add-sum : tie.Need-add-sum Inv-loop μ-loop
 add-sum c =
     let l = c .before .before .before .before .loop in
     let a = c .before .before .before .before .before .before .before .args in
     omega (arith, lacking-run-most (a .level .0) (a .series .now) (a .from) (l .k) (omega arith), lacking-most (a .level .0) (getD (a .series .now) (a .from + l .k) 0))
-
-add-k : tie.Need-add-k Inv-loop μ-loop
-add-k c = search needs
-
-loop-less : tie.Need-loop-less Inv-loop μ-loop
-loop-less c = search needs
 
 loop-again : tie.Need-loop-again Inv-loop μ-loop
 unfolding lackingAt
@@ -64,14 +43,14 @@ run-lacking-spec =
     (tie.spec
     Inv-loop
     μ-loop
-    add-t9
+    (λ c. search needs)
     loop-holds
-    add-t12
-    mul-t13
-    shared-slice-read-t15
-    lacking-requires
+    (λ c. search needs)
+    (λ c. search needs)
+    (λ c. search needs)
+    (λ c κs. search needs)
     add-sum
-    add-k
-    loop-less
+    (λ c. search needs)
+    (λ c. search needs)
     loop-again
     returns)

@@ -6,24 +6,6 @@ use borrow.Author.Needs.{needs}
 use Rattle.pay.proofs.window.window_pay.Statement.{statement}
 use Rattle.pay.proofs.window.window_pay.Tie as tie
 
-cast-from : tie.Need-cast-from
-cast-from c = search needs
-
-cast-count : tie.Need-cast-count
-cast-count c = search needs
-
-run-deep-peak-requires : tie.Need-run-deep-peak-requires
-run-deep-peak-requires c κs = search needs
-
-run-coal-requires : tie.Need-run-coal-requires
-run-coal-requires c κs = search needs
-
-run-gas-hydro-requires : tie.Need-run-gas-hydro-requires
-run-gas-hydro-requires c κs = search needs
-
-run-gas-hydro-requires-2 : tie.Need-run-gas-hydro-requires-2
-run-gas-hydro-requires-2 c κs = search needs
-
 returns : tie.Need-returns
 returns c =
     let k = c .before .before .match .keys1 in
@@ -62,12 +44,12 @@ pub window-pay-spec : {M : Type 1} → statement M
 window-pay-spec =
     tie.close
     (tie.spec
-    cast-from
-    cast-count
-    run-deep-peak-requires
-    run-coal-requires
-    run-gas-hydro-requires
-    run-gas-hydro-requires-2
+    (λ c. search needs)
+    (λ c. search needs)
+    (λ c κs. search needs)
+    (λ c κs. search needs)
+    (λ c κs. search needs)
+    (λ c κs. search needs)
     returns
     returns-2
     returns-3

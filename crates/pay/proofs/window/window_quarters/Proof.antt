@@ -15,29 +15,8 @@ Inv-loop member service top series start minutes from count sum₀ k₀ sum k =
 abbrev μ-loop : tie.MeasureT-loop
 μ-loop member service top series start minutes from count sum₀ k₀ sum k = count - k
 
-cast-from : tie.Need-cast-from Inv-loop μ-loop
-cast-from c = search needs
-
-cast-count : tie.Need-cast-count Inv-loop μ-loop
-cast-count c = search needs
-
 loop-holds : tie.Need-loop-holds Inv-loop μ-loop
 loop-holds c = (search needs, search needs, sym (total-none _ _))
-
-add-quarter-counts : tie.Need-add-quarter-counts Inv-loop μ-loop
-add-quarter-counts c = search needs
-
-quarter-counts-requires : tie.Need-quarter-counts-requires Inv-loop μ-loop
-quarter-counts-requires c κs = search needs
-
-add-sum : tie.Need-add-sum Inv-loop μ-loop
-add-sum c = search needs
-
-add-k : tie.Need-add-k Inv-loop μ-loop
-add-k c = search needs
-
-loop-less : tie.Need-loop-less Inv-loop μ-loop
-loop-less c = search needs
 
 loop-again : tie.Need-loop-again Inv-loop μ-loop
 loop-again c = (search needs, search needs, total-step _ _ _ (c .before .before .loop .inv .2) (c .quarter-counts .ensures .0))
@@ -52,13 +31,13 @@ window-quarters-spec =
     (tie.spec
     Inv-loop
     μ-loop
-    cast-from
-    cast-count
+    (λ c. search needs)
+    (λ c. search needs)
     loop-holds
-    add-quarter-counts
-    quarter-counts-requires
-    add-sum
-    add-k
-    loop-less
+    (λ c. search needs)
+    (λ c κs. search needs)
+    (λ c. search needs)
+    (λ c. search needs)
+    (λ c. search needs)
     loop-again
     returns)

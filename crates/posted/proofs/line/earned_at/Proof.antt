@@ -3,21 +3,6 @@ use borrow.Author.Needs.{needs}
 use Rattle.posted.proofs.line.earned_at.Statement.{statement}
 use Rattle.posted.proofs.line.earned_at.Tie as tie
 
-field-at-requires : tie.Need-field-at-requires
-field-at-requires c κs = search needs
-
-field-at-requires-2 : tie.Need-field-at-requires-2
-field-at-requires-2 c κs = search needs
-
-field-at-requires-3 : tie.Need-field-at-requires-3
-field-at-requires-3 c κs = search needs
-
-field-at-requires-4 : tie.Need-field-at-requires-4
-field-at-requires-4 c κs = search needs
-
-field-at-requires-5 : tie.Need-field-at-requires-5
-field-at-requires-5 c κs = search needs
-
 returns : tie.Need-returns
 returns c =
     earned-reads _ _ _ _ _ _ _ (c .before .before .before .before .field-at .ensures) (c .before .before .before .field-at2 .ensures) (c .before .before .field-at3 .ensures)
@@ -27,9 +12,9 @@ pub earned-at-spec : {M : Type 1} → statement M
 earned-at-spec =
     tie.close
     (tie.spec
-    field-at-requires
-    field-at-requires-2
-    field-at-requires-3
-    field-at-requires-4
-    field-at-requires-5
+    (λ c κs. search needs)
+    (λ c κs. search needs)
+    (λ c κs. search needs)
+    (λ c κs. search needs)
+    (λ c κs. search needs)
     returns)

@@ -3,33 +3,6 @@ use borrow.Author.Needs.{needs}
 use Rattle.posted.proofs.line.heads_at.Statement.{statement}
 use Rattle.posted.proofs.line.heads_at.Tie as tie
 
-field-at-requires : tie.Need-field-at-requires
-field-at-requires c κs = search needs
-
-field-at-requires-2 : tie.Need-field-at-requires-2
-field-at-requires-2 c κs = search needs
-
-field-at-requires-3 : tie.Need-field-at-requires-3
-field-at-requires-3 c κs = search needs
-
-field-at-requires-4 : tie.Need-field-at-requires-4
-field-at-requires-4 c κs = search needs
-
-field-at-requires-5 : tie.Need-field-at-requires-5
-field-at-requires-5 c κs = search needs
-
-in-32-requires : tie.Need-in-32-requires
-in-32-requires c κs = search needs
-
-in-8-requires : tie.Need-in-8-requires
-in-8-requires c κs = search needs
-
-in-16-requires : tie.Need-in-16-requires
-in-16-requires c κs = search needs
-
-in-8-requires-2 : tie.Need-in-8-requires-2
-in-8-requires-2 c κs = search needs
-
 returns : tie.Need-returns
 returns c =
     let l = heads-reads _ _ _ _ _ _ _ _ _ _ _ (c .before .before .before .before .before .before .before .before .field-at .ensures)
@@ -45,13 +18,13 @@ pub heads-at-spec : {M : Type 1} → statement M
 heads-at-spec =
     tie.close
     (tie.spec
-    field-at-requires
-    field-at-requires-2
-    field-at-requires-3
-    field-at-requires-4
-    field-at-requires-5
-    in-32-requires
-    in-8-requires
-    in-16-requires
-    in-8-requires-2
+    (λ c κs. search needs)
+    (λ c κs. search needs)
+    (λ c κs. search needs)
+    (λ c κs. search needs)
+    (λ c κs. search needs)
+    (λ c κs. search needs)
+    (λ c κs. search needs)
+    (λ c κs. search needs)
+    (λ c κs. search needs)
     returns)

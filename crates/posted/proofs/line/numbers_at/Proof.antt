@@ -3,27 +3,6 @@ use borrow.Author.Needs.{needs}
 use Rattle.posted.proofs.line.numbers_at.Statement.{statement}
 use Rattle.posted.proofs.line.numbers_at.Tie as tie
 
-earned-at-requires : tie.Need-earned-at-requires
-earned-at-requires c κs = search needs
-
-carried-at-requires : tie.Need-carried-at-requires
-carried-at-requires c κs = search needs
-
-got-at-requires : tie.Need-got-at-requires
-got-at-requires c κs = search needs
-
-in-32-requires : tie.Need-in-32-requires
-in-32-requires c κs = search needs
-
-in-32-requires-2 : tie.Need-in-32-requires-2
-in-32-requires-2 c κs = search needs
-
-in-16-requires : tie.Need-in-16-requires
-in-16-requires c κs = search needs
-
-in-16-requires-2 : tie.Need-in-16-requires-2
-in-16-requires-2 c κs = search needs
-
 returns : tie.Need-returns
 returns c =
     let e = c .before .before .before .before .before .before .before .before .earned-at in
@@ -52,11 +31,11 @@ pub numbers-at-spec : {M : Type 1} → statement M
 numbers-at-spec =
     tie.close
     (tie.spec
-    earned-at-requires
-    carried-at-requires
-    got-at-requires
-    in-32-requires
-    in-32-requires-2
-    in-16-requires
-    in-16-requires-2
+    (λ c κs. search needs)
+    (λ c κs. search needs)
+    (λ c κs. search needs)
+    (λ c κs. search needs)
+    (λ c κs. search needs)
+    (λ c κs. search needs)
+    (λ c κs. search needs)
     returns)

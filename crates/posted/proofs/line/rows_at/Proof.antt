@@ -24,15 +24,6 @@ row-at-requires c κs = c .before .loop .inv .within
 returns : tie.Need-returns Inv-loop μ-loop
 returns c = let l = c .before .before .before .before .loop in read-ends _ _ (l .rows) (l .count) (l .next) (l .inv) (λ b h. c .before .before .row-at .ensures .no (not-true _ (c .if1 .taken)) b)
 
-mul-rows : tie.Need-mul-rows Inv-loop μ-loop
-mul-rows c = search needs
-
-array-set-from-rows : tie.Need-array-set-from-rows Inv-loop μ-loop
-array-set-from-rows c = search needs
-
-add-count : tie.Need-add-count Inv-loop μ-loop
-add-count c = search needs
-
 loop-less : tie.Need-loop-less Inv-loop μ-loop
 loop-less c = omega arith
 
@@ -55,9 +46,9 @@ rows-at-spec =
     loop-holds
     row-at-requires
     returns
-    mul-rows
-    array-set-from-rows
-    add-count
+    (λ c. search needs)
+    (λ c. search needs)
+    (λ c. search needs)
     loop-less
     loop-again
     returns-2)

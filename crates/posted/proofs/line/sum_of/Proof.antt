@@ -3,11 +3,8 @@ use borrow.Author.Needs.{needs}
 use Rattle.posted.proofs.line.sum_of.Statement.{statement}
 use Rattle.posted.proofs.line.sum_of.Tie as tie
 
-signed-field-at-requires : tie.Need-signed-field-at-requires
-signed-field-at-requires c κs = search needs
-
 returns : tie.Need-returns
 returns c = sum-reads _ _ _ _ (c .before .signed-field-at .ensures)
 
 pub sum-of-spec : {M : Type 1} → statement M
-sum-of-spec = tie.close (tie.spec signed-field-at-requires returns)
+sum-of-spec = tie.close (tie.spec (λ c κs. search needs) returns)

@@ -10,30 +10,6 @@ use Rattle.posted.proofs.put.put_posted.Tie as tie
 long-rows : (c : tie.Start) → length (c .args .rows) ≡ 64
 long-rows c = search needs
 
-put-head-requires : tie.Need-put-head-requires
-put-head-requires c κs = search needs
-
-seen-requires : tie.Need-seen-requires
-seen-requires c κs = search needs
-
-put-rows-requires : tie.Need-put-rows-requires
-put-rows-requires c κs = search needs
-
-slice-aggregate-put-sum : tie.Need-slice-aggregate-put-sum
-slice-aggregate-put-sum c = search needs
-
-put-sum-requires : tie.Need-put-sum-requires
-put-sum-requires c κs = search needs
-
-slice-aggregate-put-sum-2 : tie.Need-slice-aggregate-put-sum-2
-slice-aggregate-put-sum-2 c = search needs
-
-put-sum-requires-2 : tie.Need-put-sum-requires-2
-put-sum-requires-2 c κs = search needs
-
-same-length : tie.Need-same-length
-same-length c = search needs
-
 returns : tie.Need-returns
 unfolding totalText userText
 returns c =
@@ -48,12 +24,12 @@ pub put-posted-spec : {M : Type 1} → statement M
 put-posted-spec =
     tie.close
     (tie.spec
-    put-head-requires
-    seen-requires
-    put-rows-requires
-    slice-aggregate-put-sum
-    put-sum-requires
-    slice-aggregate-put-sum-2
-    put-sum-requires-2
-    same-length
+    (λ c κs. search needs)
+    (λ c κs. search needs)
+    (λ c κs. search needs)
+    (λ c. search needs)
+    (λ c κs. search needs)
+    (λ c. search needs)
+    (λ c κs. search needs)
+    (λ c. search needs)
     returns)

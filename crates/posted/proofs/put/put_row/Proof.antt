@@ -4,18 +4,6 @@ use borrow.Author.Needs.{needs}
 use Rattle.posted.proofs.put.put_row.Statement.{statement}
 use Rattle.posted.proofs.put.put_row.Tie as tie
 
-put-earned-requires : tie.Need-put-earned-requires
-put-earned-requires c κs = search needs
-
-put-carried-requires : tie.Need-put-carried-requires
-put-carried-requires c κs = search needs
-
-put-got-requires : tie.Need-put-got-requires
-put-got-requires c κs = search needs
-
-same-length : tie.Need-same-length
-same-length c = search needs
-
 returns : tie.Need-returns
 unfolding rowText
 returns c =
@@ -25,4 +13,4 @@ returns c =
 pub put-row-spec : {M : Type 1} → statement M
 put-row-spec =
     tie.close
-    (tie.spec put-earned-requires put-carried-requires put-got-requires same-length returns)
+    (tie.spec (λ c κs. search needs) (λ c κs. search needs) (λ c κs. search needs) (λ c. search needs) returns)

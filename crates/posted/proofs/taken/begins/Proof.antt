@@ -23,9 +23,6 @@ returns c = let a = c .before .args in too-short (a .text .now) (a .word .now) (
 loop-holds : tie.Need-loop-holds Inv-loop μ-loop
 loop-holds c = let a = c .before .args in (omega arith, word-start (a .text .now) (a .word .now) (a .at))
 
-add-if2 : tie.Need-add-if2 Inv-loop μ-loop
-add-if2 c = search needs
-
 shared-slice-read-if2 : tie.Need-shared-slice-read-if2 Inv-loop μ-loop
 shared-slice-read-if2 c = omega arith
 
@@ -36,9 +33,6 @@ returns-2 : tie.Need-returns-2 Inv-loop μ-loop
 returns-2 c =
     let s = c .before .before .before .before .before .before .args in
     word-differs (s .text .now) (s .word .now) (s .at) (c .before .before .before .before .loop .k) (omega arith) (c .if2 .taken)
-
-add-k : tie.Need-add-k Inv-loop μ-loop
-add-k c = search needs
 
 loop-less : tie.Need-loop-less Inv-loop μ-loop
 loop-less c = omega arith
@@ -61,11 +55,11 @@ begins-spec =
     sub-if1
     returns
     loop-holds
-    add-if2
+    (λ c. search needs)
     shared-slice-read-if2
     shared-slice-read-if2-2
     returns-2
-    add-k
+    (λ c. search needs)
     loop-less
     loop-again
     returns-3)

@@ -4,12 +4,6 @@ use borrow.Author.Needs.{needs}
 use Rattle.posted.proofs.taken.behind.Statement.{statement}
 use Rattle.posted.proofs.taken.behind.Tie as tie
 
-sub-if1 : tie.Need-sub-if1
-sub-if1 c = search needs
-
-add-result : tie.Need-add-result
-add-result c = search needs
-
 returns : tie.Need-returns
 returns c = let a = c .before .args in further (a .text .now) (a .at) (a .k) (omega arith)
 
@@ -17,4 +11,4 @@ returns-2 : tie.Need-returns-2
 returns-2 c = let a = c .before .args in at-end (a .text .now) (a .at) (a .k) (omega arith)
 
 pub behind-spec : {M : Type 1} → statement M
-behind-spec = tie.close (tie.spec sub-if1 add-result returns returns-2)
+behind-spec = tie.close (tie.spec (λ c. search needs) (λ c. search needs) returns returns-2)

@@ -7,11 +7,8 @@ use Rattle.posted.proofs.taken.digit_of.Tie as tie
 sub-wide : tie.Need-sub-wide
 sub-wide c = let h = is-digit (c .args .b) (c .pre) in omega arith
 
-wide-requires : tie.Need-wide-requires
-wide-requires c κs = search needs
-
 returns : tie.Need-returns
 returns c = let h = is-digit (c .before .args .b) (c .before .pre) in (c .wide .ensures, omega (arith, c .wide .ensures))
 
 pub digit-of-spec : {M : Type 1} → statement M
-digit-of-spec = tie.close (tie.spec sub-wide wide-requires returns)
+digit-of-spec = tie.close (tie.spec sub-wide (λ c κs. search needs) returns)

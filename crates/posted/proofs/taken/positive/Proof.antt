@@ -5,9 +5,6 @@ use borrow.Author.Needs.{needs}
 use Rattle.posted.proofs.taken.positive.Statement.{statement}
 use Rattle.posted.proofs.taken.positive.Tie as tie
 
-cast-result : tie.Need-cast-result
-cast-result c = search needs
-
 returns : tie.Need-returns
 returns c = λ h. absurd (omega arith)
 
@@ -15,4 +12,4 @@ returns-2 : tie.Need-returns-2
 returns-2 c = λ h. toZ-pos w64 (c .before .args .v) h
 
 pub positive-spec : {M : Type 1} → statement M
-positive-spec = tie.close (tie.spec cast-result returns returns-2)
+positive-spec = tie.close (tie.spec (λ c. search needs) returns returns-2)

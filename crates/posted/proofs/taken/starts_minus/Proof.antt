@@ -7,11 +7,8 @@ use Rattle.posted.proofs.taken.starts_minus.Tie as tie
 returns : tie.Need-returns
 returns c = let a = c .before .args in minus-none (a .text .now) (a .at) (omega arith)
 
-shared-slice-read-result : tie.Need-shared-slice-read-result
-shared-slice-read-result c = search needs
-
 returns-2 : tie.Need-returns-2
 returns-2 c = let a = c .before .before .args in minus-here (a .text .now) (a .at) (omega arith)
 
 pub starts-minus-spec : {M : Type 1} → statement M
-starts-minus-spec = tie.close (tie.spec returns shared-slice-read-result returns-2)
+starts-minus-spec = tie.close (tie.spec returns (λ c. search needs) returns-2)

@@ -4,9 +4,6 @@ use Rattle.ramp.specs.Ramping.{apart}
 use Rattle.ramp.proofs.actions.apart.Statement.{statement}
 use Rattle.ramp.proofs.actions.apart.Tie as tie
 
-sub-result : tie.Need-sub-result
-sub-result c = search needs
-
 returns : tie.Need-returns
 unfolding apart
 returns c = omega arith
@@ -16,4 +13,4 @@ unfolding apart
 returns-2 c = omega arith
 
 pub apart-spec : {M : Type 1} → statement M
-apart-spec = tie.close (tie.spec sub-result returns returns-2)
+apart-spec = tie.close (tie.spec (λ c. search needs) returns returns-2)

@@ -3,12 +3,9 @@ use Rattle.ramp.specs.Ramping.{moveOf}
 use Rattle.ramp.proofs.actions.move_of.Statement.{statement}
 use Rattle.ramp.proofs.actions.move_of.Tie as tie
 
-apart-requires : tie.Need-apart-requires
-apart-requires c κs = search needs
-
 returns : tie.Need-returns
 unfolding moveOf
 returns c = c .apart .ensures
 
 pub move-of-spec : {M : Type 1} → statement M
-move-of-spec = tie.close (tie.spec apart-requires returns)
+move-of-spec = tie.close (tie.spec (λ c κs. search needs) returns)

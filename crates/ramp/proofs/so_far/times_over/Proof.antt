@@ -7,14 +7,8 @@ use Rattle.ramp.proofs.Paid.{whole-most, split-over}
 use Rattle.ramp.proofs.so_far.times_over.Statement.{statement}
 use Rattle.ramp.proofs.so_far.times_over.Tie as tie
 
-rem-product-over : tie.Need-rem-product-over
-rem-product-over c = search needs
-
 product-over-requires : tie.Need-product-over-requires
 product-over-requires c κs = omega (arith, mod-lt (c .args .worth) (c .pre .1 .1 .0))
-
-div-result : tie.Need-div-result
-div-result c = search needs
 
 mul-result : tie.Need-mul-result
 mul-result c = let s = c .before in omega (arith, whole-most (s .args .n) (s .args .worth) (s .args .all) (s .pre .1 .1 .0) (s .pre .0) (s .pre .1 .0))
@@ -36,4 +30,4 @@ returns c =
 pub times-over-spec : {M : Type 1} → statement M
 times-over-spec =
     tie.close
-    (tie.spec rem-product-over product-over-requires div-result mul-result add-result returns)
+    (tie.spec (λ c. search needs) product-over-requires (λ c. search needs) mul-result add-result returns)

@@ -11,18 +11,6 @@ upper : (N p : ℕ) → 7 * N ≤ 10 * p → 70 ≡ coalBand N p
 unfolding coalBand
 upper N p h = simp (le-ltb (10 * p) (7 * N) h)
 
-cast-edge : tie.Need-cast-edge
-cast-edge c = search needs
-
-mul-edge : tie.Need-mul-edge
-mul-edge c = search needs
-
-cast-at : tie.Need-cast-at
-cast-at c = search needs
-
-mul-at : tie.Need-mul-at
-mul-at c = search needs
-
 returns : tie.Need-returns
 unfolding coalBand
 returns c = simp (lt-ltb _ _ (c .if1 .taken))
@@ -31,4 +19,4 @@ returns-2 : tie.Need-returns-2
 returns-2 c = upper _ _ (c .if1 .left)
 
 pub coal-band-spec : {M : Type 1} → statement M
-coal-band-spec = tie.close (tie.spec cast-edge mul-edge cast-at mul-at returns returns-2)
+coal-band-spec = tie.close (tie.spec (λ c. search needs) (λ c. search needs) (λ c. search needs) (λ c. search needs) returns returns-2)

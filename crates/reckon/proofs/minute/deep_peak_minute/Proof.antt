@@ -11,15 +11,6 @@ returns c =
     let a = c .before .args in
     deep-other (a .rated .0) 0 (a .p .0) (a .kind) (c .if1 .taken)
 
-cast-half : tie.Need-cast-half
-cast-half c = search needs
-
-mul-half : tie.Need-mul-half
-mul-half c = search needs
-
-lacking-requires : tie.Need-lacking-requires
-lacking-requires c κs = search needs
-
 mul-t7 : tie.Need-mul-t7
 mul-t7 c =
     let a = c .before .before .before .before .args in
@@ -32,4 +23,4 @@ returns-2 c =
 
 pub deep-peak-minute-spec : {M : Type 1} → statement M
 deep-peak-minute-spec =
-    tie.close (tie.spec returns cast-half mul-half lacking-requires mul-t7 returns-2)
+    tie.close (tie.spec returns (λ c. search needs) (λ c. search needs) (λ c κs. search needs) mul-t7 returns-2)

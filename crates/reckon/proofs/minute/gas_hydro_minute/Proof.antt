@@ -7,15 +7,6 @@ use borrow.Author.Needs.{needs}
 use Rattle.reckon.proofs.minute.gas_hydro_minute.Statement.{statement}
 use Rattle.reckon.proofs.minute.gas_hydro_minute.Tie as tie
 
-cast-edge : tie.Need-cast-edge
-cast-edge c = search needs
-
-mul-edge : tie.Need-mul-edge
-mul-edge c = search needs
-
-lacking-requires : tie.Need-lacking-requires
-lacking-requires c κs = search needs
-
 mul-t5 : tie.Need-mul-t5
 mul-t5 c =
     let a = c .before .before .before .args in
@@ -26,4 +17,4 @@ unfolding gasHydroMinute
 returns c = rw (c .before .lacking .ensures) refl
 
 pub gas-hydro-minute-spec : {M : Type 1} → statement M
-gas-hydro-minute-spec = tie.close (tie.spec cast-edge mul-edge lacking-requires mul-t5 returns)
+gas-hydro-minute-spec = tie.close (tie.spec (λ c. search needs) (λ c. search needs) (λ c κs. search needs) mul-t5 returns)

@@ -4,15 +4,6 @@ use borrow.Author.Needs.{needs}
 use Rattle.reckon.proofs.minute.lacking.Statement.{statement}
 use Rattle.reckon.proofs.minute.lacking.Tie as tie
 
-cast-at : tie.Need-cast-at
-cast-at c = search needs
-
-mul-at : tie.Need-mul-at
-mul-at c = search needs
-
-sub-t7 : tie.Need-sub-t7
-sub-t7 c = search needs
-
 returns : tie.Need-returns
 unfolding lacking
 returns c = simp (lt-ltb _ _ (c .if1 .taken))
@@ -22,4 +13,4 @@ unfolding lacking
 returns-2 c = simp (le-ltb _ _ (c .if1 .left))
 
 pub lacking-spec : {M : Type 1} → statement M
-lacking-spec = tie.close (tie.spec cast-at mul-at sub-t7 returns returns-2)
+lacking-spec = tie.close (tie.spec (λ c. search needs) (λ c. search needs) (λ c. search needs) returns returns-2)

@@ -4,15 +4,6 @@ use borrow.Author.Needs.{needs}
 use Rattle.reckon.proofs.minute.reserve_minute.Statement.{statement}
 use Rattle.reckon.proofs.minute.reserve_minute.Tie as tie
 
-coal-minute-requires : tie.Need-coal-minute-requires
-coal-minute-requires c κs = search needs
-
-gas-hydro-minute-requires : tie.Need-gas-hydro-minute-requires
-gas-hydro-minute-requires c κs = search needs
-
-gas-hydro-minute-requires-2 : tie.Need-gas-hydro-minute-requires-2
-gas-hydro-minute-requires-2 c κs = search needs
-
 returns : tie.Need-returns
 returns c =
     let a = c .before .before .args in
@@ -38,9 +29,9 @@ pub reserve-minute-spec : {M : Type 1} → statement M
 reserve-minute-spec =
     tie.close
     (tie.spec
-    coal-minute-requires
-    gas-hydro-minute-requires
-    gas-hydro-minute-requires-2
+    (λ c κs. search needs)
+    (λ c κs. search needs)
+    (λ c κs. search needs)
     returns
     returns-2
     returns-3

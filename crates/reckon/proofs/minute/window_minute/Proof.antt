@@ -18,15 +18,6 @@ top c = simp (back32 (c .before .before .args .x .a) (omega arith)) at (c .calle
 most : (c : tie.After-called-up) (p : ℕ) → windowMinute (c .before .before .args .member) (c .before .before .args .x) p ≤ mostMinute
 most c p = let a = c .before .before .args in window-most (a .member) (a .x) p (omega arith) (omega (arith, top c))
 
-called-up-requires : tie.Need-called-up-requires
-called-up-requires c κs = search needs
-
-deep-peak-minute-requires : tie.Need-deep-peak-minute-requires
-deep-peak-minute-requires c κs = search needs
-
-reserve-minute-requires : tie.Need-reserve-minute-requires
-reserve-minute-requires c κs = search needs
-
 returns : tie.Need-returns
 returns c =
     let s = c .before .before .before .before in
@@ -53,9 +44,9 @@ pub window-minute-spec : {M : Type 1} → statement M
 window-minute-spec =
     tie.close
     (tie.spec
-    called-up-requires
-    deep-peak-minute-requires
-    reserve-minute-requires
+    (λ c κs. search needs)
+    (λ c κs. search needs)
+    (λ c κs. search needs)
     returns
     returns-2
     returns-3)

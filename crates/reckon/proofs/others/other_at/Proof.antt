@@ -5,12 +5,6 @@ use borrow.Author.Needs.{needs}
 use Rattle.reckon.proofs.others.other_at.Statement.{statement}
 use Rattle.reckon.proofs.others.other_at.Tie as tie
 
-record-at-requires : tie.Need-record-at-requires
-record-at-requires c κs = search needs
-
-is-own-live-requires : tie.Need-is-own-live-requires
-is-own-live-requires c κs = search needs
-
 other-live-requires : tie.Need-other-live-requires
 other-live-requires c κs =
     let p = c .before .before .before .before .before .pre in
@@ -28,4 +22,4 @@ returns-2 c =
 pub other-at-spec : {M : Type 1} → statement M
 other-at-spec =
     tie.close
-    (tie.spec record-at-requires is-own-live-requires other-live-requires returns returns-2)
+    (tie.spec (λ c κs. search needs) (λ c κs. search needs) other-live-requires returns returns-2)

@@ -13,21 +13,12 @@ use Rattle.reckon.proofs.others.other_live.Tie as tie
 a-fits : (c : tie.After-struct-told) → mag (c .before .before .before .before .args .x .a) < 2 ^ 31
 a-fits c = omega arith
 
-is-by-energy-requires : tie.Need-is-by-energy-requires
-is-by-energy-requires c κs = search needs
-
-event-wh-requires : tie.Need-event-wh-requires
-event-wh-requires c κs = search needs
-
 returns : tie.Need-returns
 returns c =
     let s = c .before .before .before .before .before in
     let a = s .args in
     let e : c .event-wh .result .0 ≡ eventWh (a .x .a) (a .x .b) (a .x .c) = simp (back32 (a .x .a) (a-fits (c .before))) at (c .event-wh .ensures .0) in
     energy-turned (a .member) (a .x) (s .pre .1 .1) (sym (c .before .before .before .is-by-energy .ensures) ∙ c .before .before .if1 .taken) _ e (c .event-wh .ensures .1)
-
-live-pay-requires : tie.Need-live-pay-requires
-live-pay-requires c κs = search needs
 
 returns-2 : tie.Need-returns-2
 returns-2 c =
@@ -51,10 +42,10 @@ pub other-live-spec : {M : Type 1} → statement M
 other-live-spec =
     tie.close
     (tie.spec
-    is-by-energy-requires
-    event-wh-requires
+    (λ c κs. search needs)
+    (λ c κs. search needs)
     returns
-    live-pay-requires
+    (λ c κs. search needs)
     returns-2
     returns-3
     returns-4)

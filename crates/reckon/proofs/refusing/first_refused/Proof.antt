@@ -17,9 +17,6 @@ Inv-loop month member b n first i₀ i = (i ≤ n) × (firstNonzero (refusalAt m
 abbrev μ-loop : tie.MeasureT-loop
 μ-loop month member b n first i₀ i = n - i
 
-first-own-requires : tie.Need-first-own-requires Inv-loop μ-loop
-first-own-requires c κs = search needs
-
 loop-holds : tie.Need-loop-holds Inv-loop μ-loop
 loop-holds c = (omega arith, first-none _)
 
@@ -60,7 +57,7 @@ first-refused-spec =
     (tie.spec
     Inv-loop
     μ-loop
-    first-own-requires
+    (λ c κs. search needs)
     loop-holds
     refusal-of-requires
     returns

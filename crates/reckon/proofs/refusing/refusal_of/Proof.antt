@@ -8,15 +8,6 @@ use borrow.Author.Needs.{needs}
 use Rattle.reckon.proofs.refusing.refusal_of.Statement.{statement}
 use Rattle.reckon.proofs.refusing.refusal_of.Tie as tie
 
-record-at-requires : tie.Need-record-at-requires
-record-at-requires c κs = search needs
-
-is-own-live-requires : tie.Need-is-own-live-requires
-is-own-live-requires c κs = search needs
-
-idle-refusal-requires : tie.Need-idle-refusal-requires
-idle-refusal-requires c κs = search needs
-
 returns : tie.Need-returns
 returns c =
     let s = c .before .before .before .before .before in
@@ -31,16 +22,13 @@ refusal-at-requires c κs =
     let e = c .before .before .record-at .ensures in
     (omega arith, (e, (s .pre .1 .1, sym (c .before .is-own-live .ensures) ∙ not-false (c .before .is-own-live .result) (c .if1 .left))))
 
-returns-2 : tie.Need-returns-2
-returns-2 c = search needs
-
 pub refusal-of-spec : {M : Type 1} → statement M
 refusal-of-spec =
     tie.close
     (tie.spec
-    record-at-requires
-    is-own-live-requires
-    idle-refusal-requires
+    (λ c κs. search needs)
+    (λ c κs. search needs)
+    (λ c κs. search needs)
     returns
     refusal-at-requires
-    returns-2)
+    (λ c. search needs))

@@ -28,15 +28,6 @@ shared-slice-read-place c = omega arith
 record-at-requires : tie.Need-record-at-requires Inv-loop μ-loop
 record-at-requires c κs = c .before .before .before .before .before .before .pre .1 (c .before .before .loop .k) (omega arith)
 
-covers-requires : tie.Need-covers-requires Inv-loop μ-loop
-covers-requires c κs = search needs
-
-output-at-requires : tie.Need-output-at-requires Inv-loop μ-loop
-output-at-requires c κs = search needs
-
-window-minute-requires : tie.Need-window-minute-requires Inv-loop μ-loop
-window-minute-requires c κs = search needs
-
 returns : tie.Need-returns Inv-loop μ-loop
 returns c =
     let a = c .before .before .before .before .before .before .before .before .before .before .before .args in
@@ -79,9 +70,9 @@ minute-at-spec =
     mul-place
     shared-slice-read-place
     record-at-requires
-    covers-requires
-    output-at-requires
-    window-minute-requires
+    (λ c κs. search needs)
+    (λ c κs. search needs)
+    (λ c κs. search needs)
     returns
     add-k
     loop-less

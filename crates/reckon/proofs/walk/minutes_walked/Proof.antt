@@ -20,9 +20,6 @@ loop-holds c =
     let a = c .before .before .before .args in
     (omega arith, sym (total-none (minuteAt (a .member) (a .series .now) (callsAt (a .b .now) (a .places .now))) 0), omega arith)
 
-minute-at-requires : tie.Need-minute-at-requires Inv-loop μ-loop
-minute-at-requires c κs = search needs
-
 add-sum : tie.Need-add-sum Inv-loop μ-loop
 add-sum c = omega arith
 
@@ -51,7 +48,7 @@ minutes-walked-spec =
     Inv-loop
     μ-loop
     loop-holds
-    minute-at-requires
+    (λ c κs. search needs)
     add-sum
     add-minute
     loop-less

@@ -7,12 +7,6 @@ use borrow.Author.Needs.{needs}
 use Rattle.reckon.proofs.walk.walked.Statement.{statement}
 use Rattle.reckon.proofs.walk.walked.Tie as tie
 
-windows-of-requires : tie.Need-windows-of-requires
-windows-of-requires c κs = search needs
-
-array-share-prefix-at : tie.Need-array-share-prefix-at
-array-share-prefix-at c = search needs
-
 slice-aggregate-minutes-walked : tie.Need-slice-aggregate-minutes-walked
 slice-aggregate-minutes-walked c = let w = c .before .before .windows-of in sym (length-take-le {A = ℕ} (w .result .count) (w .result .at) (w .ensures .room))
 
@@ -33,8 +27,8 @@ pub walked-spec : {M : Type 1} → statement M
 walked-spec =
     tie.close
     (tie.spec
-    windows-of-requires
-    array-share-prefix-at
+    (λ c κs. search needs)
+    (λ c. search needs)
     slice-aggregate-minutes-walked
     minutes-walked-requires
     returns)

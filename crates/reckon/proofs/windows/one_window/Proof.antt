@@ -10,12 +10,6 @@ own : (c : tie.After-is-window) → c .is-window .result
     ≡ isWindow (c .before .before .before .args .member) (c .before .before .before .args .service) (recordAt (c .before .before .before .args .b .now) (c .before .before .before .args .i))
 own c = let a = c .before .before .before .args in c .is-window .ensures ∙ ap (isWindow (a .member) (a .service)) (c .before .record-at .ensures)
 
-record-at-requires : tie.Need-record-at-requires
-record-at-requires c κs = search needs
-
-is-window-requires : tie.Need-is-window-requires
-is-window-requires c κs = search needs
-
 returns : tie.Need-returns
 returns c = rw (sym (own (c .before)) ∙ c .if1 .taken) refl
 
@@ -23,4 +17,4 @@ returns-2 : tie.Need-returns-2
 returns-2 c = rw (sym (own (c .before)) ∙ c .if1 .left) refl
 
 pub one-window-spec : {M : Type 1} → statement M
-one-window-spec = tie.close (tie.spec record-at-requires is-window-requires returns returns-2)
+one-window-spec = tie.close (tie.spec (λ c κs. search needs) (λ c κs. search needs) returns returns-2)

@@ -7,27 +7,6 @@ use borrow.Author.Needs.{needs}
 use Rattle.register.proofs.Entry.is_sound.Statement.{statement}
 use Rattle.register.proofs.Entry.is_sound.Tie as tie
 
-cast-numbers-are-sound : tie.Need-cast-numbers-are-sound
-cast-numbers-are-sound c = search needs
-
-cast-numbers-are-sound-2 : tie.Need-cast-numbers-are-sound-2
-cast-numbers-are-sound-2 c = search needs
-
-cast-numbers-are-sound-3 : tie.Need-cast-numbers-are-sound-3
-cast-numbers-are-sound-3 c = search needs
-
-cast-numbers-are-sound-4 : tie.Need-cast-numbers-are-sound-4
-cast-numbers-are-sound-4 c = search needs
-
-numbers-are-sound-requires : tie.Need-numbers-are-sound-requires
-numbers-are-sound-requires c κs = search needs
-
-is-sound-requires : tie.Need-is-sound-requires
-is-sound-requires c κs = search needs
-
-limit-is-sound-requires : tie.Need-limit-is-sound-requires
-limit-is-sound-requires c κs = search needs
-
 returns : tie.Need-returns
 unfolding entryIsSound entryLimited entryLine limitedIsSound lineIsSound
 returns c =
@@ -37,11 +16,11 @@ pub is-sound-spec : {M : Type 1} → statement M
 is-sound-spec =
     tie.close
     (tie.spec
-    cast-numbers-are-sound
-    cast-numbers-are-sound-2
-    cast-numbers-are-sound-3
-    cast-numbers-are-sound-4
-    numbers-are-sound-requires
-    is-sound-requires
-    limit-is-sound-requires
+    (λ c. search needs)
+    (λ c. search needs)
+    (λ c. search needs)
+    (λ c. search needs)
+    (λ c κs. search needs)
+    (λ c κs. search needs)
+    (λ c κs. search needs)
     returns)

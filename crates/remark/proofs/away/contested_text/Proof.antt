@@ -7,14 +7,8 @@ use Rattle.remark.proofs.away.contested_text.Tie as tie
 returns : tie.Need-returns
 returns c = no-room mostContested _ (c .before .before .args .out .now) (c .if1 .taken)
 
-put-contested-requires : tie.Need-put-contested-requires
-put-contested-requires c κs = search needs
-
-same-length : tie.Need-same-length
-same-length c = search needs
-
 returns-2 : tie.Need-returns-2
 returns-2 c = rendered mostContested (c .before .before .before .before .if1 .left) (c .before .before .put-contested .ensures)
 
 pub contested-text-spec : {M : Type 1} → statement M
-contested-text-spec = tie.close (tie.spec returns put-contested-requires same-length returns-2)
+contested-text-spec = tie.close (tie.spec returns (λ c κs. search needs) (λ c. search needs) returns-2)

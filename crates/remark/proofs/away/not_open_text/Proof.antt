@@ -7,14 +7,8 @@ use Rattle.remark.proofs.away.not_open_text.Tie as tie
 returns : tie.Need-returns
 returns c = no-room mostNotOpen _ (c .before .before .args .out .now) (c .if1 .taken)
 
-put-not-open-requires : tie.Need-put-not-open-requires
-put-not-open-requires c κs = search needs
-
-same-length : tie.Need-same-length
-same-length c = search needs
-
 returns-2 : tie.Need-returns-2
 returns-2 c = rendered mostNotOpen (c .before .before .before .before .if1 .left) (c .before .before .put-not-open .ensures)
 
 pub not-open-text-spec : {M : Type 1} → statement M
-not-open-text-spec = tie.close (tie.spec returns put-not-open-requires same-length returns-2)
+not-open-text-spec = tie.close (tie.spec returns (λ c κs. search needs) (λ c. search needs) returns-2)

@@ -4,30 +4,6 @@ use borrow.Author.Needs.{needs}
 use Rattle.remark.proofs.away.put_asked.Statement.{statement}
 use Rattle.remark.proofs.away.put_asked.Tie as tie
 
-slice-aggregate-put-field : tie.Need-slice-aggregate-put-field
-slice-aggregate-put-field c = search needs
-
-cast-put-field : tie.Need-cast-put-field
-cast-put-field c = search needs
-
-put-field-requires : tie.Need-put-field-requires
-put-field-requires c κs = search needs
-
-slice-aggregate-put-word : tie.Need-slice-aggregate-put-word
-slice-aggregate-put-word c = search needs
-
-put-word-requires : tie.Need-put-word-requires
-put-word-requires c κs = search needs
-
-put-service-requires : tie.Need-put-service-requires
-put-service-requires c κs = search needs
-
-put-with-requires : tie.Need-put-with-requires
-put-with-requires c κs = search needs
-
-same-length : tie.Need-same-length
-same-length c = search needs
-
 returns : tie.Need-returns
 unfolding askedText
 returns c =
@@ -40,12 +16,12 @@ pub put-asked-spec : {M : Type 1} → statement M
 put-asked-spec =
     tie.close
     (tie.spec
-    slice-aggregate-put-field
-    cast-put-field
-    put-field-requires
-    slice-aggregate-put-word
-    put-word-requires
-    put-service-requires
-    put-with-requires
-    same-length
+    (λ c. search needs)
+    (λ c. search needs)
+    (λ c κs. search needs)
+    (λ c. search needs)
+    (λ c κs. search needs)
+    (λ c κs. search needs)
+    (λ c κs. search needs)
+    (λ c. search needs)
     returns)

@@ -9,15 +9,6 @@ use borrow.Author.Needs.{needs}
 use Rattle.remark.proofs.away.put_with.Statement.{statement}
 use Rattle.remark.proofs.away.put_with.Tie as tie
 
-slice-aggregate-put-signed-field32 : tie.Need-slice-aggregate-put-signed-field32
-slice-aggregate-put-signed-field32 c = search needs
-
-put-signed-field32-requires : tie.Need-put-signed-field32-requires
-put-signed-field32-requires c κs = search needs
-
-same-length : tie.Need-same-length
-same-length c = search needs
-
 a-fits : (c : tie.After-struct-told) → SFits w32 (c .before .before .before .before .before .before .args .x .a)
 a-fits c = search needs
 
@@ -34,24 +25,6 @@ returns-2 c =
     let a = c .before .before .before .before .before .args in
     same-put (with-none _ (c .before .before .if1 .left) (c .if2 .taken)) (looser mostWith (omega arith) (none-put (a .out .now) (a .at)))
 
-slice-aggregate-put-signed-field32-2 : tie.Need-slice-aggregate-put-signed-field32-2
-slice-aggregate-put-signed-field32-2 c = search needs
-
-put-signed-field32-requires-2 : tie.Need-put-signed-field32-requires-2
-put-signed-field32-requires-2 c κs = search needs
-
-slice-aggregate-put-field : tie.Need-slice-aggregate-put-field
-slice-aggregate-put-field c = search needs
-
-cast-put-field : tie.Need-cast-put-field
-cast-put-field c = search needs
-
-put-field-requires : tie.Need-put-field-requires
-put-field-requires c κs = search needs
-
-same-length-2 : tie.Need-same-length-2
-same-length-2 c = search needs
-
 returns-3 : tie.Need-returns-3
 returns-3 c =
     let dp = c .before .before .before .before .before .before .before .before in
@@ -64,15 +37,15 @@ pub put-with-spec : {M : Type 1} → statement M
 put-with-spec =
     tie.close
     (tie.spec
-    slice-aggregate-put-signed-field32
-    put-signed-field32-requires
-    same-length
+    (λ c. search needs)
+    (λ c κs. search needs)
+    (λ c. search needs)
     returns
     returns-2
-    slice-aggregate-put-signed-field32-2
-    put-signed-field32-requires-2
-    slice-aggregate-put-field
-    cast-put-field
-    put-field-requires
-    same-length-2
+    (λ c. search needs)
+    (λ c κs. search needs)
+    (λ c. search needs)
+    (λ c. search needs)
+    (λ c κs. search needs)
+    (λ c. search needs)
     returns-3)

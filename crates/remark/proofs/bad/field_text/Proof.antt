@@ -7,14 +7,8 @@ use Rattle.remark.proofs.bad.field_text.Tie as tie
 returns : tie.Need-returns
 returns c = no-room mostField _ (c .before .before .args .out .now) (c .if1 .taken)
 
-put-field-text-requires : tie.Need-put-field-text-requires
-put-field-text-requires c κs = search needs
-
-same-length : tie.Need-same-length
-same-length c = search needs
-
 returns-2 : tie.Need-returns-2
 returns-2 c = rendered mostField (c .before .before .before .before .if1 .left) (c .before .before .put-field-text .ensures)
 
 pub field-text-spec : {M : Type 1} → statement M
-field-text-spec = tie.close (tie.spec returns put-field-text-requires same-length returns-2)
+field-text-spec = tie.close (tie.spec returns (λ c κs. search needs) (λ c. search needs) returns-2)

@@ -9,21 +9,6 @@ use borrow.Author.Needs.{needs}
 use Rattle.remark.proofs.bad.put_a_why.Statement.{statement}
 use Rattle.remark.proofs.bad.put_a_why.Tie as tie
 
-slice-aggregate-put-signed-field32 : tie.Need-slice-aggregate-put-signed-field32
-slice-aggregate-put-signed-field32 c = search needs
-
-put-signed-field32-requires : tie.Need-put-signed-field32-requires
-put-signed-field32-requires c κs = search needs
-
-slice-aggregate-put-signed-field32-2 : tie.Need-slice-aggregate-put-signed-field32-2
-slice-aggregate-put-signed-field32-2 c = search needs
-
-put-signed-field32-requires-2 : tie.Need-put-signed-field32-requires-2
-put-signed-field32-requires-2 c κs = search needs
-
-same-length : tie.Need-same-length
-same-length c = search needs
-
 test-fits : (c : tie.After-struct-told) → SFits w32 (c .before .before .before .args .l .high)
 test-fits c = search needs
 
@@ -42,12 +27,6 @@ returns c =
     let q = c .before .before .before .before .before .before .before .before .before .before .before .before .if1 .taken in
     same-put (a-beyond _ _ (rw (toZ-ofZ w32 _ (test-fits p)) at q)) (looser mostWhy (omega arith) (and-then low high))
 
-put-not-named-requires : tie.Need-put-not-named-requires
-put-not-named-requires c κs = search needs
-
-same-length-2 : tie.Need-same-length-2
-same-length-2 c = search needs
-
 returns-2 : tie.Need-returns-2
 returns-2 c =
     let p = c .before .before .before .before .before in
@@ -58,12 +37,12 @@ pub put-a-why-spec : {M : Type 1} → statement M
 put-a-why-spec =
     tie.close
     (tie.spec
-    slice-aggregate-put-signed-field32
-    put-signed-field32-requires
-    slice-aggregate-put-signed-field32-2
-    put-signed-field32-requires-2
-    same-length
+    (λ c. search needs)
+    (λ c κs. search needs)
+    (λ c. search needs)
+    (λ c κs. search needs)
+    (λ c. search needs)
     returns
-    put-not-named-requires
-    same-length-2
+    (λ c κs. search needs)
+    (λ c. search needs)
     returns-2)

@@ -8,28 +8,13 @@ use Rattle.remark.proofs.bad.record_text.Tie as tie
 returns : tie.Need-returns
 returns c = let a = c .before .before .before .before .args in no-room (mostRecord (a .what .now) (a .why .now)) _ (a .out .now) (omega (arith, c .if1 .taken))
 
-sub-if2 : tie.Need-sub-if2
-sub-if2 c = search needs
-
 returns-2 : tie.Need-returns-2
 returns-2 c = let a = c .before .before .before .before .before .args in no-room (mostRecord (a .what .now) (a .why .now)) _ (a .out .now) (omega (arith, c .if2 .taken, c .before .if1 .left))
-
-sub-if3 : tie.Need-sub-if3
-sub-if3 c = search needs
-
-sub-if3-2 : tie.Need-sub-if3-2
-sub-if3-2 c = search needs
 
 returns-3 : tie.Need-returns-3
 returns-3 c =
     let a = c .before .before .before .before .before .before .args in
     no-room (mostRecord (a .what .now) (a .why .now)) _ (a .out .now) (omega (arith, c .if3 .taken, c .before .if2 .left, c .before .before .if1 .left))
-
-put-record-requires : tie.Need-put-record-requires
-put-record-requires c κs = search needs
-
-same-length : tie.Need-same-length
-same-length c = search needs
 
 returns-4 : tie.Need-returns-4
 returns-4 c =
@@ -44,11 +29,11 @@ record-text-spec =
     tie.close
     (tie.spec
     returns
-    sub-if2
+    (λ c. search needs)
     returns-2
-    sub-if3
-    sub-if3-2
+    (λ c. search needs)
+    (λ c. search needs)
     returns-3
-    put-record-requires
-    same-length
+    (λ c κs. search needs)
+    (λ c. search needs)
     returns-4)

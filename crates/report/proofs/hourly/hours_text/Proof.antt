@@ -7,14 +7,8 @@ use Rattle.report.proofs.hourly.hours_text.Tie as tie
 returns : tie.Need-returns
 returns c = no-room mostHoursText _ (c .before .before .args .out .now) (c .if1 .taken)
 
-put-hours-requires : tie.Need-put-hours-requires
-put-hours-requires c κs = search needs
-
-same-length : tie.Need-same-length
-same-length c = search needs
-
 returns-2 : tie.Need-returns-2
 returns-2 c = rendered mostHoursText (c .before .before .before .before .if1 .left) (c .before .before .put-hours .ensures)
 
 pub hours-text-spec : {M : Type 1} → statement M
-hours-text-spec = tie.close (tie.spec returns put-hours-requires same-length returns-2)
+hours-text-spec = tie.close (tie.spec returns (λ c κs. search needs) (λ c. search needs) returns-2)

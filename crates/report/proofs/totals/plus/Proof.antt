@@ -6,19 +6,13 @@ use borrow.Author.Needs.{needs}
 use Rattle.report.proofs.totals.plus.Statement.{statement}
 use Rattle.report.proofs.totals.plus.Tie as tie
 
-sub-room : tie.Need-sub-room
-sub-room c = search needs
-
 returns : tie.Need-returns
 unfolding fenPlus
 returns c = sym (min-eq-right (omega arith))
-
-add-result : tie.Need-add-result
-add-result c = search needs
 
 returns-2 : tie.Need-returns-2
 unfolding fenPlus
 returns-2 c = sym (min-eq-left (omega arith))
 
 pub plus-spec : {M : Type 1} → statement M
-plus-spec = tie.close (tie.spec sub-room returns add-result returns-2)
+plus-spec = tie.close (tie.spec (λ c. search needs) returns (λ c. search needs) returns-2)

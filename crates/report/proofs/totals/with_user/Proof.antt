@@ -7,18 +7,6 @@ use borrow.Author.Needs.{needs}
 use Rattle.report.proofs.totals.with_user.Statement.{statement}
 use Rattle.report.proofs.totals.with_user.Tie as tie
 
-due-of-requires : tie.Need-due-of-requires
-due-of-requires c κs = search needs
-
-plus-requires : tie.Need-plus-requires
-plus-requires c κs = search needs
-
-owed-of-requires : tie.Need-owed-of-requires
-owed-of-requires c κs = search needs
-
-plus-requires-2 : tie.Need-plus-requires-2
-plus-requires-2 c κs = search needs
-
 returns : tie.Need-returns
 unfolding withUser
 returns c =
@@ -31,4 +19,4 @@ returns c =
 
 pub with-user-spec : {M : Type 1} → statement M
 with-user-spec =
-    tie.close (tie.spec due-of-requires plus-requires owed-of-requires plus-requires-2 returns)
+    tie.close (tie.spec (λ c κs. search needs) (λ c κs. search needs) (λ c κs. search needs) (λ c κs. search needs) returns)

@@ -7,14 +7,8 @@ use Rattle.report.proofs.why.part_text.Tie as tie
 returns : tie.Need-returns
 returns c = no-room mostPart _ (c .before .before .args .out .now) (c .if1 .taken)
 
-put-part-requires : tie.Need-put-part-requires
-put-part-requires c κs = search needs
-
-same-length : tie.Need-same-length
-same-length c = search needs
-
 returns-2 : tie.Need-returns-2
 returns-2 c = rendered mostPart (c .before .before .before .before .if1 .left) (c .before .before .put-part .ensures)
 
 pub part-text-spec : {M : Type 1} → statement M
-part-text-spec = tie.close (tie.spec returns put-part-requires same-length returns-2)
+part-text-spec = tie.close (tie.spec returns (λ c κs. search needs) (λ c. search needs) returns-2)

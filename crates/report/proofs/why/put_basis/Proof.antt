@@ -6,33 +6,6 @@ use borrow.Author.Needs.{needs}
 use Rattle.report.proofs.why.put_basis.Statement.{statement}
 use Rattle.report.proofs.why.put_basis.Tie as tie
 
-slice-aggregate-put-word : tie.Need-slice-aggregate-put-word
-slice-aggregate-put-word c = search needs
-
-put-word-requires : tie.Need-put-word-requires
-put-word-requires c κs = search needs
-
-slice-aggregate-put-some : tie.Need-slice-aggregate-put-some
-slice-aggregate-put-some c = search needs
-
-put-some-requires : tie.Need-put-some-requires
-put-some-requires c κs = search needs
-
-slice-aggregate-put-some-2 : tie.Need-slice-aggregate-put-some-2
-slice-aggregate-put-some-2 c = search needs
-
-put-some-requires-2 : tie.Need-put-some-requires-2
-put-some-requires-2 c κs = search needs
-
-slice-aggregate-put-some-signed : tie.Need-slice-aggregate-put-some-signed
-slice-aggregate-put-some-signed c = search needs
-
-put-some-signed-requires : tie.Need-put-some-signed-requires
-put-some-signed-requires c κs = search needs
-
-same-length : tie.Need-same-length
-same-length c = search needs
-
 returns : tie.Need-returns
 unfolding basisText
 returns c =
@@ -49,13 +22,13 @@ pub put-basis-spec : {M : Type 1} → statement M
 put-basis-spec =
     tie.close
     (tie.spec
-    slice-aggregate-put-word
-    put-word-requires
-    slice-aggregate-put-some
-    put-some-requires
-    slice-aggregate-put-some-2
-    put-some-requires-2
-    slice-aggregate-put-some-signed
-    put-some-signed-requires
-    same-length
+    (λ c. search needs)
+    (λ c κs. search needs)
+    (λ c. search needs)
+    (λ c κs. search needs)
+    (λ c. search needs)
+    (λ c κs. search needs)
+    (λ c. search needs)
+    (λ c κs. search needs)
+    (λ c. search needs)
     returns)

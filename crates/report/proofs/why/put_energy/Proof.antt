@@ -11,27 +11,6 @@ returns : tie.Need-returns
 unfolding energyText
 returns c = none-said _ _ _ _ _ (zero-bits (c .before .before .before .before .args .wh .0) (record { sfits = c .before .struct-told .given .0 .1 }) (c .if1 .taken))
 
-slice-aggregate-put-signed-field : tie.Need-slice-aggregate-put-signed-field
-slice-aggregate-put-signed-field c = search needs
-
-put-signed-field-requires : tie.Need-put-signed-field-requires
-put-signed-field-requires c κs = search needs
-
-slice-aggregate-put-field : tie.Need-slice-aggregate-put-field
-slice-aggregate-put-field c = search needs
-
-put-field-requires : tie.Need-put-field-requires
-put-field-requires c κs = search needs
-
-slice-aggregate-put-word : tie.Need-slice-aggregate-put-word
-slice-aggregate-put-word c = search needs
-
-put-word-requires : tie.Need-put-word-requires
-put-word-requires c κs = search needs
-
-same-length : tie.Need-same-length
-same-length c = search needs
-
 returns-2 : tie.Need-returns-2
 unfolding energyText
 returns-2 c =
@@ -46,11 +25,11 @@ put-energy-spec =
     tie.close
     (tie.spec
     returns
-    slice-aggregate-put-signed-field
-    put-signed-field-requires
-    slice-aggregate-put-field
-    put-field-requires
-    slice-aggregate-put-word
-    put-word-requires
-    same-length
+    (λ c. search needs)
+    (λ c κs. search needs)
+    (λ c. search needs)
+    (λ c κs. search needs)
+    (λ c. search needs)
+    (λ c κs. search needs)
+    (λ c. search needs)
     returns-2)

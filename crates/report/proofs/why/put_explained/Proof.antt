@@ -4,18 +4,6 @@ use borrow.Author.Needs.{needs}
 use Rattle.report.proofs.why.put_explained.Statement.{statement}
 use Rattle.report.proofs.why.put_explained.Tie as tie
 
-put-energy-requires : tie.Need-put-energy-requires
-put-energy-requires c κs = search needs
-
-put-added-requires : tie.Need-put-added-requires
-put-added-requires c κs = search needs
-
-put-all-requires : tie.Need-put-all-requires
-put-all-requires c κs = search needs
-
-same-length : tie.Need-same-length
-same-length c = search needs
-
 returns : tie.Need-returns
 unfolding explainedText
 returns c =
@@ -25,4 +13,4 @@ returns c =
 pub put-explained-spec : {M : Type 1} → statement M
 put-explained-spec =
     tie.close
-    (tie.spec put-energy-requires put-added-requires put-all-requires same-length returns)
+    (tie.spec (λ c κs. search needs) (λ c κs. search needs) (λ c κs. search needs) (λ c. search needs) returns)

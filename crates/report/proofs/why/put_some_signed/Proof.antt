@@ -14,16 +14,10 @@ returns c =
     let s = c .before .before .before in
     none-said _ _ _ _ _ (zero-bits (s .args .n) (fits s) (c .if1 .taken))
 
-put-signed-field-requires : tie.Need-put-signed-field-requires
-put-signed-field-requires c κs = search needs
-
-same-length : tie.Need-same-length
-same-length c = search needs
-
 returns-2 : tie.Need-returns-2
 returns-2 c =
     let s = c .before .before .before .before .before .before .before in
     some-said _ (some-bits (s .args .n) (c .before .before .before .before .if1 .left)) (rw (toZ-ofZ w64 (s .args .n) (fits s)) at (c .before .before .put-signed-field .ensures))
 
 pub put-some-signed-spec : {M : Type 1} → statement M
-put-some-signed-spec = tie.close (tie.spec returns put-signed-field-requires same-length returns-2)
+put-some-signed-spec = tie.close (tie.spec returns (λ c κs. search needs) (λ c. search needs) returns-2)

@@ -8,21 +8,6 @@ use borrow.Author.Needs.{needs}
 use Rattle.row.proofs.Row.first_five.Statement.{statement}
 use Rattle.row.proofs.Row.first_five.Tie as tie
 
-array-read-t5 : tie.Need-array-read-t5
-array-read-t5 c = search needs
-
-array-read-t8 : tie.Need-array-read-t8
-array-read-t8 c = search needs
-
-array-read-t11 : tie.Need-array-read-t11
-array-read-t11 c = search needs
-
-array-read-t14 : tie.Need-array-read-t14
-array-read-t14 c = search needs
-
-array-read-t17 : tie.Need-array-read-t17
-array-read-t17 c = search needs
-
 returns : tie.Need-returns
 returns c =
     let row = c .before .args .self in
@@ -32,4 +17,4 @@ returns c =
 pub first-five-spec : {M : Type 1} → statement M
 first-five-spec =
     tie.close
-    (tie.spec array-read-t5 array-read-t8 array-read-t11 array-read-t14 array-read-t17 returns)
+    (tie.spec (λ c. search needs) (λ c. search needs) (λ c. search needs) (λ c. search needs) (λ c. search needs) returns)

@@ -9,34 +9,16 @@ use borrow.Author.Needs.{needs}
 use Rattle.row.proofs.Row.parted.Statement.{statement}
 use Rattle.row.proofs.Row.parted.Tie as tie
 
-spoilt-requires : tie.Need-spoilt-requires
-spoilt-requires c κs = search needs
-
 returns : tie.Need-returns
 returns c =
     let a = c .before .before .before .args in
     λ separator. by-spoiling separator (a .last) (a .self) (c .spoilt .result) separator (c .spoilt .ensures)
     (parted-early separator (a .last) (a .self) (not-true _ (c .before .if1 .taken)))
 
-spoilt-requires-2 : tie.Need-spoilt-requires-2
-spoilt-requires-2 c κs = search needs
-
 returns-2 : tie.Need-returns-2
 returns-2 c =
     let a = c .before .before .before .before .args in
     λ separator. by-spoiling separator (a .last) (a .self) (c .spoilt2 .result) separator (c .spoilt2 .ensures) (parted-late separator (a .last) (a .self) (c .before .if2 .taken))
-
-hold-requires : tie.Need-hold-requires
-hold-requires c κs = search needs
-
-mul-ended : tie.Need-mul-ended
-mul-ended c = search needs
-
-array-write-ended : tie.Need-array-write-ended
-array-write-ended c = search needs
-
-add-self : tie.Need-add-self
-add-self c = search needs
 
 returns-3 : tie.Need-returns-3
 returns-3 c =
@@ -50,12 +32,12 @@ pub parted-spec : {M : Type 1} → statement M
 parted-spec =
     tie.close
     (tie.spec
-    spoilt-requires
+    (λ c κs. search needs)
     returns
-    spoilt-requires-2
+    (λ c κs. search needs)
     returns-2
-    hold-requires
-    mul-ended
-    array-write-ended
-    add-self
+    (λ c κs. search needs)
+    (λ c. search needs)
+    (λ c. search needs)
+    (λ c. search needs)
     returns-3)

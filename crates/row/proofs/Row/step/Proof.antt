@@ -7,19 +7,10 @@ use borrow.Author.Needs.{needs}
 use Rattle.row.proofs.Row.step.Statement.{statement}
 use Rattle.row.proofs.Row.step.Tie as tie
 
-parted-requires : tie.Need-parted-requires
-parted-requires c κs = search needs
-
 returns : tie.Need-returns
 returns c =
     let a = c .before .before .args in
     subst (λ (b : ℕ). RowFollows (a .separator) (a .last) (a .self) b (c .parted .result)) (sym (c .before .if1 .taken)) (c .parted .ensures (a .separator))
-
-is-digit-requires : tie.Need-is-digit-requires
-is-digit-requires c κs = search needs
-
-spoilt-requires : tie.Need-spoilt-requires
-spoilt-requires c κs = search needs
 
 returns-2 : tie.Need-returns-2
 returns-2 c =
@@ -41,10 +32,10 @@ pub step-spec : {M : Type 1} → statement M
 step-spec =
     tie.close
     (tie.spec
-    parted-requires
+    (λ c κs. search needs)
     returns
-    is-digit-requires
-    spoilt-requires
+    (λ c κs. search needs)
+    (λ c κs. search needs)
     returns-2
     grown-requires
     returns-3)

@@ -10,15 +10,6 @@ use Rattle.score.proofs.answer.in_fen.Tie as tie
 abbrev valued : Grains → ℕ → Score
 valued g f = record { number = 0; place = 0; grains = g; fen = record { 0 = f } }
 
-enum-known-earned : tie.Need-enum-known-earned
-enum-known-earned c = search needs
-
-to-fen-requires : tie.Need-to-fen-requires
-to-fen-requires c κs = search needs
-
-enum-known-earned-2 : tie.Need-enum-known-earned-2
-enum-known-earned-2 c = search needs
-
 returns : tie.Need-returns
 unfolding inFen
 returns c =
@@ -31,4 +22,4 @@ returns-2 c = rw (c .before .earned2 .given .1) refl
 
 pub in-fen-spec : {M : Type 1} → statement M
 in-fen-spec =
-    tie.close (tie.spec enum-known-earned to-fen-requires enum-known-earned-2 returns returns-2)
+    tie.close (tie.spec (λ c. search needs) (λ c κs. search needs) (λ c. search needs) returns returns-2)

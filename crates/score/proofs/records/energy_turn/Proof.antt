@@ -15,12 +15,6 @@ use Rattle.score.proofs.records.energy_turn.Tie as tie
 a-fits : (c : tie.After-struct-told) → mag (c .before .record-at .result .a) < 2 ^ 31
 a-fits c = omega arith
 
-record-at-requires : tie.Need-record-at-requires
-record-at-requires c κs = search needs
-
-event-wh-requires : tie.Need-event-wh-requires
-event-wh-requires c κs = search needs
-
 returns : tie.Need-returns
 returns c =
     let s = c .before .before .before .before in
@@ -31,4 +25,4 @@ returns c =
     (e ∙ ap (λ (y : Call). eventWh (y .a) (y .b) (y .c)) (x .ensures)) (c .event-wh .ensures .1)
 
 pub energy-turn-spec : {M : Type 1} → statement M
-energy-turn-spec = tie.close (tie.spec record-at-requires event-wh-requires returns)
+energy-turn-spec = tie.close (tie.spec (λ c κs. search needs) (λ c κs. search needs) returns)

@@ -7,9 +7,6 @@ use borrow.Author.Needs.{needs}
 use Rattle.score.proofs.records.live_turn.Statement.{statement}
 use Rattle.score.proofs.records.live_turn.Tie as tie
 
-record-at-requires : tie.Need-record-at-requires
-record-at-requires c κs = search needs
-
 refusal-at-requires : tie.Need-refusal-at-requires
 refusal-at-requires c κs =
     let s = c .before .before .before in
@@ -36,4 +33,4 @@ returns-2 c =
 
 pub live-turn-spec : {M : Type 1} → statement M
 live-turn-spec =
-    tie.close (tie.spec record-at-requires refusal-at-requires returns live-pay-requires returns-2)
+    tie.close (tie.spec (λ c κs. search needs) refusal-at-requires returns live-pay-requires returns-2)

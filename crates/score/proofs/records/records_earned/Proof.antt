@@ -29,9 +29,6 @@ Inv-loop month member b count series first grains₀ wh₀ i₀ grains wh i =
 abbrev μ-loop : tie.MeasureT-loop
 μ-loop month member b count series first grains₀ wh₀ i₀ grains wh i = count - i
 
-first-own-requires : tie.Need-first-own-requires Inv-loop μ-loop
-first-own-requires c κs = search needs
-
 loop-holds : tie.Need-loop-holds Inv-loop μ-loop
 unfolding firstOwn
 loop-holds c =
@@ -95,7 +92,7 @@ records-earned-spec =
     (tie.spec
     Inv-loop
     μ-loop
-    first-own-requires
+    (λ c κs. search needs)
     loop-holds
     turn-of-requires
     returns

@@ -25,15 +25,6 @@ energy : (c : tie.After-is-by-energy)
     → c .is-by-energy .result ≡ isByEnergy (c .before .before .before .before .before .before .args .member .kind) (at (c .before .before .before .before .before .before))
 energy c = c .is-by-energy .ensures ∙ ap (isByEnergy (c .before .before .before .before .before .before .args .member .kind)) (c .before .before .before .record-at .ensures)
 
-record-at-requires : tie.Need-record-at-requires
-record-at-requires c κs = search needs
-
-is-own-live-requires : tie.Need-is-own-live-requires
-is-own-live-requires c κs = search needs
-
-idle-refusal-requires : tie.Need-idle-refusal-requires
-idle-refusal-requires c κs = search needs
-
 returns : tie.Need-returns
 returns c =
     let s = c .before .before .before .before .before .before in
@@ -42,9 +33,6 @@ returns c =
     idle-turned (a .month) (a .member) (a .series .now) (recordAt (a .b .now)) (a .i) (state-low _ _ (s .pre .1 .1 .0))
     (sym (own (c .before .before)) ∙ not-true (o .result) (c .before .if1 .taken)) _
     (rw (← c .before .before .before .record-at .ensures) (c .idle-refusal .ensures))
-
-is-by-energy-requires : tie.Need-is-by-energy-requires
-is-by-energy-requires c κs = search needs
 
 energy-turn-requires : tie.Need-energy-turn-requires
 energy-turn-requires c κs = (c .before .before .before .before .before .before .before .pre .1 .0, (is-own (c .before .before), sym (energy (c .before)) ∙ c .if2 .taken))
@@ -57,19 +45,16 @@ live-turn-requires c κs =
     let p = c .before .before .before .before .before .before .before .pre in
     (p .0, (p .1 .0, (p .1 .1 .0, (p .1 .1 .1, (is-own (c .before .before), sym (energy (c .before)) ∙ c .if2 .left)))))
 
-returns-3 : tie.Need-returns-3
-returns-3 c = search needs
-
 pub turn-of-spec : {M : Type 1} → statement M
 turn-of-spec =
     tie.close
     (tie.spec
-    record-at-requires
-    is-own-live-requires
-    idle-refusal-requires
+    (λ c κs. search needs)
+    (λ c κs. search needs)
+    (λ c κs. search needs)
     returns
-    is-by-energy-requires
+    (λ c κs. search needs)
     energy-turn-requires
     returns-2
     live-turn-requires
-    returns-3)
+    (λ c. search needs))

@@ -20,9 +20,6 @@ Inv-loop b first i number x second j₀ j = anyBelow (clashAt number x (recordAt
 abbrev μ-loop : tie.MeasureT-loop
 μ-loop b first i number x second j₀ j = i - j
 
-is-once-requires : tie.Need-is-once-requires Inv-loop μ-loop
-is-once-requires c κs = search needs
-
 returns : tie.Need-returns Inv-loop μ-loop
 returns c =
     let a = c .before .before .before .before .args in
@@ -34,12 +31,6 @@ loop-holds c =
     let s = c .before .before .before .before in
     none-before (s .args .number) (s .args .x) (recordAt (s .args .b .now)) (s .args .first) (s .pre .1)
 
-record-at-requires : tie.Need-record-at-requires Inv-loop μ-loop
-record-at-requires c κs = search needs
-
-clashes-requires : tie.Need-clashes-requires Inv-loop μ-loop
-clashes-requires c κs = search needs
-
 returns-2 : tie.Need-returns-2 Inv-loop μ-loop
 unfolding clashAt
 returns-2 c =
@@ -47,12 +38,6 @@ returns-2 c =
     let a = c .before .before .before .before .before .before .before .before .before .args in
     let f = clashAt (a .number) (a .x) (recordAt (a .b .now)) in
     sym (any-hit f (l .j) (a .i) (omega arith) (rw (← c .before .before .record-at .ensures) (sym (c .before .clashes .ensures) ∙ c .if2 .taken)))
-
-add-j : tie.Need-add-j Inv-loop μ-loop
-add-j c = search needs
-
-loop-less : tie.Need-loop-less Inv-loop μ-loop
-loop-less c = search needs
 
 loop-again : tie.Need-loop-again Inv-loop μ-loop
 unfolding clashAt
@@ -74,13 +59,13 @@ clash-before-spec =
     (tie.spec
     Inv-loop
     μ-loop
-    is-once-requires
+    (λ c κs. search needs)
     returns
     loop-holds
-    record-at-requires
-    clashes-requires
+    (λ c κs. search needs)
+    (λ c κs. search needs)
     returns-2
-    add-j
-    loop-less
+    (λ c. search needs)
+    (λ c. search needs)
     loop-again
     returns-3)

@@ -19,12 +19,6 @@ returns c =
     let a = c .before .before .before .before .before .args in
     rw (not-true (one (a .number) (a .x) (a .y)) (c .if1 .taken)) refl
 
-overlaps-requires : tie.Need-overlaps-requires
-overlaps-requires c κs = search needs
-
-is-once-requires : tie.Need-is-once-requires
-is-once-requires c κs = search needs
-
 returns-2 : tie.Need-returns-2
 unfolding clashes
 returns-2 c =
@@ -33,4 +27,4 @@ returns-2 c =
     rw (not-false (one (a .number) (a .x) (a .y)) (s .before .if1 .left), s .overlaps .ensures, c .before .is-once .ensures) refl
 
 pub clashes-spec : {M : Type 1} → statement M
-clashes-spec = tie.close (tie.spec returns overlaps-requires is-once-requires returns-2)
+clashes-spec = tie.close (tie.spec returns (λ c κs. search needs) (λ c κs. search needs) returns-2)

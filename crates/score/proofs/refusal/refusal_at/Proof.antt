@@ -5,14 +5,8 @@ use borrow.Author.Needs.{needs}
 use Rattle.score.proofs.refusal.refusal_at.Statement.{statement}
 use Rattle.score.proofs.refusal.refusal_at.Tie as tie
 
-open-to-requires : tie.Need-open-to-requires
-open-to-requires c κs = search needs
-
 clash-before-requires : tie.Need-clash-before-requires
 clash-before-requires c κs = let p = c .before .before .pre in (p .0, p .1 .1 .0)
-
-number-of-requires : tie.Need-number-of-requires
-number-of-requires c κs = search needs
 
 returns : tie.Need-returns
 returns c =
@@ -25,4 +19,4 @@ returns c =
 
 pub refusal-at-spec : {M : Type 1} → statement M
 refusal-at-spec =
-    tie.close (tie.spec open-to-requires clash-before-requires number-of-requires returns)
+    tie.close (tie.spec (λ c κs. search needs) clash-before-requires (λ c κs. search needs) returns)

@@ -5,11 +5,8 @@ use borrow.Author.Needs.{needs}
 use Rattle.share.proofs.array.blank_lines.Statement.{statement}
 use Rattle.share.proofs.array.blank_lines.Tie as tie
 
-blank-line-requires : tie.Need-blank-line-requires
-blank-line-requires c κs = search needs
-
 returns : tie.Need-returns
 returns c = ap (λ (l : Line). replicate 64 l) (c .blank-line .ensures)
 
 pub blank-lines-spec : {M : Type 1} → statement M
-blank-lines-spec = tie.close (tie.spec blank-line-requires returns)
+blank-lines-spec = tie.close (tie.spec (λ c κs. search needs) returns)

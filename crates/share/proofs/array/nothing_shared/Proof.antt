@@ -8,9 +8,6 @@ use borrow.Author.Needs.{needs}
 use Rattle.share.proofs.array.nothing_shared.Statement.{statement}
 use Rattle.share.proofs.array.nothing_shared.Tie as tie
 
-blank-lines-requires : tie.Need-blank-lines-requires
-blank-lines-requires c κs = search needs
-
 returns : tie.Need-returns
 unfolding nothingShared
 returns c =
@@ -19,4 +16,4 @@ returns c =
     ap with (c .blank-lines .ensures)
 
 pub nothing-shared-spec : {M : Type 1} → statement M
-nothing-shared-spec = tie.close (tie.spec blank-lines-requires returns)
+nothing-shared-spec = tie.close (tie.spec (λ c κs. search needs) returns)

@@ -9,18 +9,6 @@ use borrow.Author.Needs.{needs}
 use Rattle.share.proofs.lent.share_front.Statement.{statement}
 use Rattle.share.proofs.lent.share_front.Tie as tie
 
-share-requires : tie.Need-share-requires
-share-requires c κs = search needs
-
-returns : tie.Need-returns
-returns c = search needs
-
-clear-requires : tie.Need-clear-requires
-clear-requires c κs = search needs
-
-lend-front-requires : tie.Need-lend-front-requires
-lend-front-requires c κs = search needs
-
 returns-2 : tie.Need-returns-2
 returns-2 c =
     let a = c .before .before .before .args in
@@ -29,4 +17,4 @@ returns-2 c =
     ∙ front-as-array (a .part) (a .lines) (a .count) (omega (arith, long, c .before .before .if1 .left))
 
 pub share-front-spec : {M : Type 1} → statement M
-share-front-spec = tie.close (tie.spec share-requires returns clear-requires lend-front-requires returns-2)
+share-front-spec = tie.close (tie.spec (λ c κs. search needs) (λ c. search needs) (λ c κs. search needs) (λ c κs. search needs) returns-2)

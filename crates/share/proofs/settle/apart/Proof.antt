@@ -3,9 +3,6 @@ use borrow.Author.Needs.{needs}
 use Rattle.share.proofs.settle.apart.Statement.{statement}
 use Rattle.share.proofs.settle.apart.Tie as tie
 
-sub-t5 : tie.Need-sub-t5
-sub-t5 c = search needs
-
 returns : tie.Need-returns
 returns c = abs-down _ _ (c .if1 .taken)
 
@@ -13,4 +10,4 @@ returns-2 : tie.Need-returns-2
 returns-2 c = abs-up _ _ (c .if1 .left)
 
 pub apart-spec : {M : Type 1} → statement M
-apart-spec = tie.close (tie.spec sub-t5 returns returns-2)
+apart-spec = tie.close (tie.spec (λ c. search needs) returns returns-2)

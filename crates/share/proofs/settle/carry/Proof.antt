@@ -37,12 +37,6 @@ all-is c e =
     let a = c .before .args in
     ap total (c .weights-of .ensures) ∙ ap (λ (b : Bool). total (weightsOf b (take (a .count) (a .lines)))) e
 
-weights-of-requires : tie.Need-weights-of-requires
-weights-of-requires c κs = search needs
-
-array-share-prefix-ws : tie.Need-array-share-prefix-ws
-array-share-prefix-ws c = search needs
-
 slice-aggregate-total : tie.Need-slice-aggregate-total
 slice-aggregate-total c =
     let long : length (c .before .weights-of .result) ≡ 64 = search needs in
@@ -50,9 +44,6 @@ slice-aggregate-total c =
 
 total-requires : tie.Need-total-requires
 total-requires c κs = omega (arith, sum-fits (c .before))
-
-refusal-requires : tie.Need-refusal-requires
-refusal-requires c κs = search needs
 
 returns : tie.Need-returns
 returns c = λ part g.
@@ -100,11 +91,11 @@ pub carry-spec : {M : Type 1} → statement M
 carry-spec =
     tie.close
     (tie.spec
-    weights-of-requires
-    array-share-prefix-ws
+    (λ c κs. search needs)
+    (λ c. search needs)
     slice-aggregate-total
     total-requires
-    refusal-requires
+    (λ c κs. search needs)
     returns
     shares-of-requires
     returns-2)

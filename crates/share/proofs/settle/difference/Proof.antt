@@ -5,12 +5,6 @@ use borrow.Author.Needs.{needs}
 use Rattle.share.proofs.settle.difference.Statement.{statement}
 use Rattle.share.proofs.settle.difference.Tie as tie
 
-cast-t3 : tie.Need-cast-t3
-cast-t3 c = search needs
-
-cast-t4 : tie.Need-cast-t4
-cast-t4 c = search needs
-
 sub-t5 : tie.Need-sub-t5
 sub-t5 c =
     let d = c .before .before in
@@ -22,4 +16,4 @@ returns c =
     rw (toZ-pos w64 (d .pre .0), toZ-pos w64 (d .pre .1)) (toZ-ofZ (diff-fits (d .args .a .0) (d .args .b .0) (d .pre .0) (d .pre .1)))
 
 pub difference-spec : {M : Type 1} → statement M
-difference-spec = tie.close (tie.spec cast-t3 cast-t4 sub-t5 returns)
+difference-spec = tie.close (tie.spec (λ c. search needs) (λ c. search needs) sub-t5 returns)

@@ -11,12 +11,6 @@ use borrow.Author.Needs.{needs}
 use Rattle.share.proofs.settle.finish.Statement.{statement}
 use Rattle.share.proofs.settle.finish.Tie as tie
 
-to-fen-requires : tie.Need-to-fen-requires
-to-fen-requires c κs = search needs
-
-difference-requires : tie.Need-difference-requires
-difference-requires c κs = search needs
-
 add-t13 : tie.Need-add-t13
 add-t13 c =
     let f = c .before .before .before .to-fen .ensures in
@@ -30,15 +24,6 @@ difference-requires-2 c κs =
           (arith, f, fen-le (c .before .before .before .before .args .l) (c .before .before .before .before .pre .0), c .before .before .before .before .pre .1),
     )
 
-filled-requires : tie.Need-filled-requires
-filled-requires c κs = search needs
-
-difference-requires-3 : tie.Need-difference-requires-3
-difference-requires-3 c κs = search needs
-
-add-t18 : tie.Need-add-t18
-add-t18 c = search needs
-
 difference-requires-4 : tie.Need-difference-requires-4
 difference-requires-4 c κs =
     let f = c .before .before .to-fen .ensures in (
@@ -46,9 +31,6 @@ difference-requires-4 c κs =
       omega
           (arith, f, fen-le (c .before .before .before .args .l) (c .before .before .before .pre .0)),
     )
-
-filled-requires-2 : tie.Need-filled-requires-2
-filled-requires-2 c κs = search needs
 
 returns : tie.Need-returns
 returns c =
@@ -76,14 +58,14 @@ pub finish-spec : {M : Type 1} → statement M
 finish-spec =
     tie.close
     (tie.spec
-    to-fen-requires
-    difference-requires
+    (λ c κs. search needs)
+    (λ c κs. search needs)
     add-t13
     difference-requires-2
-    filled-requires
-    difference-requires-3
-    add-t18
+    (λ c κs. search needs)
+    (λ c κs. search needs)
+    (λ c. search needs)
     difference-requires-4
-    filled-requires-2
+    (λ c κs. search needs)
     returns
     returns-2)

@@ -15,17 +15,11 @@ most c =
     let s = c .before in
     omega (arith, c .apart .ensures, abs-most (s .args .s .assessed .0) (s .args .s .compensated .0) mostCompensation (s .pre .1 .1) (s .pre .1 .0))
 
-apart-requires : tie.Need-apart-requires
-apart-requires c κs = search needs
-
 difference-requires : tie.Need-difference-requires
 difference-requires c κs = (omega (arith, c .before .pre .1 .1), omega (arith, c .before .pre .1 .0))
 
 generators-of-requires : tie.Need-generators-of-requires
 generators-of-requires c κs = (c .before .before .pre .0, most (c .before))
-
-sub-t14 : tie.Need-sub-t14
-sub-t14 c = search needs
 
 signed-requires : tie.Need-signed-requires
 signed-requires c κs = omega (arith, most (c .before .before))
@@ -52,4 +46,4 @@ returns c =
     )
 
 pub gap-of-spec : {M : Type 1} → statement M
-gap-of-spec = tie.close (tie.spec apart-requires difference-requires generators-of-requires sub-t14 signed-requires returns)
+gap-of-spec = tie.close (tie.spec (λ c κs. search needs) difference-requires generators-of-requires (λ c. search needs) signed-requires returns)

@@ -12,9 +12,6 @@ use borrow.Author.Needs.{needs}
 use Rattle.share.proofs.settle.outcome.Statement.{statement}
 use Rattle.share.proofs.settle.outcome.Tie as tie
 
-refusal-requires : tie.Need-refusal-requires
-refusal-requires c κs = search needs
-
 returns : tie.Need-returns
 returns c =
     let s = c .before .before in
@@ -36,14 +33,8 @@ bad-is c =
       omega (arith, e, bad-le 0 (take n (s .args .lines)), l, c .before .seen .ensures .2),
     )
 
-seen-requires : tie.Need-seen-requires
-seen-requires c κs = search needs
-
 first-bad-line-requires : tie.Need-first-bad-line-requires
 first-bad-line-requires c κs = c .seen .ensures .2
-
-refusal-requires-2 : tie.Need-refusal-requires-2
-refusal-requires-2 c κs = search needs
 
 returns-2 : tie.Need-returns-2
 returns-2 c =
@@ -79,4 +70,4 @@ returns-3 c =
     (c .settle .ensures)
 
 pub outcome-spec : {M : Type 1} → statement M
-outcome-spec = tie.close (tie.spec refusal-requires returns seen-requires first-bad-line-requires refusal-requires-2 returns-2 settle-requires returns-3)
+outcome-spec = tie.close (tie.spec (λ c κs. search needs) returns (λ c κs. search needs) first-bad-line-requires (λ c κs. search needs) returns-2 settle-requires returns-3)

@@ -26,9 +26,6 @@ sums-requires c κs =
     let l = length-take-le (c .args .count) (c .args .lines) (omega arith) in
     (c .pre .1 .0, (omega (arith, compensated-le ls (c .pre .1 .1)), omega (arith, assessed-fits c)))
 
-refusal-requires : tie.Need-refusal-requires
-refusal-requires c κs = search needs
-
 returns : tie.Need-returns
 returns c =
     let s = c .before .before .before .before in
@@ -56,4 +53,4 @@ returns-2 c =
     (g .0) (g .1 .0) (g .1 .1 .0) (g .1 .1 .1 .0))
 
 pub settle-spec : {M : Type 1} → statement M
-settle-spec = tie.close (tie.spec sums-requires refusal-requires returns gap-of-requires carry-requires returns-2)
+settle-spec = tie.close (tie.spec sums-requires (λ c κs. search needs) returns gap-of-requires carry-requires returns-2)

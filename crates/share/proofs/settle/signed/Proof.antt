@@ -6,12 +6,6 @@ use borrow.Author.Needs.{needs}
 use Rattle.share.proofs.settle.signed.Statement.{statement}
 use Rattle.share.proofs.settle.signed.Tie as tie
 
-difference-requires : tie.Need-difference-requires
-difference-requires c κs = search needs
-
-difference-requires-2 : tie.Need-difference-requires-2
-difference-requires-2 c κs = search needs
-
 returns : tie.Need-returns
 returns c =
     let n = c .before .before .args .amount .0 in
@@ -23,4 +17,4 @@ returns-2 c =
     c .difference2 .ensures ∙ share-up n ∙ ap (λ (b : Bool). signed b n) (sym (c .before .if1 .left))
 
 pub signed-spec : {M : Type 1} → statement M
-signed-spec = tie.close (tie.spec difference-requires difference-requires-2 returns returns-2)
+signed-spec = tie.close (tie.spec (λ c κs. search needs) (λ c κs. search needs) returns returns-2)

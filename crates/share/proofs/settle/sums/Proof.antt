@@ -20,15 +20,6 @@ abbrev μ-loop : tie.MeasureT-loop
 loop-holds : tie.Need-loop-holds Inv-loop μ-loop
 loop-holds c = (omega arith, omega arith, omega arith)
 
-mul-l : tie.Need-mul-l Inv-loop μ-loop
-mul-l c = search needs
-
-array-copy-out-l : tie.Need-array-copy-out-l Inv-loop μ-loop
-array-copy-out-l c = search needs
-
-to-fen-requires : tie.Need-to-fen-requires Inv-loop μ-loop
-to-fen-requires c κs = search needs
-
 add-c : tie.Need-add-c Inv-loop μ-loop
 add-c c =
     let s = c .before .before .before .before .before in
@@ -44,12 +35,6 @@ add-a c =
     let long : length (s .args .t1) ≡ 64 = search needs in
     let e = ap assessed (part-step (s .args .t1) (s .args .count) i blankLine (omega arith) (omega arith)) in
     record { fits = omega (arith, c .before .before .to-fen .ensures) }
-
-add-i : tie.Need-add-i Inv-loop μ-loop
-add-i c = search needs
-
-loop-less : tie.Need-loop-less Inv-loop μ-loop
-loop-less c = search needs
 
 loop-again : tie.Need-loop-again Inv-loop μ-loop
 loop-again c =
@@ -75,12 +60,12 @@ sums-spec =
     Inv-loop
     μ-loop
     loop-holds
-    mul-l
-    array-copy-out-l
-    to-fen-requires
+    (λ c. search needs)
+    (λ c. search needs)
+    (λ c κs. search needs)
     add-c
     add-a
-    add-i
-    loop-less
+    (λ c. search needs)
+    (λ c. search needs)
     loop-again
     returns)

@@ -6,12 +6,6 @@ use borrow.Author.Needs.{needs}
 use Rattle.share.proofs.settle.weight_of.Statement.{statement}
 use Rattle.share.proofs.settle.weight_of.Tie as tie
 
-cast-result : tie.Need-cast-result
-cast-result c = search needs
-
-factor-of-requires : tie.Need-factor-of-requires
-factor-of-requires c κs = search needs
-
 mul-result : tie.Need-mul-result
 mul-result c = record { fits = omega (arith, mul-le-mul (c .before .before .pre) (c .factor-of .ensures .1)) }
 
@@ -19,4 +13,4 @@ returns : tie.Need-returns
 returns c = ap (λ (f : ℕ). c .before .before .args .l .energy .0 * f) (c .factor-of .ensures .0)
 
 pub weight-of-spec : {M : Type 1} → statement M
-weight-of-spec = tie.close (tie.spec cast-result factor-of-requires mul-result returns)
+weight-of-spec = tie.close (tie.spec (λ c. search needs) (λ c κs. search needs) mul-result returns)

@@ -6,12 +6,9 @@ use borrow.Author.Needs.{needs}
 use Rattle.tables.proofs.roll.blank_entries.Statement.{statement}
 use Rattle.tables.proofs.roll.blank_entries.Tie as tie
 
-blank-entry-requires : tie.Need-blank-entry-requires
-blank-entry-requires c κs = search needs
-
 returns : tie.Need-returns
 unfolding filledUp
 returns c = ap (λ (e : Entry). replicate 64 e) (c .blank-entry .ensures)
 
 pub blank-entries-spec : {M : Type 1} → statement M
-blank-entries-spec = tie.close (tie.spec blank-entry-requires returns)
+blank-entries-spec = tie.close (tie.spec (λ c κs. search needs) returns)

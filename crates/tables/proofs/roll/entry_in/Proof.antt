@@ -7,19 +7,10 @@ use borrow.Author.Needs.{needs}
 use Rattle.tables.proofs.roll.entry_in.Statement.{statement}
 use Rattle.tables.proofs.roll.entry_in.Tie as tie
 
-told-requires : tie.Need-told-requires
-told-requires c κs = search needs
-
-typed-requires : tie.Need-typed-requires
-typed-requires c κs = search needs
-
 returns : tie.Need-returns
 returns c = let a = c .before .before .before .before .args in
     let room : mostColumns ≤ length (a .ended) = search needs in
     c .typed .ensures ∙ entry-whole (a .grid) (a .ended) room (c .before .told .result) (c .before .before .if1 .taken) (c .before .told .ensures)
-
-blank-entry-requires : tie.Need-blank-entry-requires
-blank-entry-requires c κs = search needs
 
 returns-2 : tie.Need-returns-2
 returns-2 c = let a = c .before .before .before .args in
@@ -30,8 +21,8 @@ pub entry-in-spec : {M : Type 1} → statement M
 entry-in-spec =
     tie.close
     (tie.spec
-    told-requires
-    typed-requires
+    (λ c κs. search needs)
+    (λ c κs. search needs)
     returns
-    blank-entry-requires
+    (λ c κs. search needs)
     returns-2)

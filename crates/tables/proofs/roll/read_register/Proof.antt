@@ -51,9 +51,6 @@ loop-again c = let l = c .before .before .before .before .before .loop in
           (c .next .ensures) (c .before .after .ensures) ∙ l .inv .2,
     )
 
-slice-aggregate-step : tie.Need-slice-aggregate-step Inv-loop μ-loop
-slice-aggregate-step c = search needs
-
 step-requires : tie.Need-step-requires Inv-loop μ-loop
 step-requires c κs = (omega arith, (omega arith, c .before .if1 .left))
 
@@ -93,7 +90,7 @@ read-register-spec =
     add-i
     loop-less
     loop-again
-    slice-aggregate-step
+    (λ c. search needs)
     step-requires
     loop-less-2
     loop-again-2

@@ -40,33 +40,6 @@ module _ (c : tie.After-limit-is-sound) where
       ∙ in-turn (ltb 0 (getD d 0 0)) (leb (getD d 0 0) mostNumber) (leb 1 (getD d 1 0)) (leb (getD d 1 0) 8) (leb 1 (getD d 2 0)) (leb (getD d 2 0) 4000000)
       (leb (getD d 3 0) mostStatus) (leb (getD d 4 0) mostEnergy) (leb (getD d 5 0) mostAssessment) (limitIsSound (c .before .limit-told .result))
 
-array-read-n : tie.Need-array-read-n
-array-read-n c = search needs
-
-array-read-k : tie.Need-array-read-k
-array-read-k c = search needs
-
-array-read-p : tie.Need-array-read-p
-array-read-p c = search needs
-
-array-read-s : tie.Need-array-read-s
-array-read-s c = search needs
-
-array-read-e : tie.Need-array-read-e
-array-read-e c = search needs
-
-array-read-a : tie.Need-array-read-a
-array-read-a c = search needs
-
-numbers-are-sound-requires : tie.Need-numbers-are-sound-requires
-numbers-are-sound-requires c κs = search needs
-
-limit-told-requires : tie.Need-limit-told-requires
-limit-told-requires c κs = search needs
-
-limit-is-sound-requires : tie.Need-limit-is-sound-requires
-limit-is-sound-requires c κs = search needs
-
 limits : (c : tie.Then1) → Casts (d (c .before))
 limits c = seven-limits (d (c .before)) (c .before .before .limit-told .result) (sym (test-is (c .before)) ∙ c .if1 .taken)
 
@@ -94,9 +67,6 @@ returns c =
     let limit = c .before .before .limit-told in
     seven-sound (d (c .before)) (c .before .before .before .before .args .last) (limit .result) long (limit .ensures) (sym (test-is (c .before)) ∙ c .if1 .taken)
 
-blank-entry-requires : tie.Need-blank-entry-requires
-blank-entry-requires c κs = search needs
-
 returns-2 : tie.Need-returns-2
 returns-2 c =
     let long : mostColumns ≤ length (d (c .before .before)) = search needs in
@@ -108,15 +78,15 @@ pub typed-spec : {M : Type 1} → statement M
 typed-spec =
     tie.close
     (tie.spec
-    array-read-n
-    array-read-k
-    array-read-p
-    array-read-s
-    array-read-e
-    array-read-a
-    numbers-are-sound-requires
-    limit-told-requires
-    limit-is-sound-requires
+    (λ c. search needs)
+    (λ c. search needs)
+    (λ c. search needs)
+    (λ c. search needs)
+    (λ c. search needs)
+    (λ c. search needs)
+    (λ c κs. search needs)
+    (λ c κs. search needs)
+    (λ c κs. search needs)
     cast-t35
     cast-t36
     cast-t37
@@ -124,5 +94,5 @@ typed-spec =
     cast-t41
     cast-t43
     returns
-    blank-entry-requires
+    (λ c κs. search needs)
     returns-2)

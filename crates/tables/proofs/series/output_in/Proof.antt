@@ -3,15 +3,6 @@ use borrow.Author.Needs.{needs}
 use Rattle.tables.proofs.series.output_in.Statement.{statement}
 use Rattle.tables.proofs.series.output_in.Tie as tie
 
-told-requires : tie.Need-told-requires
-told-requires c κs = search needs
-
-cast-if2 : tie.Need-cast-if2
-cast-if2 c = search needs
-
-cast-result : tie.Need-cast-result
-cast-result c = search needs
-
 returns : tie.Need-returns
 returns c =
     let a = c .before .before .before .before .args in
@@ -31,4 +22,4 @@ returns-3 c =
 
 pub output-in-spec : {M : Type 1} → statement M
 output-in-spec =
-    tie.close (tie.spec told-requires cast-if2 cast-result returns returns-2 returns-3)
+    tie.close (tie.spec (λ c κs. search needs) (λ c. search needs) (λ c. search needs) returns returns-2 returns-3)

@@ -31,9 +31,6 @@ loop-again : tie.Need-loop-again Inv-loop μ-loop
 loop-again c = let l = c .before .before .before .before .before .loop in
     (search needs, λ rows. one-blank (l .out) _ (l .at) (c .before .before .put-output .result) (l .left) (omega arith) (c .before .before .put-output .ensures) rows ∙ l .inv .1 rows)
 
-same-length : tie.Need-same-length Inv-loop μ-loop
-same-length c = search needs
-
 returns : tie.Need-returns Inv-loop μ-loop
 returns c = let l = c .before .loop in
     let none : 0 ≡ l .left = omega arith in
@@ -50,5 +47,5 @@ put-blanks-spec =
     sub-left
     loop-less
     loop-again
-    same-length
+    (λ c. search needs)
     returns)

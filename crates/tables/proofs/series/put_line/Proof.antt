@@ -4,34 +4,13 @@ use borrow.Author.Needs.{needs}
 use Rattle.tables.proofs.series.put_line.Statement.{statement}
 use Rattle.tables.proofs.series.put_line.Tie as tie
 
-is-heading-requires : tie.Need-is-heading-requires
-is-heading-requires c κs = search needs
-
 returns : tie.Need-returns
 returns c = let a = c .before .before .before .args in by-heading (a .grid) (a .out .now) (a .place) (sym (c .before .is-heading .ensures) ∙ c .if1 .taken)
-
-is-blank-requires : tie.Need-is-blank-requires
-is-blank-requires c κs = search needs
-
-add-t8 : tie.Need-add-t8
-add-t8 c = search needs
 
 returns-2 : tie.Need-returns-2
 returns-2 c = let a = c .before .before .before .before .before .before .args in
     by-blank (a .grid) (a .out .now) (a .place) (sym (c .before .before .before .before .is-heading .ensures) ∙ c .before .before .before .if1 .left)
     (sym (c .before .before .is-blank .ensures) ∙ c .before .if2 .taken)
-
-put-blanks-requires : tie.Need-put-blanks-requires
-put-blanks-requires c κs = search needs
-
-output-in-requires : tie.Need-output-in-requires
-output-in-requires c κs = search needs
-
-put-output-requires : tie.Need-put-output-requires
-put-output-requires c κs = search needs
-
-same-length : tie.Need-same-length
-same-length c = search needs
 
 returns-3 : tie.Need-returns-3
 returns-3 c = let a = c .before .before .before .before .before .before .before .before .before .before .before .before .before .before .args in
@@ -47,13 +26,13 @@ pub put-line-spec : {M : Type 1} → statement M
 put-line-spec =
     tie.close
     (tie.spec
-    is-heading-requires
+    (λ c κs. search needs)
     returns
-    is-blank-requires
-    add-t8
+    (λ c κs. search needs)
+    (λ c. search needs)
     returns-2
-    put-blanks-requires
-    output-in-requires
-    put-output-requires
-    same-length
+    (λ c κs. search needs)
+    (λ c κs. search needs)
+    (λ c κs. search needs)
+    (λ c. search needs)
     returns-3)

@@ -50,9 +50,6 @@ loop-again c = let l = c .before .before .before .before .before .before .before
           (c .before .before .before .before .before .if1 .taken) (c .next .ensures) (p .ensures) ∙ l .inv .4,
     )
 
-slice-aggregate-step : tie.Need-slice-aggregate-step Inv-loop μ-loop
-slice-aggregate-step c = search needs
-
 step-requires : tie.Need-step-requires Inv-loop μ-loop
 step-requires c κs = (omega arith, (omega arith, c .before .if1 .left))
 
@@ -74,9 +71,6 @@ loop-again-2 c = let l = c .before .before .before .before .before .before .befo
 put-line-requires-2 : tie.Need-put-line-requires-2 Inv-loop μ-loop
 put-line-requires-2 c κs = omega arith
 
-same-length : tie.Need-same-length Inv-loop μ-loop
-same-length c = search needs
-
 returns : tie.Need-returns Inv-loop μ-loop
 returns c = let l = c .before .before .before .before .before .loop in
     let a = c .before .before .before .before .before .before .before .before .before .args in
@@ -97,10 +91,10 @@ read-series-spec =
     add-i
     loop-less
     loop-again
-    slice-aggregate-step
+    (λ c. search needs)
     step-requires
     loop-less-2
     loop-again-2
     put-line-requires-2
-    same-length
+    (λ c. search needs)
     returns)

@@ -4,21 +4,9 @@ use Rattle.tables.specs.Series.{seriesName}
 use Rattle.tables.proofs.series.series_name.Statement.{statement}
 use Rattle.tables.proofs.series.series_name.Tie as tie
 
-cast-tens : tie.Need-cast-tens
-cast-tens c = search needs
-
-add-tens : tie.Need-add-tens
-add-tens c = search needs
-
-cast-ones : tie.Need-cast-ones
-cast-ones c = search needs
-
-add-ones : tie.Need-add-ones
-add-ones c = search needs
-
 returns : tie.Need-returns
 unfolding seriesName
 returns c = refl
 
 pub series-name-spec : {M : Type 1} → statement M
-series-name-spec = tie.close (tie.spec cast-tens add-tens cast-ones add-ones returns)
+series-name-spec = tie.close (tie.spec (λ c. search needs) (λ c. search needs) (λ c. search needs) (λ c. search needs) returns)

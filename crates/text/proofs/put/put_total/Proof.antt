@@ -4,21 +4,6 @@ use borrow.Author.Needs.{needs}
 use Rattle.text.proofs.put.put_total.Statement.{statement}
 use Rattle.text.proofs.put.put_total.Tie as tie
 
-slice-aggregate-put-money : tie.Need-slice-aggregate-put-money
-slice-aggregate-put-money c = search needs
-
-put-money-requires : tie.Need-put-money-requires
-put-money-requires c κs = search needs
-
-slice-aggregate-put-word : tie.Need-slice-aggregate-put-word
-slice-aggregate-put-word c = search needs
-
-put-word-requires : tie.Need-put-word-requires
-put-word-requires c κs = search needs
-
-same-length : tie.Need-same-length
-same-length c = search needs
-
 returns : tie.Need-returns
 unfolding totalText
 returns c =
@@ -30,9 +15,9 @@ pub put-total-spec : {M : Type 1} → statement M
 put-total-spec =
     tie.close
     (tie.spec
-    slice-aggregate-put-money
-    put-money-requires
-    slice-aggregate-put-word
-    put-word-requires
-    same-length
+    (λ c. search needs)
+    (λ c κs. search needs)
+    (λ c. search needs)
+    (λ c κs. search needs)
+    (λ c. search needs)
     returns)

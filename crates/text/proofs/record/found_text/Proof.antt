@@ -7,14 +7,8 @@ use Rattle.text.proofs.record.found_text.Tie as tie
 returns : tie.Need-returns
 returns c = no-room mostFound _ (c .before .before .args .out .now) (c .if1 .taken)
 
-put-found-requires : tie.Need-put-found-requires
-put-found-requires c κs = search needs
-
-same-length : tie.Need-same-length
-same-length c = search needs
-
 returns-2 : tie.Need-returns-2
 returns-2 c = rendered mostFound (c .before .before .before .before .if1 .left) (c .before .before .put-found .ensures)
 
 pub found-text-spec : {M : Type 1} → statement M
-found-text-spec = tie.close (tie.spec returns put-found-requires same-length returns-2)
+found-text-spec = tie.close (tie.spec returns (λ c κs. search needs) (λ c. search needs) returns-2)

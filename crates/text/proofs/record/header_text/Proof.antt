@@ -7,14 +7,8 @@ use Rattle.text.proofs.record.header_text.Tie as tie
 returns : tie.Need-returns
 returns c = no-room mostHeader _ (c .before .before .args .out .now) (c .if1 .taken)
 
-put-header-requires : tie.Need-put-header-requires
-put-header-requires c κs = search needs
-
-same-length : tie.Need-same-length
-same-length c = search needs
-
 returns-2 : tie.Need-returns-2
 returns-2 c = rendered mostHeader (c .before .before .before .before .if1 .left) (c .before .before .put-header .ensures)
 
 pub header-text-spec : {M : Type 1} → statement M
-header-text-spec = tie.close (tie.spec returns put-header-requires same-length returns-2)
+header-text-spec = tie.close (tie.spec returns (λ c κs. search needs) (λ c. search needs) returns-2)

@@ -10,15 +10,6 @@ returns c =
     let a = c .before .before .before .args in
     same-put (no-details (a .x) (c .if1 .taken)) (looser 215 (omega arith) (none-put (a .out .now) (a .at)))
 
-put-time-requires : tie.Need-put-time-requires
-put-time-requires c κs = search needs
-
-put-terms-requires : tie.Need-put-terms-requires
-put-terms-requires c κs = search needs
-
-same-length : tie.Need-same-length
-same-length c = search needs
-
 returns-2 : tie.Need-returns-2
 returns-2 c =
     let a = c .before .before .before .before .before .before .before .before .before .before .before .args in
@@ -27,4 +18,4 @@ returns-2 c =
 
 pub put-details-spec : {M : Type 1} → statement M
 put-details-spec =
-    tie.close (tie.spec returns put-time-requires put-terms-requires same-length returns-2)
+    tie.close (tie.spec returns (λ c κs. search needs) (λ c κs. search needs) (λ c. search needs) returns-2)

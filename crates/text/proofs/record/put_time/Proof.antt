@@ -4,18 +4,6 @@ use borrow.Author.Needs.{needs}
 use Rattle.text.proofs.record.put_time.Statement.{statement}
 use Rattle.text.proofs.record.put_time.Tie as tie
 
-put-service-requires : tie.Need-put-service-requires
-put-service-requires c κs = search needs
-
-put-start-requires : tie.Need-put-start-requires
-put-start-requires c κs = search needs
-
-put-long-requires : tie.Need-put-long-requires
-put-long-requires c κs = search needs
-
-same-length : tie.Need-same-length
-same-length c = search needs
-
 returns : tie.Need-returns
 unfolding timeText
 returns c =
@@ -27,4 +15,4 @@ returns c =
 pub put-time-spec : {M : Type 1} → statement M
 put-time-spec =
     tie.close
-    (tie.spec put-service-requires put-start-requires put-long-requires same-length returns)
+    (tie.spec (λ c κs. search needs) (λ c κs. search needs) (λ c κs. search needs) (λ c. search needs) returns)

@@ -23,20 +23,8 @@ loop-holds c =
     let a = c .before .args in
     (omega arith, search needs, lines-none (a .t3) (a .out .now) (a .at))
 
-mul-l : tie.Need-mul-l Inv-loop μ-loop
-mul-l c = search needs
-
-array-copy-out-l : tie.Need-array-copy-out-l Inv-loop μ-loop
-array-copy-out-l c = search needs
-
 put-line-requires : tie.Need-put-line-requires Inv-loop μ-loop
 put-line-requires c κs = omega (arith, c .before .before .before .loop .inv .1, c .before .before .before .loop .inv .2 .fits, c .before .before .before .loop .inv .2 .behind)
-
-add-i : tie.Need-add-i Inv-loop μ-loop
-add-i c = search needs
-
-loop-less : tie.Need-loop-less Inv-loop μ-loop
-loop-less c = search needs
 
 loop-again : tie.Need-loop-again Inv-loop μ-loop
 loop-again c =
@@ -47,9 +35,6 @@ loop-again c =
       c .before .before .put-line .kept .0 ∙ l .inv .1,
       lines-more (a .t3) (l .i) blankLine (omega arith) (l .inv .2) (c .before .before .put-line .ensures),
     )
-
-same-length : tie.Need-same-length Inv-loop μ-loop
-same-length c = search needs
 
 returns : tie.Need-returns Inv-loop μ-loop
 returns c =
@@ -64,11 +49,11 @@ put-lines-spec =
     Inv-loop
     μ-loop
     loop-holds
-    mul-l
-    array-copy-out-l
+    (λ c. search needs)
+    (λ c. search needs)
     put-line-requires
-    add-i
-    loop-less
+    (λ c. search needs)
+    (λ c. search needs)
     loop-again
-    same-length
+    (λ c. search needs)
     returns)

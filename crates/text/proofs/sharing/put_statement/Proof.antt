@@ -7,21 +7,6 @@ use borrow.Author.Needs.{needs}
 use Rattle.text.proofs.sharing.put_statement.Statement.{statement}
 use Rattle.text.proofs.sharing.put_statement.Tie as tie
 
-put-total-requires : tie.Need-put-total-requires
-put-total-requires c κs = search needs
-
-seen-requires : tie.Need-seen-requires
-seen-requires c κs = search needs
-
-put-lines-requires : tie.Need-put-lines-requires
-put-lines-requires c κs = search needs
-
-put-user-requires : tie.Need-put-user-requires
-put-user-requires c κs = search needs
-
-same-length : tie.Need-same-length
-same-length c = search needs
-
 returns : tie.Need-returns
 returns c =
     let a = c .before .before .before .before .before .before .before .before .before .before .before .before .before .before .args in
@@ -33,4 +18,4 @@ returns c =
 
 pub put-statement-spec : {M : Type 1} → statement M
 put-statement-spec =
-    tie.close (tie.spec put-total-requires seen-requires put-lines-requires put-user-requires same-length returns)
+    tie.close (tie.spec (λ c κs. search needs) (λ c κs. search needs) (λ c κs. search needs) (λ c κs. search needs) (λ c. search needs) returns)

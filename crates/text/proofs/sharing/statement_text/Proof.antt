@@ -9,23 +9,11 @@ use Rattle.text.proofs.sharing.statement_text.Tie as tie
 returns : tie.Need-returns
 returns c = no-room mostStatement _ (c .before .before .args .out .now) (c .if1 .taken)
 
-put-statement-requires : tie.Need-put-statement-requires
-put-statement-requires c κs = search needs
-
-same-length : tie.Need-same-length
-same-length c = search needs
-
 returns-2 : tie.Need-returns-2
 returns-2 c =
     let a = c .before .before .before .before .before .before .before .before .before .before .before .args in
     let p = same-put (accepted-text (a .s) (a .count) (c .before .before .before .before .before .before .before .if2 .taken)) (c .before .before .put-statement .ensures) in
     rendered mostStatement (c .before .before .before .before .before .before .before .before .before .if1 .left) p
-
-put-refused-requires : tie.Need-put-refused-requires
-put-refused-requires c κs = search needs
-
-same-length-2 : tie.Need-same-length-2
-same-length-2 c = search needs
 
 returns-3 : tie.Need-returns-3
 returns-3 c =
@@ -38,9 +26,9 @@ statement-text-spec =
     tie.close
     (tie.spec
     returns
-    put-statement-requires
-    same-length
+    (λ c κs. search needs)
+    (λ c. search needs)
     returns-2
-    put-refused-requires
-    same-length-2
+    (λ c κs. search needs)
+    (λ c. search needs)
     returns-3)

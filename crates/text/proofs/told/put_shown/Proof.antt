@@ -21,9 +21,6 @@ loop-holds c = (omega arith, refl, refl)
 shared-slice-read-shown-byte : tie.Need-shared-slice-read-shown-byte Inv-loop μ-loop
 shared-slice-read-shown-byte c = omega arith
 
-shown-byte-requires : tie.Need-shown-byte-requires Inv-loop μ-loop
-shown-byte-requires c κs = search needs
-
 slice-write-out : tie.Need-slice-write-out Inv-loop μ-loop
 slice-write-out c = omega arith
 
@@ -58,7 +55,7 @@ put-shown-spec =
     μ-loop
     loop-holds
     shared-slice-read-shown-byte
-    shown-byte-requires
+    (λ c κs. search needs)
     slice-write-out
     add-k
     loop-less

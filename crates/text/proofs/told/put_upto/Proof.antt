@@ -6,18 +6,6 @@ use borrow.Author.Needs.{needs}
 use Rattle.text.proofs.told.put_upto.Statement.{statement}
 use Rattle.text.proofs.told.put_upto.Tie as tie
 
-put-words-requires : tie.Need-put-words-requires
-put-words-requires c κs = search needs
-
-slice-aggregate-put-word : tie.Need-slice-aggregate-put-word
-slice-aggregate-put-word c = search needs
-
-put-word-requires : tie.Need-put-word-requires
-put-word-requires c κs = search needs
-
-same-length : tie.Need-same-length
-same-length c = search needs
-
 returns : tie.Need-returns
 returns c =
     let a = c .before .before .before .before .before .before .before .before .before .before .before .args in
@@ -25,32 +13,11 @@ returns c =
     let q = c .before .before .put-word .ensures in
     same-put (or-more (a .more) (a .least) (a .most) (c .before .before .before .before .before .before .before .before .before .if1 .taken)) (looser mostUpto (omega arith) (and-then p q))
 
-put-words-requires-2 : tie.Need-put-words-requires-2
-put-words-requires-2 c κs = search needs
-
-same-length-2 : tie.Need-same-length-2
-same-length-2 c = search needs
-
 returns-2 : tie.Need-returns-2
 returns-2 c =
     let a = c .before .before .before .before .before .before .before .args in
     same-put (as-many (a .more) (a .least) (a .most) (c .before .before .before .before .before .if1 .left) (c .before .before .before .before .if2 .taken))
     (looser mostUpto (omega arith) (c .before .before .put-words2 .ensures))
-
-slice-aggregate-put-field : tie.Need-slice-aggregate-put-field
-slice-aggregate-put-field c = search needs
-
-put-field-requires : tie.Need-put-field-requires
-put-field-requires c κs = search needs
-
-slice-aggregate-put-word-2 : tie.Need-slice-aggregate-put-word-2
-slice-aggregate-put-word-2 c = search needs
-
-put-word-requires-2 : tie.Need-put-word-requires-2
-put-word-requires-2 c κs = search needs
-
-same-length-3 : tie.Need-same-length-3
-same-length-3 c = search needs
 
 returns-3 : tie.Need-returns-3
 returns-3 c =
@@ -64,17 +31,17 @@ pub put-upto-spec : {M : Type 1} → statement M
 put-upto-spec =
     tie.close
     (tie.spec
-    put-words-requires
-    slice-aggregate-put-word
-    put-word-requires
-    same-length
+    (λ c κs. search needs)
+    (λ c. search needs)
+    (λ c κs. search needs)
+    (λ c. search needs)
     returns
-    put-words-requires-2
-    same-length-2
+    (λ c κs. search needs)
+    (λ c. search needs)
     returns-2
-    slice-aggregate-put-field
-    put-field-requires
-    slice-aggregate-put-word-2
-    put-word-requires-2
-    same-length-3
+    (λ c. search needs)
+    (λ c κs. search needs)
+    (λ c. search needs)
+    (λ c κs. search needs)
+    (λ c. search needs)
     returns-3)

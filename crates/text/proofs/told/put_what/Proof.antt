@@ -10,18 +10,6 @@ returns c =
     let a = c .before .before .before .args in
     same-put (no-name (a .what .now) (c .if1 .taken)) (looser _ (omega arith) (none-put (a .out .now) (a .at)))
 
-put-word-requires : tie.Need-put-word-requires
-put-word-requires c κs = search needs
-
-slice-aggregate-put-word : tie.Need-slice-aggregate-put-word
-slice-aggregate-put-word c = search needs
-
-put-word-requires-2 : tie.Need-put-word-requires-2
-put-word-requires-2 c κs = search needs
-
-same-length : tie.Need-same-length
-same-length c = search needs
-
 returns-2 : tie.Need-returns-2
 returns-2 c =
     let a = c .before .before .before .before .before .before .before .before .before .before .before .before .args in
@@ -33,8 +21,8 @@ put-what-spec =
     tie.close
     (tie.spec
     returns
-    put-word-requires
-    slice-aggregate-put-word
-    put-word-requires-2
-    same-length
+    (λ c κs. search needs)
+    (λ c. search needs)
+    (λ c κs. search needs)
+    (λ c. search needs)
     returns-2)

@@ -10,19 +10,10 @@ returns c =
     let a = c .before .before .before .args in
     no-room (mostRefusedAbout (a .what .now)) _ (a .out .now) (omega arith)
 
-sub-if2 : tie.Need-sub-if2
-sub-if2 c = search needs
-
 returns-2 : tie.Need-returns-2
 returns-2 c =
     let a = c .before .before .before .before .args in
     no-room (mostRefusedAbout (a .what .now)) _ (a .out .now) (omega arith)
-
-put-refused-about-requires : tie.Need-put-refused-about-requires
-put-refused-about-requires c κs = search needs
-
-same-length : tie.Need-same-length
-same-length c = search needs
 
 returns-3 : tie.Need-returns-3
 returns-3 c =
@@ -31,4 +22,4 @@ returns-3 c =
 
 pub refused-about-text-spec : {M : Type 1} → statement M
 refused-about-text-spec =
-    tie.close (tie.spec returns sub-if2 returns-2 put-refused-about-requires same-length returns-3)
+    tie.close (tie.spec returns (λ c. search needs) returns-2 (λ c κs. search needs) (λ c. search needs) returns-3)

@@ -7,14 +7,8 @@ use Rattle.text.proofs.told.shown_text.Tie as tie
 returns : tie.Need-returns
 returns c = no-room (length (c .before .before .before .args .name .now)) _ (c .before .before .before .args .out .now) (c .if1 .taken)
 
-put-shown-requires : tie.Need-put-shown-requires
-put-shown-requires c κs = search needs
-
-same-length : tie.Need-same-length
-same-length c = search needs
-
 returns-2 : tie.Need-returns-2
 returns-2 c = rendered _ (c .before .before .before .before .if1 .left) (c .before .before .put-shown .ensures)
 
 pub shown-text-spec : {M : Type 1} → statement M
-shown-text-spec = tie.close (tie.spec returns put-shown-requires same-length returns-2)
+shown-text-spec = tie.close (tie.spec returns (λ c κs. search needs) (λ c. search needs) returns-2)

@@ -11,45 +11,18 @@ Inv-loop from all₀ left₀ count taken₀ i₀ all left taken i = (length all 
 abbrev μ-loop : tie.MeasureT-loop
 μ-loop from all₀ left₀ count taken₀ i₀ all left taken i = count - i
 
-arg-count-requires : tie.Need-arg-count-requires Inv-loop μ-loop
-arg-count-requires c κs = search needs
-
-loop-holds : tie.Need-loop-holds Inv-loop μ-loop
-loop-holds c = search needs
-
-with-book-requires : tie.Need-with-book-requires Inv-loop μ-loop
-with-book-requires c κs = search needs
-
-add-i : tie.Need-add-i Inv-loop μ-loop
-add-i c = search needs
-
-loop-less : tie.Need-loop-less Inv-loop μ-loop
-loop-less c = search needs
-
-loop-again : tie.Need-loop-again Inv-loop μ-loop
-loop-again c = search needs
-
-same-length : tie.Need-same-length Inv-loop μ-loop
-same-length c = search needs
-
-same-length-2 : tie.Need-same-length-2 Inv-loop μ-loop
-same-length-2 c = search needs
-
-returns : tie.Need-returns Inv-loop μ-loop
-returns c = search needs
-
 pub join-named-spec : {M : Type 1} → statement M
 join-named-spec =
     tie.close
     (tie.spec
     Inv-loop
     μ-loop
-    arg-count-requires
-    loop-holds
-    with-book-requires
-    add-i
-    loop-less
-    loop-again
-    same-length
-    same-length-2
-    returns)
+    (λ c κs. search needs)
+    (λ c. search needs)
+    (λ c κs. search needs)
+    (λ c. search needs)
+    (λ c. search needs)
+    (λ c. search needs)
+    (λ c. search needs)
+    (λ c. search needs)
+    (λ c. search needs))

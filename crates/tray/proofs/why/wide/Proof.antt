@@ -8,8 +8,5 @@ use Rattle.tray.proofs.why.wide.Tie as tie
 cast-result : tie.Need-cast-result
 cast-result c = rw (toZ-ofZ w32 (c .args .n) (record { sfits = c .fits .n .sfits })) (record { sfits = omega (arith, c .fits .n .sfits) })
 
-returns : tie.Need-returns
-returns c = search needs
-
 pub wide-spec : {M : Type 1} → statement M
-wide-spec = tie.close (tie.spec cast-result returns)
+wide-spec = tie.close (tie.spec cast-result (λ c. search needs))

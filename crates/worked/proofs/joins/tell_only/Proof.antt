@@ -9,25 +9,10 @@ use Rattle.worked.proofs.joins.tell_only.Tie as tie
 sound : (c : tie.Else1) → check (c .before .before .before .before .before .args .book .now) ≡ accepted
 sound c = c .before .before .header-of .ensures .1 .0 (c .if1 .left)
 
-header-of-requires : tie.Need-header-of-requires
-header-of-requires c κs = search needs
-
-returns : tie.Need-returns
-returns c = search needs
-
 call-of-requires : tie.Need-call-of-requires
 call-of-requires c κs = let s = c .before .before in (sound s, omega (arith, s .before .before .header-of .ensures .1 .1))
-
-record-requires : tie.Need-record-requires
-record-requires c κs = search needs
-
-returns-2 : tie.Need-returns-2
-returns-2 c = search needs
-
-returns-3 : tie.Need-returns-3
-returns-3 c = search needs
 
 pub tell-only-spec : {M : Type 1} → statement M
 tell-only-spec =
     tie.close
-    (tie.spec header-of-requires returns call-of-requires record-requires returns-2 returns-3)
+    (tie.spec (λ c κs. search needs) (λ c. search needs) call-of-requires (λ c κs. search needs) (λ c. search needs) (λ c. search needs))

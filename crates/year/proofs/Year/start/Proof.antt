@@ -4,11 +4,8 @@ use Rattle.year.proofs.Taking.{year-start}
 use Rattle.year.proofs.Year.start.Statement.{statement}
 use Rattle.year.proofs.Year.start.Tie as tie
 
-refused-requires : tie.Need-refused-requires
-refused-requires c κs = search needs
-
 returns : tie.Need-returns
 returns c = c .refused .ensures ∙ year-start
 
 pub start-spec : {M : Type 1} → statement M
-start-spec = tie.close (tie.spec refused-requires returns)
+start-spec = tie.close (tie.spec (λ c κs. search needs) returns)

@@ -3,12 +3,9 @@ use Rattle.year.specs.Every.{yearTakes}
 use Rattle.year.proofs.Year.takes.Statement.{statement}
 use Rattle.year.proofs.Year.takes.Tie as tie
 
-statement-is-sound-requires : tie.Need-statement-is-sound-requires
-statement-is-sound-requires c κs = search needs
-
 returns : tie.Need-returns
 unfolding yearTakes
 returns c = rw (c .statement-is-sound .ensures)
 
 pub takes-spec : {M : Type 1} → statement M
-takes-spec = tie.close (tie.spec statement-is-sound-requires returns)
+takes-spec = tie.close (tie.spec (λ c κs. search needs) returns)

@@ -8,12 +8,6 @@ use Rattle.year.proofs.Year.with.Tie as tie
 returns : tie.Need-returns
 returns c = let a = c .before .before .args in with-both (a .self) (a .s) (a .self) (with-stands (a .self) (a .s) (c .if1 .taken))
 
-takes-requires : tie.Need-takes-requires
-takes-requires c κs = search needs
-
-refused-requires : tie.Need-refused-requires
-refused-requires c κs = search needs
-
 returns-2 : tie.Need-returns-2
 returns-2 c =
     let t = c .before .before in
@@ -34,4 +28,4 @@ returns-3 c =
 pub with-spec : {M : Type 1} → statement M
 with-spec =
     tie.close
-    (tie.spec returns takes-requires refused-requires returns-2 taking-requires returns-3)
+    (tie.spec returns (λ c κs. search needs) (λ c κs. search needs) returns-2 taking-requires returns-3)

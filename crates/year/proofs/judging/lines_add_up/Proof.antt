@@ -25,12 +25,6 @@ abbrev μ-loop : tie.MeasureT-loop
 loop-holds : tie.Need-loop-holds Inv-loop μ-loop
 loop-holds c = (omega arith, omega arith, refl, +ℤ-idl (sumℤ (amountsOf (take (c .args .count) (c .args .t1)))))
 
-mul-l : tie.Need-mul-l Inv-loop μ-loop
-mul-l c = search needs
-
-array-copy-out-l : tie.Need-array-copy-out-l Inv-loop μ-loop
-array-copy-out-l c = search needs
-
 year-line-is-sound-requires : tie.Need-year-line-is-sound-requires Inv-loop μ-loop
 year-line-is-sound-requires c κs = tt
 
@@ -52,12 +46,6 @@ added-requires c κs =
     let p = c .before .before .before .before in
     let f = line-fits _ _ (sound c) .0 .amount in
     (omega (arith, p .loop .inv .0, p .loop .inv .1, p .before .pre .0), omega (arith, f))
-
-add-i : tie.Need-add-i Inv-loop μ-loop
-add-i c = search needs
-
-loop-less : tie.Need-loop-less Inv-loop μ-loop
-loop-less c = search needs
 
 loop-again : tie.Need-loop-again Inv-loop μ-loop
 loop-again c =
@@ -99,13 +87,13 @@ lines-add-up-spec =
     Inv-loop
     μ-loop
     loop-holds
-    mul-l
-    array-copy-out-l
+    (λ c. search needs)
+    (λ c. search needs)
     year-line-is-sound-requires
     returns
     added-requires
-    add-i
-    loop-less
+    (λ c. search needs)
+    (λ c. search needs)
     loop-again
     added-requires-2
     returns-2)

@@ -6,17 +6,11 @@ use Rattle.year.proofs.Statements.{undated, too-many, user-beyond, by-l
 use Rattle.year.proofs.judging.statement_is_sound.Statement.{statement}
 use Rattle.year.proofs.judging.statement_is_sound.Tie as tie
 
-date-is-sound-requires : tie.Need-date-is-sound-requires
-date-is-sound-requires c κs = search needs
-
 returns : tie.Need-returns
 returns c = undated (c .before .before .args .s) (sym (c .before .date-is-sound .ensures) ∙ not-true _ (c .if1 .taken))
 
 returns-2 : tie.Need-returns-2
 returns-2 c = too-many (c .before .before .before .args .s) (c .if2 .taken)
-
-is-within-requires : tie.Need-is-within-requires
-is-within-requires c κs = search needs
 
 returns-3 : tie.Need-returns-3
 returns-3 c = user-beyond (c .before .before .before .before .before .before .args .s) (sym (c .before .is-within .ensures) ∙ not-true _ (c .if3 .taken))
@@ -39,10 +33,10 @@ pub statement-is-sound-spec : {M : Type 1} → statement M
 statement-is-sound-spec =
     tie.close
     (tie.spec
-    date-is-sound-requires
+    (λ c κs. search needs)
     returns
     returns-2
-    is-within-requires
+    (λ c κs. search needs)
     returns-3
     lines-add-up-requires
     returns-4)

@@ -4,9 +4,6 @@ use Rattle.year.specs.Every.{fenPlus}
 use Rattle.year.proofs.member.fen_plus.Statement.{statement}
 use Rattle.year.proofs.member.fen_plus.Tie as tie
 
-add-t5 : tie.Need-add-t5
-add-t5 c = search needs
-
 returns : tie.Need-returns
 unfolding fenPlus
 returns c = rw (le-leb _ _ (c .before .if1 .taken))
@@ -16,4 +13,4 @@ unfolding fenPlus
 returns-2 c = rw (lt-leb _ _ (c .if1 .left))
 
 pub fen-plus-spec : {M : Type 1} → statement M
-fen-plus-spec = tie.close (tie.spec add-t5 returns returns-2)
+fen-plus-spec = tie.close (tie.spec (λ c. search needs) returns returns-2)

@@ -6,11 +6,8 @@ use Rattle.year.specs.Year.{mostMembers}
 use Rattle.year.proofs.member.no_members.Statement.{statement}
 use Rattle.year.proofs.member.no_members.Tie as tie
 
-no-months-requires : tie.Need-no-months-requires
-no-months-requires c κs = search needs
-
 returns : tie.Need-returns
 returns c = ap (λ (m : MemberYear). replicate mostMembers m) (c .no-months .ensures)
 
 pub no-members-spec : {M : Type 1} → statement M
-no-members-spec = tie.close (tie.spec no-months-requires returns)
+no-members-spec = tie.close (tie.spec (λ c κs. search needs) returns)

@@ -4,9 +4,6 @@ use Rattle.year.specs.Every.{thousandthsPlus}
 use Rattle.year.proofs.member.thousandths_plus.Statement.{statement}
 use Rattle.year.proofs.member.thousandths_plus.Tie as tie
 
-add-t5 : tie.Need-add-t5
-add-t5 c = search needs
-
 returns : tie.Need-returns
 unfolding thousandthsPlus
 returns c = rw (le-leb _ _ (c .before .if1 .taken))
@@ -16,4 +13,4 @@ unfolding thousandthsPlus
 returns-2 c = rw (lt-leb _ _ (c .if1 .left))
 
 pub thousandths-plus-spec : {M : Type 1} → statement M
-thousandths-plus-spec = tie.close (tie.spec add-t5 returns returns-2)
+thousandths-plus-spec = tie.close (tie.spec (λ c. search needs) returns returns-2)

@@ -20,12 +20,6 @@ abbrev μ-loop : tie.MeasureT-loop
 loop-holds : tie.Need-loop-holds Inv-loop μ-loop
 loop-holds c = let room : length (c .args .members) ≡ 64 = search needs in (omega arith, room, refl)
 
-mul-l : tie.Need-mul-l Inv-loop μ-loop
-mul-l c = search needs
-
-array-copy-out-l : tie.Need-array-copy-out-l Inv-loop μ-loop
-array-copy-out-l c = search needs
-
 -- the line fits
 line : (c : tie.In-loop Inv-loop μ-loop) → LineFits (getD (c .before .before .args .t3) (c .before .loop .i) blankLine)
 line c =
@@ -54,12 +48,6 @@ mul-out c = record { fits = omega (arith, line (c .before .before .before .befor
 array-set-from-out : tie.Need-array-set-from-out Inv-loop μ-loop
 array-set-from-out c = omega (arith, line (c .before .before .before .before) .number)
 
-add-i : tie.Need-add-i Inv-loop μ-loop
-add-i c = search needs
-
-loop-less : tie.Need-loop-less Inv-loop μ-loop
-loop-less c = search needs
-
 loop-again : tie.Need-loop-again Inv-loop μ-loop
 loop-again c =
     let p = c .before .before .before .before .before in
@@ -86,8 +74,8 @@ with-lines-spec =
     Inv-loop
     μ-loop
     loop-holds
-    mul-l
-    array-copy-out-l
+    (λ c. search needs)
+    (λ c. search needs)
     sub-at
     cast-at
     mul-m
@@ -95,7 +83,7 @@ with-lines-spec =
     member-with-requires
     mul-out
     array-set-from-out
-    add-i
-    loop-less
+    (λ c. search needs)
+    (λ c. search needs)
     loop-again
     returns)

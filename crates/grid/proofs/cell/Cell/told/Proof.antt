@@ -4,30 +4,6 @@ use borrow.Author.Needs.{needs}
 use Rattle.grid.proofs.cell.Cell.told.Statement.{statement}
 use Rattle.grid.proofs.cell.Cell.told.Tie as tie
 
-enum-told : tie.Need-enum-told
-enum-told c = search needs
-
-enum-known-cell : tie.Need-enum-known-cell
-enum-known-cell c = search needs
-
-hold-requires : tie.Need-hold-requires
-hold-requires c κs = search needs
-
-enum-told-2 : tie.Need-enum-told-2
-enum-told-2 c = search needs
-
-enum-told-3 : tie.Need-enum-told-3
-enum-told-3 c = search needs
-
-enum-told-4 : tie.Need-enum-told-4
-enum-told-4 c = search needs
-
-enum-known-cell-2 : tie.Need-enum-known-cell-2
-enum-known-cell-2 c = search needs
-
-enum-told-5 : tie.Need-enum-told-5
-enum-told-5 c = search needs
-
 returns : tie.Need-returns
 unfolding toldLeft
 returns c = rw (c .enum-told .given .1) refl
@@ -60,14 +36,14 @@ pub told-spec : {M : Type 1} → statement M
 told-spec =
     tie.close
     (tie.spec
-    enum-told
-    enum-known-cell
-    hold-requires
-    enum-told-2
-    enum-told-3
-    enum-told-4
-    enum-known-cell-2
-    enum-told-5
+    (λ c. search needs)
+    (λ c. search needs)
+    (λ c κs. search needs)
+    (λ c. search needs)
+    (λ c. search needs)
+    (λ c. search needs)
+    (λ c. search needs)
+    (λ c. search needs)
     returns
     returns-2
     returns-3

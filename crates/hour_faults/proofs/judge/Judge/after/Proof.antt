@@ -4,22 +4,13 @@ use borrow.Author.Needs.{needs}
 use Rattle.hour_faults.proofs.judge.Judge.after.Statement.{statement}
 use Rattle.hour_faults.proofs.judge.Judge.after.Tie as tie
 
-is-heading-requires : tie.Need-is-heading-requires
-is-heading-requires c κs = search needs
-
 returns : tie.Need-returns
 unfolding judgeAfter
 returns c = rw (sym (c .before .is-heading .ensures) ∙ c .if1 .taken)
 
-is-blank-requires : tie.Need-is-blank-requires
-is-blank-requires c κs = search needs
-
 returns-2 : tie.Need-returns-2
 unfolding judgeAfter
 returns-2 c = rw (sym (c .before .before .before .is-heading .ensures) ∙ c .before .before .if1 .left, sym (c .before .is-blank .ensures) ∙ c .if2 .taken)
-
-spoilt-requires : tie.Need-spoilt-requires
-spoilt-requires c κs = search needs
 
 returns-3 : tie.Need-returns-3
 unfolding judgeAfter
@@ -30,9 +21,6 @@ returns-3 c =
           (c .before .before .before .is-blank .ensures) ∙ c .before .before .if2 .left,
       c .before .if3 .taken,
     ) (c .spoilt .ensures)
-
-with-requires : tie.Need-with-requires
-with-requires c κs = search needs
 
 returns-4 : tie.Need-returns-4
 unfolding judgeAfter
@@ -48,11 +36,11 @@ pub after-spec : {M : Type 1} → statement M
 after-spec =
     tie.close
     (tie.spec
-    is-heading-requires
+    (λ c κs. search needs)
     returns
-    is-blank-requires
+    (λ c κs. search needs)
     returns-2
-    spoilt-requires
+    (λ c κs. search needs)
     returns-3
-    with-requires
+    (λ c κs. search needs)
     returns-4)

@@ -15,21 +15,6 @@ returns-2 : tie.Need-returns-2
 returns-2 c = let a = c .before .before .args in let room : length (a .t2) ≡ 8 = search needs in let few : a .count ≤ length (a .t2) = omega arith in
     fault-columns (a .self) (a .t2) (a .count) few (c .before .if1 .left) (c .if2 .taken)
 
-array-read-filled-for : tie.Need-array-read-filled-for
-array-read-filled-for c = search needs
-
-filled-for-requires : tie.Need-filled-for-requires
-filled-for-requires c κs = search needs
-
-array-read-standard-for : tie.Need-array-read-standard-for
-array-read-standard-for c = search needs
-
-standard-for-requires : tie.Need-standard-for-requires
-standard-for-requires c κs = search needs
-
-line-fault-requires : tie.Need-line-fault-requires
-line-fault-requires c κs = search needs
-
 returns-3 : tie.Need-returns-3
 returns-3 c = let a = c .before .before .before .before .before .args in let room : length (a .t2) ≡ 8 = search needs in let few : a .count ≤ length (a .t2) = omega arith in
     c .line-fault .ensures ∙ fault-cells (a .self) (a .t2) (a .count) few (c .before .before .before .if2 .left) (c .before .before .filled-for .result) (c .before .standard-for .result)
@@ -41,9 +26,9 @@ fault-spec =
     (tie.spec
     returns
     returns-2
-    array-read-filled-for
-    filled-for-requires
-    array-read-standard-for
-    standard-for-requires
-    line-fault-requires
+    (λ c. search needs)
+    (λ c κs. search needs)
+    (λ c. search needs)
+    (λ c κs. search needs)
+    (λ c κs. search needs)
     returns-3)

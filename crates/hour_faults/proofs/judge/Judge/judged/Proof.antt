@@ -10,21 +10,9 @@ use borrow.Author.Needs.{needs}
 use Rattle.hour_faults.proofs.judge.Judge.judged.Statement.{statement}
 use Rattle.hour_faults.proofs.judge.Judge.judged.Tie as tie
 
-is-sound-requires : tie.Need-is-sound-requires
-is-sound-requires c κs = search needs
-
 returns : tie.Need-returns
 returns c = let a = c .before .before .args in let room : length (a .cells) ≡ 8 = search needs in let few : a .count ≤ length (a .cells) = omega arith in
     judged-found (a .self) (a .cells) (a .count) few (sym (c .before .is-sound .ensures) ∙ not-true _ (c .if1 .taken))
-
-fault-requires : tie.Need-fault-requires
-fault-requires c κs = search needs
-
-is-sound-requires-2 : tie.Need-is-sound-requires-2
-is-sound-requires-2 c κs = search needs
-
-refusing-requires : tie.Need-refusing-requires
-refusing-requires c κs = search needs
 
 returns-2 : tie.Need-returns-2
 returns-2 c = let a = c .before .before .before .before .before .before .args in let room : length (a .cells) ≡ 8 = search needs in let few : a .count ≤ length (a .cells) = omega arith in
@@ -32,9 +20,6 @@ returns-2 c = let a = c .before .before .before .before .before .before .args in
     c .refusing .ensures ∙ ap (judgeRefusing (a .self)) wrong ∙ judged-bad (a .self) (a .cells) (a .count) few (sym
     (c .before .before .before .before .before .is-sound .ensures) ∙ not-false _ (c .before .before .before .before .if1 .left))
     (ap isSound (sym wrong) ∙ sym (c .before .before .is-sound2 .ensures) ∙ not-true _ (c .before .if2 .taken))
-
-taking-requires : tie.Need-taking-requires
-taking-requires c κs = search needs
 
 returns-3 : tie.Need-returns-3
 returns-3 c = let a = c .before .before .before .before .before .before .args in let room : length (a .cells) ≡ 8 = search needs in let few : a .count ≤ length (a .cells) = omega arith in
@@ -47,11 +32,11 @@ pub judged-spec : {M : Type 1} → statement M
 judged-spec =
     tie.close
     (tie.spec
-    is-sound-requires
+    (λ c κs. search needs)
     returns
-    fault-requires
-    is-sound-requires-2
-    refusing-requires
+    (λ c κs. search needs)
+    (λ c κs. search needs)
+    (λ c κs. search needs)
     returns-2
-    taking-requires
+    (λ c κs. search needs)
     returns-3)

@@ -5,17 +5,11 @@ use borrow.Author.Needs.{needs}
 use Rattle.hour_faults.proofs.judge.Judge.spoilt.Statement.{statement}
 use Rattle.hour_faults.proofs.judge.Judge.spoilt.Tie as tie
 
-is-sound-requires : tie.Need-is-sound-requires
-is-sound-requires c κs = search needs
-
 returns : tie.Need-returns
 returns c = spoilt-found (c .before .before .args .self) (sym (c .before .is-sound .ensures) ∙ not-true _ (c .if1 .taken))
-
-refusing-requires : tie.Need-refusing-requires
-refusing-requires c κs = search needs
 
 returns-2 : tie.Need-returns-2
 returns-2 c = c .refusing .ensures ∙ spoilt-now (c .before .before .before .args .self) (sym (c .before .before .is-sound .ensures) ∙ not-false _ (c .before .if1 .left))
 
 pub spoilt-spec : {M : Type 1} → statement M
-spoilt-spec = tie.close (tie.spec is-sound-requires returns refusing-requires returns-2)
+spoilt-spec = tie.close (tie.spec (λ c κs. search needs) returns (λ c κs. search needs) returns-2)

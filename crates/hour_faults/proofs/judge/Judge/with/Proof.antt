@@ -4,14 +4,8 @@ use borrow.Author.Needs.{needs}
 use Rattle.hour_faults.proofs.judge.Judge.with.Statement.{statement}
 use Rattle.hour_faults.proofs.judge.Judge.with.Tie as tie
 
-cells-of-requires : tie.Need-cells-of-requires
-cells-of-requires c κs = search needs
-
-judged-requires : tie.Need-judged-requires
-judged-requires c κs = search needs
-
 returns : tie.Need-returns
 returns c = c .judged .ensures ∙ ap (judgeOf (c .before .before .before .args .self)) (sym (c .before .before .cells-of .ensures .are))
 
 pub with-spec : {M : Type 1} → statement M
-with-spec = tie.close (tie.spec cells-of-requires judged-requires returns)
+with-spec = tie.close (tie.spec (λ c κs. search needs) (λ c κs. search needs) returns)

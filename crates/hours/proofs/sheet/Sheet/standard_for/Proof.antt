@@ -5,9 +5,6 @@ use borrow.Author.Needs.{needs}
 use Rattle.hours.proofs.sheet.Sheet.standard_for.Statement.{statement}
 use Rattle.hours.proofs.sheet.Sheet.standard_for.Tie as tie
 
-array-copy-out-first : tie.Need-array-copy-out-first
-array-copy-out-first c = search needs
-
 returns : tie.Need-returns
 unfolding standardFor
 returns c = let a = c .before .before .before .args in rw (eq-eqb (a .n) 0 (c .if1 .taken))
@@ -17,4 +14,4 @@ unfolding standardFor noAction
 returns-2 c = let a = c .before .before .before .args in rw (ne-eqb (a .n) 0 (c .if1 .left))
 
 pub standard-for-spec : {M : Type 1} → statement M
-standard-for-spec = tie.close (tie.spec array-copy-out-first returns returns-2)
+standard-for-spec = tie.close (tie.spec (λ c. search needs) returns returns-2)

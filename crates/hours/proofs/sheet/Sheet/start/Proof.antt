@@ -10,24 +10,12 @@ use borrow.Author.Needs.{needs}
 use Rattle.hours.proofs.sheet.Sheet.start.Statement.{statement}
 use Rattle.hours.proofs.sheet.Sheet.start.Tie as tie
 
-is-sound-requires : tie.Need-is-sound-requires
-is-sound-requires c κs = search needs
-
-blank-requires : tie.Need-blank-requires
-blank-requires c κs = search needs
-
 returns : tie.Need-returns
 unfolding isFault
 returns c =
     let a = c .before .before .before .args in
     let bad = sym (c .before .before .is-sound .ensures) ∙ not-true _ (c .before .if1 .taken) in
     starts-refused (a .member) (a .hours) (c .blank .result) (OfMember 10) refl (refused-10 (a .member) (a .hours) bad) (c .blank .ensures)
-
-is-ramping-requires : tie.Need-is-ramping-requires
-is-ramping-requires c κs = search needs
-
-blank-requires-2 : tie.Need-blank-requires-2
-blank-requires-2 c κs = search needs
 
 returns-2 : tie.Need-returns-2
 unfolding isFault
@@ -36,9 +24,6 @@ returns-2 c =
     let good = sym (c .before .before .before .before .is-sound .ensures) ∙ not-false _ (c .before .before .before .if1 .left) in
     let bad = sym (c .before .before .is-ramping .ensures) ∙ not-true _ (c .before .if2 .taken) in
     starts-refused (a .member) (a .hours) (c .blank2 .result) (OfMember 12) refl (refused-12 (a .member) (a .hours) good bad) (c .blank2 .ensures)
-
-blank-requires-3 : tie.Need-blank-requires-3
-blank-requires-3 c κs = search needs
 
 returns-3 : tie.Need-returns-3
 returns-3 c =
@@ -52,11 +37,11 @@ pub start-spec : {M : Type 1} → statement M
 start-spec =
     tie.close
     (tie.spec
-    is-sound-requires
-    blank-requires
+    (λ c κs. search needs)
+    (λ c κs. search needs)
     returns
-    is-ramping-requires
-    blank-requires-2
+    (λ c κs. search needs)
+    (λ c κs. search needs)
     returns-2
-    blank-requires-3
+    (λ c κs. search needs)
     returns-3)

@@ -8,15 +8,6 @@ use borrow.Author.Needs.{needs}
 use Rattle.hours.proofs.sheet.Sheet.takes.Statement.{statement}
 use Rattle.hours.proofs.sheet.Sheet.takes.Tie as tie
 
-filled-for-requires : tie.Need-filled-for-requires
-filled-for-requires c κs = search needs
-
-standard-for-requires : tie.Need-standard-for-requires
-standard-for-requires c κs = search needs
-
-action-is-sound-requires : tie.Need-action-is-sound-requires
-action-is-sound-requires c κs = search needs
-
 returns : tie.Need-returns
 unfolding sheetTakes
 returns c =
@@ -31,4 +22,4 @@ returns c =
 
 pub takes-spec : {M : Type 1} → statement M
 takes-spec =
-    tie.close (tie.spec filled-for-requires standard-for-requires action-is-sound-requires returns)
+    tie.close (tie.spec (λ c κs. search needs) (λ c κs. search needs) (λ c κs. search needs) returns)

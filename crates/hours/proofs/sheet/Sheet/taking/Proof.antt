@@ -10,9 +10,6 @@ use Rattle.hours.proofs.sheet.Sheet.taking.Tie as tie
 room : (c : tie.After-filled-for) → c .filled-for .result < mostActions
 room c = subst (λ (x : ℕ). x < mostActions) (sym (c .filled-for .ensures)) (takes-room (c .before .args .self) (c .before .args .l) (c .before .pre))
 
-filled-for-requires : tie.Need-filled-for-requires
-filled-for-requires c κs = search needs
-
 mul-kept : tie.Need-mul-kept
 mul-kept c = record { fits = omega (arith, room (c .before .before)) }
 
@@ -25,23 +22,11 @@ add-paid c = record { fits = omega (arith, room (c .before .before .before)) }
 paid-requires : tie.Need-paid-requires
 paid-requires c κs = omega (arith, room (c .before .before .before))
 
-cast-hour : tie.Need-cast-hour
-cast-hour c = search needs
-
-put-grains-requires : tie.Need-put-grains-requires
-put-grains-requires c κs = search needs
-
 add-put-actions : tie.Need-add-put-actions
 add-put-actions c = record { fits = omega (arith, room (c .before .before .before .before .before .before .before .before)) }
 
 cast-put-actions : tie.Need-cast-put-actions
 cast-put-actions c = record { fits = omega (arith, room (c .before .before .before .before .before .before .before .before)) }
-
-put-actions-requires : tie.Need-put-actions-requires
-put-actions-requires c κs = search needs
-
-wrapping-add-usize-requires : tie.Need-wrapping-add-usize-requires
-wrapping-add-usize-requires c κs = search needs
 
 add-t19 : tie.Need-add-t19
 add-t19 c = record { fits = omega (arith, room (c .before .before .before .before .before .before .before .before .before .before)) }
@@ -62,16 +47,16 @@ pub taking-spec : {M : Type 1} → statement M
 taking-spec =
     tie.close
     (tie.spec
-    filled-for-requires
+    (λ c κs. search needs)
     mul-kept
     array-set-from-kept
     add-paid
     paid-requires
-    cast-hour
-    put-grains-requires
+    (λ c. search needs)
+    (λ c κs. search needs)
     add-put-actions
     cast-put-actions
-    put-actions-requires
-    wrapping-add-usize-requires
+    (λ c κs. search needs)
+    (λ c κs. search needs)
     add-t19
     returns)

@@ -15,15 +15,6 @@ returns c =
       yes = λ e. absurd (holds-or-fails (c .if1 .taken) e);
     }
 
-line-in-requires : tie.Need-line-in-requires
-line-in-requires c κs = search needs
-
-takes-requires : tie.Need-takes-requires
-takes-requires c κs = search needs
-
-refusing-requires : tie.Need-refusing-requires
-refusing-requires c κs = search needs
-
 returns-2 : tie.Need-returns-2
 returns-2 c =
     let a = c .before .before .before .before .before .args in
@@ -46,9 +37,9 @@ with-spec =
     tie.close
     (tie.spec
     returns
-    line-in-requires
-    takes-requires
-    refusing-requires
+    (λ c κs. search needs)
+    (λ c κs. search needs)
+    (λ c κs. search needs)
     returns-2
     taking-requires
     returns-3)

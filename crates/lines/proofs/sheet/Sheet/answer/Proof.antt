@@ -7,9 +7,6 @@ use borrow.Author.Needs.{needs}
 use Rattle.lines.proofs.sheet.Sheet.answer.Statement.{statement}
 use Rattle.lines.proofs.sheet.Sheet.answer.Tie as tie
 
-blank-lines-requires : tie.Need-blank-lines-requires
-blank-lines-requires c κs = search needs
-
 returns : tie.Need-returns
 unfolding filledUp
 returns c =
@@ -19,4 +16,4 @@ returns-2 : tie.Need-returns-2
 returns-2 c = answer-yes sharingLines lawful (sheetSoFar (c .before .before .args .self)) (c .before .if1 .left)
 
 pub answer-spec : {M : Type 1} → statement M
-answer-spec = tie.close (tie.spec blank-lines-requires returns returns-2)
+answer-spec = tie.close (tie.spec (λ c κs. search needs) returns returns-2)

@@ -5,12 +5,9 @@ use borrow.Author.Needs.{needs}
 use Rattle.lines.proofs.sheet.Sheet.start.Statement.{statement}
 use Rattle.lines.proofs.sheet.Sheet.start.Tie as tie
 
-blank-lines-requires : tie.Need-blank-lines-requires
-blank-lines-requires c κs = search needs
-
 returns : tie.Need-returns
 unfolding filledUp
 returns c = judged-start sharingLines (c .blank-lines .result) (c .blank-lines .ensures)
 
 pub start-spec : {M : Type 1} → statement M
-start-spec = tie.close (tie.spec blank-lines-requires returns)
+start-spec = tie.close (tie.spec (λ c κs. search needs) returns)

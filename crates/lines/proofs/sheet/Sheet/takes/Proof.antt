@@ -12,9 +12,6 @@ use borrow.Author.Needs.{needs}
 use Rattle.lines.proofs.sheet.Sheet.takes.Statement.{statement}
 use Rattle.lines.proofs.sheet.Sheet.takes.Tie as tie
 
-line-in-requires : tie.Need-line-in-requires
-line-in-requires c κs = search needs
-
 returns : tie.Need-returns
 returns c =
     let a = c .before .before .before .before .args in
@@ -23,4 +20,4 @@ returns c =
     (ap (λ (x : Line). ltb (a .self .before) (x .number)) (l .ensures) ∙ sym (fair-rises sharingLines lawful (a .self .before) (rowLine (a .row) [])))
 
 pub takes-spec : {M : Type 1} → statement M
-takes-spec = tie.close (tie.spec line-in-requires returns)
+takes-spec = tie.close (tie.spec (λ c κs. search needs) returns)

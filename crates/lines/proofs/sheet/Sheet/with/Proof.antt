@@ -11,12 +11,6 @@ use Rattle.lines.proofs.sheet.Sheet.with.Tie as tie
 returns : tie.Need-returns
 returns c = let a = c .before .args in with-refused sharingLines lawful (sheetSoFar (a .self)) (rowLine (a .row) []) (c .if1 .taken)
 
-line-in-requires : tie.Need-line-in-requires
-line-in-requires c κs = search needs
-
-refuse-requires : tie.Need-refuse-requires
-refuse-requires c κs = search needs
-
 returns-2 : tie.Need-returns-2
 returns-2 c =
     let a = c .before .before .before .before .before .before .args in
@@ -24,23 +18,11 @@ returns-2 c =
     with-bad sharingLines lawful (sheetSoFar (a .self)) (rowLine (a .row) []) (c .before .before .before .before .before .if1 .left) (l .result) (l .ensures)
     (sheetSoFar (c .refuse .result)) (c .refuse .ensures) (c .before .if2 .taken)
 
-refuse-requires-2 : tie.Need-refuse-requires-2
-refuse-requires-2 c κs = search needs
-
 returns-3 : tie.Need-returns-3
 returns-3 c =
     let a = c .before .before .before .before .before .before .before .args in
     with-full sharingLines lawful (sheetSoFar (a .self)) (rowLine (a .row) []) (c .before .before .before .before .before .before .if1 .left)
     (sheetSoFar (c .refuse2 .result)) (c .refuse2 .ensures) (c .before .if3 .taken)
-
-mul-lines : tie.Need-mul-lines
-mul-lines c = search needs
-
-array-set-from-lines : tie.Need-array-set-from-lines
-array-set-from-lines c = search needs
-
-add-t7 : tie.Need-add-t7
-add-t7 c = search needs
 
 returns-4 : tie.Need-returns-4
 returns-4 c =
@@ -54,12 +36,12 @@ with-spec =
     tie.close
     (tie.spec
     returns
-    line-in-requires
-    refuse-requires
+    (λ c κs. search needs)
+    (λ c κs. search needs)
     returns-2
-    refuse-requires-2
+    (λ c κs. search needs)
     returns-3
-    mul-lines
-    array-set-from-lines
-    add-t7
+    (λ c. search needs)
+    (λ c. search needs)
+    (λ c. search needs)
     returns-4)

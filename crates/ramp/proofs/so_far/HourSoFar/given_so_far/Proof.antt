@@ -15,17 +15,11 @@ mul-early c = let s = c .before .before in omega (arith, right-most (s .args .se
 sub-early : tie.Need-sub-early
 sub-early c = let s = c .before .before .before in omega (arith, delay-le (s .args .self) (s .pre .0))
 
-cast-early : tie.Need-cast-early
-cast-early c = search needs
-
 mul-early-2 : tie.Need-mul-early-2
 mul-early-2 c = let s = c .before .before .before .before in omega (arith, early-most (s .args .self) (s .pre .0))
 
 add-result : tie.Need-add-result
 add-result c = let s = c .before .before .before .before in omega (arith, rates-most (s .args .self) (s .pre .0), early-most (s .args .self) (s .pre .0))
-
-cast-result : tie.Need-cast-result
-cast-result c = search needs
 
 mul-result : tie.Need-mul-result
 mul-result c = let s = c .before .before .before .before .before in omega (arith, given-most (s .args .self) (s .pre .0) (s .args .rated .0) (s .pre .1))
@@ -41,9 +35,9 @@ given-so-far-spec =
     mul-rates
     mul-early
     sub-early
-    cast-early
+    (λ c. search needs)
     mul-early-2
     add-result
-    cast-result
+    (λ c. search needs)
     mul-result
     returns)

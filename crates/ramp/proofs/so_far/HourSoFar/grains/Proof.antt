@@ -9,12 +9,6 @@ use Rattle.ramp.proofs.so_far.HourSoFar.grains.Tie as tie
 returns : tie.Need-returns
 returns c actions s = let f = c .before .before in pays-none (f .args .rated .0) actions (f .args .self) s (f .pre .1 .0) (c .if1 .taken)
 
-given-so-far-requires : tie.Need-given-so-far-requires
-given-so-far-requires c κs = search needs
-
-taken-so-far-requires : tie.Need-taken-so-far-requires
-taken-so-far-requires c κs = search needs
-
 returns-2 : tie.Need-returns-2
 returns-2 c actions s =
     let f = c .before .before .before .before .before in
@@ -23,12 +17,6 @@ returns-2 c actions s =
 
 mul-n : tie.Need-mul-n
 mul-n c = let f = c .before .before .before .before .before .before in omega (arith, n-most (f .args .self) (f .pre .0))
-
-over-so-far-requires : tie.Need-over-so-far-requires
-over-so-far-requires c κs = search needs
-
-sub-times-over : tie.Need-sub-times-over
-sub-times-over c = search needs
 
 times-over-requires : tie.Need-times-over-requires
 times-over-requires c κs =
@@ -59,11 +47,11 @@ grains-spec =
     tie.close
     (tie.spec
     returns
-    given-so-far-requires
-    taken-so-far-requires
+    (λ c κs. search needs)
+    (λ c κs. search needs)
     returns-2
     mul-n
-    over-so-far-requires
-    sub-times-over
+    (λ c κs. search needs)
+    (λ c. search needs)
     times-over-requires
     returns-3)

@@ -6,12 +6,6 @@ use Rattle.ramp.proofs.Paid.{rated-most, over-most}
 use Rattle.ramp.proofs.so_far.HourSoFar.over_so_far.Statement.{statement}
 use Rattle.ramp.proofs.so_far.HourSoFar.over_so_far.Tie as tie
 
-cast-result : tie.Need-cast-result
-cast-result c = search needs
-
-cast-result-2 : tie.Need-cast-result-2
-cast-result-2 c = search needs
-
 mul-result : tie.Need-mul-result
 mul-result c = let s = c .before .before in omega (arith, rated-most (s .args .self) (s .pre .0) (s .args .rated .0) (s .pre .1))
 
@@ -23,4 +17,4 @@ unfolding overSoFar
 returns c = refl
 
 pub over-so-far-spec : {M : Type 1} → statement M
-over-so-far-spec = tie.close (tie.spec cast-result cast-result-2 mul-result mul-result-2 returns)
+over-so-far-spec = tie.close (tie.spec (λ c. search needs) (λ c. search needs) mul-result mul-result-2 returns)

@@ -9,9 +9,6 @@ use Rattle.ramp.proofs.so_far.HourSoFar.taken_so_far.Tie as tie
 mul-result : tie.Need-mul-result
 mul-result c = let s = c .before in omega (arith, errors-most (s .args .self) (s .pre))
 
-cast-result : tie.Need-cast-result
-cast-result c = search needs
-
 mul-result-2 : tie.Need-mul-result-2
 mul-result-2 c = let s = c .before .before in omega (arith, taken-most (s .args .self) (s .pre))
 
@@ -20,4 +17,4 @@ unfolding takenSoFar
 returns c = refl
 
 pub taken-so-far-spec : {M : Type 1} → statement M
-taken-so-far-spec = tie.close (tie.spec mul-result cast-result mul-result-2 returns)
+taken-so-far-spec = tie.close (tie.spec mul-result (λ c. search needs) mul-result-2 returns)

@@ -4,29 +4,17 @@ use borrow.Author.Needs.{needs}
 use Rattle.tables.proofs.roll.Roll.after.Statement.{statement}
 use Rattle.tables.proofs.roll.Roll.after.Tie as tie
 
-is-heading-requires : tie.Need-is-heading-requires
-is-heading-requires c κs = search needs
-
 returns : tie.Need-returns
 returns c = let a = c .before .before .args in by-heading (a .self) (a .grid) (a .ended) (sym (c .before .is-heading .ensures) ∙ c .if1 .taken)
-
-is-blank-requires : tie.Need-is-blank-requires
-is-blank-requires c κs = search needs
 
 returns-2 : tie.Need-returns-2
 returns-2 c = let a = c .before .before .before .before .args in
     by-blank (a .self) (a .grid) (a .ended) (sym (c .before .before .before .is-heading .ensures) ∙ c .before .before .if1 .left) (sym (c .before .is-blank .ensures) ∙ c .if2 .taken)
 
-refuse-requires : tie.Need-refuse-requires
-refuse-requires c κs = search needs
-
 returns-3 : tie.Need-returns-3
 returns-3 c = let a = c .before .before .before .before .before .before .args in
     by-held (a .self) (a .grid) (a .ended) (sym (c .before .before .before .before .before .is-heading .ensures) ∙ c .before .before .before .before .if1 .left)
     (sym (c .before .before .before .is-blank .ensures) ∙ c .before .before .if2 .left) (c .refuse .result) (c .before .if3 .taken) (c .refuse .ensures)
-
-with-requires : tie.Need-with-requires
-with-requires c κs = search needs
 
 returns-4 : tie.Need-returns-4
 returns-4 c = let a = c .before .before .before .before .before .before .args in
@@ -37,11 +25,11 @@ pub after-spec : {M : Type 1} → statement M
 after-spec =
     tie.close
     (tie.spec
-    is-heading-requires
+    (λ c κs. search needs)
     returns
-    is-blank-requires
+    (λ c κs. search needs)
     returns-2
-    refuse-requires
+    (λ c κs. search needs)
     returns-3
-    with-requires
+    (λ c κs. search needs)
     returns-4)

@@ -6,11 +6,8 @@ use borrow.Author.Needs.{needs}
 use Rattle.tables.proofs.roll.Roll.start.Statement.{statement}
 use Rattle.tables.proofs.roll.Roll.start.Tie as tie
 
-blank-entries-requires : tie.Need-blank-entries-requires
-blank-entries-requires c κs = search needs
-
 returns : tie.Need-returns
 returns c = ((λ rows. judged-start registerEntries (c .blank-entries .result) (c .blank-entries .ensures) (map asEntry rows)), refl)
 
 pub start-spec : {M : Type 1} → statement M
-start-spec = tie.close (tie.spec blank-entries-requires returns)
+start-spec = tie.close (tie.spec (λ c κs. search needs) returns)

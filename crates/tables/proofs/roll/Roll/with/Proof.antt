@@ -21,12 +21,6 @@ returns c =
     let a = c .before .args in
     ((λ rows. with-refused registerEntries lawful (rollSoFar (a .self)) (said (a .grid) (a .ended)) (c .if1 .taken) (map asEntry rows)), refl)
 
-entry-in-requires : tie.Need-entry-in-requires
-entry-in-requires c κs = search needs
-
-refuse-requires : tie.Need-refuse-requires
-refuse-requires c κs = search needs
-
 returns-2 : tie.Need-returns-2
 returns-2 c =
     let a = c .before .before .before .before .before .before .args in
@@ -36,9 +30,6 @@ returns-2 c =
       c .refuse .ensures .2,
     )
 
-refuse-requires-2 : tie.Need-refuse-requires-2
-refuse-requires-2 c κs = search needs
-
 returns-3 : tie.Need-returns-3
 returns-3 c =
     let a = c .before .before .before .before .before .before .before .args in (
@@ -46,15 +37,6 @@ returns-3 c =
           (rollSoFar (c .refuse2 .result)) (c .refuse2 .ensures .0, c .refuse2 .ensures .1) (c .before .if3 .taken) (map asEntry rows)),
       c .refuse2 .ensures .2,
     )
-
-mul-entries : tie.Need-mul-entries
-mul-entries c = search needs
-
-array-set-from-entries : tie.Need-array-set-from-entries
-array-set-from-entries c = search needs
-
-add-t8 : tie.Need-add-t8
-add-t8 c = search needs
 
 returns-4 : tie.Need-returns-4
 returns-4 c =
@@ -70,12 +52,12 @@ with-spec =
     tie.close
     (tie.spec
     returns
-    entry-in-requires
-    refuse-requires
+    (λ c κs. search needs)
+    (λ c κs. search needs)
     returns-2
-    refuse-requires-2
+    (λ c κs. search needs)
     returns-3
-    mul-entries
-    array-set-from-entries
-    add-t8
+    (λ c. search needs)
+    (λ c. search needs)
+    (λ c. search needs)
     returns-4)
