@@ -3,13 +3,15 @@ use crate::print;
 use clock::Minutes;
 use clock::length_of;
 use clock::start_of;
+use grid::alone::Told;
+use grid::alone::ToldInteger;
+use grid::alone::integer;
+use grid::alone::number;
 use names::Named;
 use names::is_same;
 use names::kind_of;
 use names::service_of;
 pub use node::first;
-use tables::Told;
-use tables::ToldInteger;
 
 // So many bytes at the start of a lent buffer are what was asked for; or nothing is, and one line has said why.
 pub enum Held {
@@ -90,7 +92,7 @@ pub fn is_none(i: usize) -> bool {
 pub fn number_at(i: usize) -> Told {
     let mut buf = io::buffer();
     let n = os::arg(i, &mut buf);
-    tables::number(&buf[0..n])
+    number(&buf[0..n])
 }
 
 // Argument i, a service by its word or by a number; a kind by its word or by a number.
@@ -135,7 +137,7 @@ fn is_no_day(text: &[u8]) -> bool {
     if mark == text.len() {
         return false;
     }
-    let Told::Number(day) = tables::number(first(text, mark)) else {
+    let Told::Number(day) = number(first(text, mark)) else {
         return false;
     };
     (day == 0) | ((MOST_DAYS as u64) < day)
@@ -222,7 +224,7 @@ pub fn long_at(i: usize) -> Long {
 pub fn integer_at(i: usize) -> Integer {
     let mut buf = io::buffer();
     let n = os::arg(i, &mut buf);
-    if let ToldInteger::Number(number) = tables::integer(&buf[0..n]) {
+    if let ToldInteger::Number(number) = integer(&buf[0..n]) {
         return Integer::Number(number);
     }
     print::bad_argument(i, b"no number between -2147483647 and 2147483647");

@@ -5,5 +5,7 @@ pub mod Rows
 pub mod Steps
 pub mod Runs
 pub mod Ends
+pub mod Numbers
+pub mod Integers
 pub mod Promises
 pub mod Examples

@@ -1,4 +1,5 @@
 // A table's text, as a spreadsheet saves it, read byte after byte in fixed memory: its rows of numbers.
+pub mod alone;
 pub mod cell;
 
 use cell::Cell;

@@ -2,7 +2,7 @@
 use mathlib.Core.List.{List, [], _∷_}
 use Prim.Native.Nat.{ℕ, _/_, _%_}
 use Rattle.row.specs.Numbers.{digitByte}
-use Rattle.tables.specs.Series.{slash, csv}
+use Rattle.row.specs.Files.{slash, csv}
 
 -- the bytes of `-ramping`, and of `.csv` behind them
 abbrev pub rampingCsv : List ℕ

@@ -2,3 +2,4 @@ pub mod Numbers
 pub mod Judging
 pub mod Meaning
 pub mod Inner
+pub mod Files

@@ -1,4 +1,4 @@
--- Texts and what is read of them: a register, a series, a number, and the edges of a line. They show that the definitions are about something. Assumes nothing.
+-- Texts and what is read of them: a register, a series, and the edges of a line. They show that the definitions are about something. Assumes nothing.
 use mathlib.Core.Path.{_≡_, refl}
 use mathlib.Core.Bool.{Bool, true, false, _&&_}
 use mathlib.Core.List.{List, [], _∷_, _++_}
@@ -11,10 +11,8 @@ use Rattle.ceiling.specs.Ceiling.{limitIsSound, limitedIsSound}
 use Rattle.pay.specs.Member.{memberIsSound}
 use Rattle.register.specs.declared.Entry.{Entry}
 use Rattle.tables.specs.declared.roll.Register.{Register}
-use Rattle.tables.specs.declared.Told.the-variants.{Number, Nothing}
 use Rattle.grid.specs.Grid.{rowOf, rowsOf}
 use Rattle.grid.specs.Told.{rowIn, rowsBy}
-use Rattle.tables.specs.Table.{toldOf}
 use Rattle.register.specs.Register.{entryLine, entryLimited, entryIsSound}
 use Rattle.tables.specs.Register.{registerRow, limitTold, asEntry, entriesOf, registerEntries, readRegister}
 use Rattle.tables.specs.Series.{outputOf, seriesOf, filledWith}
@@ -131,22 +129,3 @@ series-read = refl
 pub series-short : filledWith (9 ∷ 9 ∷ []) (seriesOf three) ≡ record { count = 2; values = 12 ∷ 4294967295 ∷ [] }
 unfolding three filledWith seriesOf outputOf rowsOf rowOf numbersIn
 series-short = refl
-
--- Numbers
-
--- "42"; nothing; "1,2"; and a number past every limit.
-pub number-read : toldOf (52 ∷ 50 ∷ []) ≡ Number 42
-unfolding toldOf
-number-read = refl
-
-pub nothing-read : toldOf [] ≡ Nothing
-unfolding toldOf
-nothing-read = refl
-
-pub two-read : toldOf (49 ∷ 44 ∷ 50 ∷ []) ≡ Nothing
-unfolding toldOf
-two-read = refl
-
-pub large-read : toldOf (57 ∷ 57 ∷ 57 ∷ 57 ∷ 57 ∷ 57 ∷ 57 ∷ 57 ∷ 57 ∷ 57 ∷ 57 ∷ 57 ∷ 57 ∷ 57 ∷ []) ≡ Number 1000000000000
-unfolding toldOf
-large-read = refl

@@ -1,5 +1,3 @@
-pub mod Numbers
-pub mod Integers
 pub mod Names
 pub mod Entries
 pub mod Judging

@@ -5,7 +5,8 @@ use Prim.Native.Nat.{ℕ, _<_}
 use native.Mathlib.Omega.{arith}
 use lib.ListN.{length, take, drop}
 use Rattle.row.specs.Numbers.{value}
-use Rattle.tables.specs.Series.{slash, csv, seriesName}
+use Rattle.row.specs.Files.{slash, csv}
+use Rattle.tables.specs.Series.{seriesName}
 
 -- A member has one name of its series.
 pub series-name-determined : (member : ℕ) (a b : List ℕ) → a ≡ seriesName member → b ≡ seriesName member → a ≡ b

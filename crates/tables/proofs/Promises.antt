@@ -23,22 +23,16 @@ use Rattle.ceiling.specs.declared.Limit.{Limit}
 use Rattle.ceiling.specs.Ceiling.{mostLimit, limitIsSound}
 use Rattle.register.specs.declared.Entry.{Entry}
 use Rattle.register.specs.Register.{entryLine, entryIsSound, firstBadEntry}
-use Rattle.tables.specs.declared.Told.{Told}
 use Rattle.tables.specs.declared.roll.Register.{Register}
 use Rattle.grid.specs.Grid.{comma, isBlank, unquoted, cellsOf, rowOf}
 use Rattle.grid.specs.Told.{isDash, told, rowIn}
 use Rattle.grid.proofs.Cells.{told-is, told-none}
-use Rattle.tables.specs.Table.{toldOf}
 use Rattle.tables.specs.Register.{registerRow, limitTold, asEntry, entriesOf, registerEntries, readRegister}
 use Rattle.tables.specs.Series.{Filled, noOutput, outputOf, seriesOf, filledWith}
 use Rattle.register.proofs.Entries.{bad-le}
 use Rattle.tables.proofs.Entries.{bounds, within, sound-is, lawful}
 
 -- Two outcomes that a contract allows are one
-
--- a text tells one number, or none
-pub number-determined : (text : List ℕ) (t u : Told) → t ≡ toldOf text → u ≡ toldOf text → t ≡ u
-number-determined text t u e f = e ∙ sym f
 
 -- a text has one register, or one refusal
 pub register-determined : (text : List ℕ) (r s : Register) → r ≡ readRegister text → s ≡ readRegister text → r ≡ s

@@ -4,6 +4,7 @@ use mathlib.Core.List.{List, [], _∷_, _++_, map}
 use Prim.Native.Nat.{ℕ, min, _/_, _%_}
 use lib.ListN.{length, getD, take, drop}
 use Rattle.row.specs.Numbers.{notEmpty, digitByte}
+use Rattle.row.specs.Files.{slash, csv}
 use Rattle.grid.specs.Grid.{rowsOf}
 
 -- a line is one number
@@ -34,14 +35,6 @@ filledWith before vs =
       count = min (length vs) (length before);
       values = take (length before) vs ++ drop (length vs) before;
     }
-
--- a name in a folder stands behind a slash
-abbrev pub slash : ℕ
-slash = 47
-
--- the bytes of `.csv`
-abbrev pub csv : List ℕ
-csv = 46 ∷ 99 ∷ 115 ∷ 118 ∷ []
 
 -- a member's series in its folder: the tens and the ones of its number, and `.csv`
 unfoldable pub seriesName : ℕ → List ℕ

@@ -10,10 +10,10 @@ use lib.ListN.{length, getD, drop-of-length-le}
 use borrow.Author.Tests.{lt-ltb, eq-eqb, eqb-true, ltb-true}
 use Rattle.le.proofs.Tests.{each, holds-or-fails}
 use Rattle.row.specs.Numbers.{isDigit, digits, notEmpty, isNumber, value, hold}
 use Rattle.grid.specs.declared.cell.Run.{Run}
 use Rattle.grid.specs.Meaning.{RunFrom}
-use Rattle.tables.specs.declared.Told.the-variants.{Number, Nothing}
-use Rattle.tables.specs.Table.{toldOf}
+use Rattle.grid.specs.declared.alone.Told.the-variants.{Number, Nothing}
+use Rattle.grid.specs.Alone.{toldOf}
 
 some : (text : List ℕ) → 0 < length text → notEmpty text ≡ true
 some [] h = absurd (omega arith)

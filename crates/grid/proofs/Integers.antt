@@ -11,12 +11,12 @@ use mir.Syntax.{w32}
 use mir.Val.{toZ, ofZ, SFits}
 use mir.Facts.{toZ-ofZ, toZ-pos}
 use borrow.Author.Tests.{eq-eqb, ne-eqb, lt-ltb, le-ltb}
-use Rattle.tables.specs.declared.Told.{Told}
-use Rattle.tables.specs.declared.Told.the-variants.{Number, Nothing}
-use Rattle.tables.specs.declared.ToldInteger.{ToldInteger}
-use Rattle.tables.specs.declared.ToldInteger.the-variants.{Number as Integer, Nothing as NoInteger}
-use Rattle.tables.specs.Table.{toldOf}
-use Rattle.tables.specs.Integer.{minus, mostInteger, signedAs, withSign, integerOf}
+use Rattle.grid.specs.declared.alone.Told.{Told}
+use Rattle.grid.specs.declared.alone.Told.the-variants.{Number, Nothing}
+use Rattle.grid.specs.declared.alone.ToldInteger.{ToldInteger}
+use Rattle.grid.specs.declared.alone.ToldInteger.the-variants.{Number as Integer, Nothing as NoInteger}
+use Rattle.grid.specs.Alone.{toldOf}
+use Rattle.grid.specs.Integer.{minus, mostInteger, signedAs, withSign, integerOf}
 
 -- The sign
 
@@ -74,7 +74,10 @@ module _ (text : List ℕ) (t : Told) (s : Bool) (r : ToldInteger) (is : r ≡ w
   pub text-above : s ≡ false → (getD text 0 0 ≡ minus → ⊥) → t ≡ toldOf text → r ≡ integerOf text
   text-above g e f = is ∙ rw (f, g) (above-is text some e)
 
--- A text says one number, or none.
+-- A text says one number, or none; with a sign too.
+pub number-determined : (text : List ℕ) (t u : Told) → t ≡ toldOf text → u ≡ toldOf text → t ≡ u
+number-determined text t u e f = e ∙ sym f
+
 pub integer-determined : (text : List ℕ) (t u : ToldInteger) → t ≡ integerOf text → u ≡ integerOf text → t ≡ u
 integer-determined text t u e f = e ∙ sym f
 
@@ -112,3 +115,20 @@ cases =
 pub integers-read : map (λ c. integerOf (c .text)) cases ≡ map (λ c. c .says) cases
 unfolding cases integerOf withSign toldOf
 integers-read = refl
+
+-- "42"; nothing; "1,2"; and a number past every limit.
+pub number-read : toldOf (52 ∷ 50 ∷ []) ≡ Number 42
+unfolding toldOf
+number-read = refl
+
+pub nothing-read : toldOf [] ≡ Nothing
+unfolding toldOf
+nothing-read = refl
+
+pub two-read : toldOf (49 ∷ 44 ∷ 50 ∷ []) ≡ Nothing
+unfolding toldOf
+two-read = refl
+
+pub large-read : toldOf (57 ∷ 57 ∷ 57 ∷ 57 ∷ 57 ∷ 57 ∷ 57 ∷ 57 ∷ 57 ∷ 57 ∷ 57 ∷ 57 ∷ 57 ∷ 57 ∷ []) ≡ Number 1000000000000
+unfolding toldOf
+large-read = refl

@@ -1,13 +1,7 @@
-use Rattle.tables.proofs.Numbers.{number-yes, number-no}
+use Rattle.grid.proofs.Numbers.{number-yes, number-no}
 use borrow.Author.Needs.{needs}
-use Rattle.tables.proofs.number.Statement.{statement}
-use Rattle.tables.proofs.number.Tie as tie
-
-run-from-requires : tie.Need-run-from-requires
-run-from-requires c κs = search needs
-
-hold-requires : tie.Need-hold-requires
-hold-requires c κs = search needs
+use Rattle.grid.proofs.alone.number.Statement.{statement}
+use Rattle.grid.proofs.alone.number.Tie as tie
 
 returns : tie.Need-returns
 returns c =
@@ -18,4 +12,4 @@ returns-2 : tie.Need-returns-2
 returns-2 c = number-no (c .before .before .before .before .before .args .text .now) (c .before .before .before .run-from .result) (c .before .before .before .run-from .ensures) (c .if1 .left)
 
 pub number-spec : {M : Type 1} → statement M
-number-spec = tie.close (tie.spec run-from-requires hold-requires returns returns-2)
+number-spec = tie.close (tie.spec (λ c κs. search needs) (λ c κs. search needs) returns returns-2)

@@ -1,23 +1,14 @@
 use native.Mathlib.Omega.{arith}
-use Rattle.tables.proofs.Integers.{sign-none, sign-large, sign-above, sign-below, less-fits}
+use Rattle.grid.proofs.Integers.{sign-none, sign-large, sign-above, sign-below, less-fits}
 use borrow.Author.Needs.{needs}
-use Rattle.tables.proofs.with_sign.Statement.{statement}
-use Rattle.tables.proofs.with_sign.Tie as tie
-
-enum-known-size : tie.Need-enum-known-size
-enum-known-size c = search needs
-
-enum-told : tie.Need-enum-told
-enum-told c = search needs
+use Rattle.grid.proofs.alone.with_sign.Statement.{statement}
+use Rattle.grid.proofs.alone.with_sign.Tie as tie
 
 returns : tie.Need-returns
 returns c = sign-none _ _ (search needs)
 
 returns-2 : tie.Need-returns-2
 returns-2 c = let n = c .before .before .size .given in sign-large _ _ (n .0 .0) (n .1) (omega arith)
-
-cast-above : tie.Need-cast-above
-cast-above c = search needs
 
 sub-t6 : tie.Need-sub-t6
 sub-t6 c = let n = c .before .before .before .size .given in less-fits (n .0 .0) (omega arith)
@@ -31,4 +22,4 @@ returns-4 c = let n = c .before .before .before .size .given in sign-above _ _ (
 pub with-sign-spec : {M : Type 1} → statement M
 with-sign-spec =
     tie.close
-    (tie.spec enum-known-size enum-told returns returns-2 cast-above sub-t6 returns-3 returns-4)
+    (tie.spec (λ c. search needs) (λ c. search needs) returns returns-2 (λ c. search needs) sub-t6 returns-3 returns-4)

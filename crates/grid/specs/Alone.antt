@@ -3,8 +3,8 @@ use mathlib.Core.Bool.{cond}
 use mathlib.Core.List.{List}
 use Prim.Native.Nat.{ℕ}
 use Rattle.row.specs.Numbers.{isNumber, value, hold}
-use Rattle.tables.specs.declared.Told.{Told}
-use Rattle.tables.specs.declared.Told.the-variants.{Number, Nothing}
+use Rattle.grid.specs.declared.alone.Told.{Told}
+use Rattle.grid.specs.declared.alone.Told.the-variants.{Number, Nothing}
 
 -- what a text says: its decimal number, held; anything else is none
 unfoldable pub toldOf : List ℕ → Told

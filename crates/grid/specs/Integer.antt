@@ -4,11 +4,11 @@ use mathlib.Core.List.{List, [], _∷_}
 use Prim.Native.Nat.{ℕ}
 use lib.Dec.{ltb, eqb}
 use lib.IntN.{ℤ, pos, negℤ}
-use Rattle.tables.specs.declared.Told.{Told}
-use Rattle.tables.specs.declared.Told.the-variants.{Number, Nothing}
-use Rattle.tables.specs.declared.ToldInteger.{ToldInteger}
-use Rattle.tables.specs.declared.ToldInteger.the-variants.{Number as Integer, Nothing as NoInteger}
-use Rattle.tables.specs.Table.{toldOf}
+use Rattle.grid.specs.declared.alone.Told.{Told}
+use Rattle.grid.specs.declared.alone.Told.the-variants.{Number, Nothing}
+use Rattle.grid.specs.declared.alone.ToldInteger.{ToldInteger}
+use Rattle.grid.specs.declared.alone.ToldInteger.the-variants.{Number as Integer, Nothing as NoInteger}
+use Rattle.grid.specs.Alone.{toldOf}
 
 -- the sign of a number below zero
 abbrev pub minus : ℕ
