@@ -29,9 +29,9 @@ use month_files::series::read_member;
 use register::Entry;
 use report::why::explained_text;
 use report::why::part_text;
-use tally::outputs::SERIES_ROOM;
 use tally::outputs::Values;
 use tally::outputs::part;
+use tally::outputs::series_room;
 
 // A call and what it was paid by, on a page.
 fn put_part(page: &mut [u8], at: usize, p: CallPart, book: &[u8]) -> usize {
@@ -106,7 +106,7 @@ fn explain_hours(e: Entry, line: usize, book: &[u8], series: &[u32], hours: Hour
 
 // The member's own series and ramping file, if it has one.
 fn explain_with(e: Entry, line: usize, book: &[u8]) {
-    let mut series = [0u32; SERIES_ROOM];
+    let mut series = series_room();
     let Values::Read(n) = read_member(e.member.number, false, &mut series) else {
         return;
     };

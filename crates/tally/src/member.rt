@@ -1,9 +1,9 @@
 // One member's score.
 use crate::away::tell_away;
-use crate::outputs::SERIES_ROOM;
 use crate::outputs::Values;
 use crate::outputs::part;
 use crate::outputs::read_file;
+use crate::outputs::series_room;
 use crate::wrong::tell_series;
 use clerk::args::Byte;
 use clerk::args::Held;
@@ -53,7 +53,7 @@ pub fn tell(member: Member, r: Score, book: &[u8], series: &[u8], page: &mut [u8
 
 // The member's score over a book and the series in a file.
 fn score_with(member: Member, book: &[u8], path: &[u8]) {
-    let mut series = [0u32; SERIES_ROOM];
+    let mut series = series_room();
     if let Values::Read(n) = read_file(path, &mut series) {
         let r = score::score(member, book, part(&series, 0, n));
         let mut page = io::buffer();

@@ -3,10 +3,10 @@ use crate::member::Given;
 use crate::member::member_given;
 use crate::member::refuse_member;
 use crate::member::tell;
-use crate::outputs::SERIES_ROOM;
 use crate::outputs::Values;
 use crate::outputs::part;
 use crate::outputs::read_file;
+use crate::outputs::series_room;
 use book::header_of;
 use clerk::args::Byte;
 use clerk::args::Held;
@@ -82,7 +82,7 @@ fn tell_day(member: Member, d: DayReckoned, book: &[u8], series: &[u8]) {
 
 // The day and the month over a book and the series in a file.
 fn reckon_with(member: Member, book: &[u8], path: &[u8], day: u8) {
-    let mut series = [0u32; SERIES_ROOM];
+    let mut series = series_room();
     if let Values::Read(n) = read_file(path, &mut series) {
         let d = reckon_day(member, book, part(&series, 0, n), day as u32);
         tell_day(member, d, book, path);

@@ -3,11 +3,19 @@ use clerk::args::Held;
 use clerk::args::first;
 use clerk::shelf::load;
 use tables::series::read_series;
+ghost use mathlib.Core.Path.{_≡_};
 ghost use lib.ListN.{length};
-ghost use Rattle.tally.specs.Room.{ReadsWithin};
+ghost use Rattle.tally.specs.Room.{seriesRoom, ReadsWithin};
 
 // The quarter hours of 31 days, and one place more, so that a series that is too long shows.
 pub const SERIES_ROOM: usize = 31 * 24 * 4 + 1;
+
+// Room for one series. The callers are handed it, since a walk over a function that writes such an array out is dear.
+pub fn series_room() -> [u32; SERIES_ROOM]
+    ensures { λ r. ⌜ seriesRoom ≡ length r ⌝ }
+{
+    [0; SERIES_ROOM]
+}
 
 // So many values were read; or nothing, and one line has said why.
 pub enum Values {
