@@ -22,7 +22,7 @@ use Rattle.score.specs.Scoring.{recordsEarned, inFen, scoring}
 use Rattle.rule.specs.Standing.{sameCall}
 use Rattle.rule.specs.Joined.{joinCalls}
 use Rattle.rule.specs.Whole.{ruleCalls}
-use Rattle.worked.specs.Crowded.{january}
+use Rattle.sums.specs.Crowded.{january}
 
 -- a member, its mean output in the month's first quarter hour, its calls, and the grains and fen that they give;
 -- or books to be joined, and the records of the book that they give

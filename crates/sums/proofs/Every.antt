@@ -17,9 +17,9 @@ use Rattle.pay.specs.Live.{livePay, liveWh}
 use Rattle.score.specs.First.{firstNonzero, anyBelow}
 use Rattle.score.specs.Refusing.{overlaps, isOnce, clashes, clashAt, numberOf, refusalAt}
 use Rattle.score.specs.Scoring.{isOwnLive, payOf, whOf, payAt, whAt, monthGrains, firstRefused, recordsEarned, inFen}
-use Rattle.worked.specs.Worked.{wholeMonth, rowCallAt, sameScore, outputsAreSound, callsAreSound, rowIsSound, rowScore}
-use Rattle.worked.specs.Every.{Row, Scores, outputs, rowCalls, everyServiceAndKind, bothSides, answers, allAnswer, inOrder, AnswersOverBytes}
-use Rattle.worked.proofs.Written.{row-over-bytes}
+use Rattle.sums.specs.Worked.{wholeMonth, rowCallAt, sameScore, outputsAreSound, callsAreSound, rowIsSound, rowScore}
+use Rattle.sums.specs.Every.{Row, Scores, outputs, rowCalls, everyServiceAndKind, bothSides, answers, allAnswer, inOrder, AnswersOverBytes}
+use Rattle.sums.proofs.Written.{row-over-bytes}
 
 pub every-service-and-kind : allAnswer everyServiceAndKind ≡ true
 unfolding

@@ -10,7 +10,7 @@ use Rattle.call.specs.Services.{blackStart, stabilityTrip}
 use Rattle.pay.specs.declared.Member.{Member}
 use Rattle.score.specs.declared.answer.Score.{Score}
 use Rattle.score.specs.Scoring.{recordsEarned, inFen, scoreRefused}
-use Rattle.worked.specs.Worked.{rowMember, rowHydro, rowCall, rowBlackStart, alone, pays, sameScore, rowCallAt}
+use Rattle.sums.specs.Worked.{rowMember, rowHydro, rowCall, rowBlackStart, alone, pays, sameScore, rowCallAt}
 
 -- a month, a member, its calls, and the answer
 pub data MonthRow : Type 0 where

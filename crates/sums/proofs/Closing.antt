@@ -10,8 +10,8 @@ use Rattle.pay.specs.Live.{livePay, liveWh}
 use Rattle.score.specs.First.{firstNonzero, anyBelow}
 use Rattle.score.specs.Refusing.{overlaps, isOnce, clashes, clashAt, numberOf, refusalAt}
 use Rattle.score.specs.Scoring.{isOwnLive, payOf, whOf, payAt, whAt, monthGrains, firstRefused, recordsEarned, inFen}
-use Rattle.worked.specs.Worked.{rowCallAt, sameScore}
-use Rattle.worked.specs.Closing.{closing, monthAnswers}
+use Rattle.sums.specs.Worked.{rowCallAt, sameScore}
+use Rattle.sums.specs.Closing.{closing, monthAnswers}
 
 -- Paid to December 2026, 12 from January 2027 on, to every kind; withdrawn and contested as ever.
 pub closing-rows : monthAnswers closing ≡ true

@@ -21,9 +21,9 @@ use Rattle.rule.specs.Standing.{sameCall, decide, given, standing}
 use Rattle.rule.specs.Keys.{recordOf, also, put, putAll, differentKeys, recordsAt}
 use Rattle.rule.specs.Joined.{joinedAt, joinedFor, joinCalls}
 use Rattle.rule.specs.Whole.{recordsOf, those, all, highest, withdrawnAt, ruling, ruleFor, ruleOver, ruleCalls}
-use Rattle.worked.specs.Worked.{Sum, Scoring, Joining, OverBytes, pays, sums}
-use Rattle.worked.specs.Worked.{wholeMonth, sameScore, sameCalls, rowCallAt, joinInTurn, outputsAreSound, callsAreSound, rowIsSound, rowScore, holds, every}
-use Rattle.worked.proofs.Written.{row-over-bytes}
+use Rattle.sums.specs.Worked.{Sum, Scoring, Joining, OverBytes, pays, sums}
+use Rattle.sums.specs.Worked.{wholeMonth, sameScore, sameCalls, rowCallAt, joinInTurn, outputsAreSound, callsAreSound, rowIsSound, rowScore, holds, every}
+use Rattle.sums.proofs.Written.{row-over-bytes}
 
 pub all-starred : every sums ≡ true
 unfolding

@@ -23,7 +23,7 @@ use Rattle.join.specs.Joining.{joinRefused, keyCount, joining}
 use Rattle.join.specs.Trees.{Plan, books, result, Room, OneMonth, Covers}
 use Rattle.join.proofs.Trees.{book-sound, book-refused}
 use Rattle.join.proofs.Orders.{too-many, never-through}
-use Rattle.worked.specs.Crowded.{january, gone, numbered, manyCalls, lastCall, full, oneMore, crowd, output, two, three}
+use Rattle.sums.specs.Crowded.{january, gone, numbered, manyCalls, lastCall, full, oneMore, crowd, output, two, three}
 
 -- Calls numbered in turn
 

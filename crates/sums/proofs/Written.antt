@@ -27,8 +27,8 @@ use Rattle.score.specs.Scoring.{recordsEarned, inFen, scoring}
 use Rattle.score.specs.Outcomes.{Ready}
 use Rattle.pay.proofs.Within.{line-of}
 use Rattle.score.proofs.Listed.{over-calls}
-use Rattle.worked.specs.Crowded.{january}
-use Rattle.worked.specs.Worked.{wholeMonth, rowCall, rowCallAt, sameScore, outputsAreSound, callsAreSound, rowIsSound, rowScore, rowBook}
+use Rattle.sums.specs.Crowded.{january}
+use Rattle.sums.specs.Worked.{wholeMonth, rowCall, rowCallAt, sameScore, outputsAreSound, callsAreSound, rowIsSound, rowScore, rowBook}
 
 same-score : (r s : Score) → sameScore r s ≡ true → r ≡ s
 unfolding sameScore

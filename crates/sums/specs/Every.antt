@@ -12,7 +12,7 @@ use Rattle.pay.specs.declared.Member.{Member}
 use Rattle.pay.specs.Kinds.{coal, gas, hydro, wind, photovoltaic, solarThermal, pumpedStorage, newStorage}
 use Rattle.score.specs.declared.answer.Score.{Score}
 use Rattle.score.specs.Scoring.{scoreRefused, scoring}
-use Rattle.worked.specs.Worked.{wholeMonth, pays, sameScore, rowIsSound, rowScore, rowBook}
+use Rattle.sums.specs.Worked.{wholeMonth, pays, sameScore, rowIsSound, rowScore, rowBook}
 
 -- a plant; a call to it by service, length, a, b and c, from the month's first midnight on; and the answer
 pub data Row : Type 0 where
