@@ -1,4 +1,4 @@
--- AGC availability by the hundredth (request 4) beside the rule by whole percents that it replaced. Assumes nothing.
+-- AGC availability by the hundredth (request 4) beside the rule by whole percents that it replaced; and whose contribution stays by whole percents. Assumes nothing.
 use mathlib.Core.Path.{_≡_, refl, sym, _∙_, ap}
 use mathlib.Core.Bool.{Bool, true, false, cond}
 use mathlib.Core.List.{List}
@@ -9,15 +9,15 @@ use Rattle.call.specs.declared.Call.{Call}
 use Rattle.call.specs.Services.{agcAvailability}
 use Rattle.pay.specs.declared.Member.{Member}
 use Rattle.pay.specs.Member.{hasAvailability}
-use Rattle.pay.specs.Kinds.{unpaid}
-use Rattle.pay.specs.Rate.{percentsAbove, availabilityRate, rateOf, ratedPay}
+use Rattle.pay.specs.Kinds.{unpaid, wind, photovoltaic}
+use Rattle.pay.specs.Rate.{percentsAbove, availabilityRate, contributionRate, rateOf, ratedPay}
 use Rattle.pay.specs.Live.{livePay}
 use Rattle.pay.proofs.Cases.{live-rest}
 
 -- the paper's rule: a point for each whole percent above 98%
 unfoldable pub availabilityByPercents : ℕ → ℕ → ℕ
 availabilityByPercents kind b =
-    cond (hasAvailability kind) (percentsAbove 9800 b * 600000)
+    cond (hasAvailability kind) ((b - 9800) / 100 * 600000)
     unpaid
 
 rated-6 : (m : Member) (x : Call) → x .service ≡ agcAvailability → ratedPay m x ≡ m .rated .0 * availabilityRate (m .kind) (x .b)
@@ -28,7 +28,7 @@ live-6 : (m : Member) (series : List ℕ) (x : Call) → x .service ≡ agcAvail
 live-6 m series x e = live-rest m series x (λ d. eqb-false 6 1 refl (sym e ∙ d)) (λ d. eqb-false 6 2 refl (sym e ∙ d)) ∙ rated-6 m x e
 
 same-rate : (kind b : ℕ) → b % 100 ≡ 0 → availabilityRate kind b ≡ availabilityByPercents kind b
-unfolding availabilityRate availabilityByPercents percentsAbove
+unfolding availabilityRate availabilityByPercents
 same-rate kind b h = go (hasAvailability kind)
   where
     go : (t : Bool) → cond t ((b - 9800) * 6000) 0 ≡ cond t ((b - 9800) / 100 * 600000) 0
@@ -42,10 +42,15 @@ whole-percents m series x e h = live-6 m series x e ∙ ap (λ (r : ℕ). m .rat
 
 -- Nobody gets less: between whole percents the rate is the old one and what the part of a percent gives, less than a point.
 pub no-less : (kind b : ℕ) → (availabilityByPercents kind b ≤ availabilityRate kind b) × (availabilityRate kind b < availabilityByPercents kind b + 600000)
-unfolding availabilityRate availabilityByPercents percentsAbove
+unfolding availabilityRate availabilityByPercents
 no-less kind b = go (hasAvailability kind)
   where
     go : (t : Bool) → (cond t ((b - 9800) / 100 * 600000) 0 ≤ cond t ((b - 9800) * 6000) 0)
         × (cond t ((b - 9800) * 6000) 0 < cond t ((b - 9800) / 100 * 600000) 0 + 600000)
     go true = (omega arith, omega arith)
     go false = (omega arith, omega arith)
+
+-- WIND AND PHOTOVOLTAIC STAY BY WHOLE PERCENTS: their contribution at a rate is that of the rate's whole percents.
+pub sky-by-percents : (b : ℕ) → (contributionRate wind b ≡ contributionRate wind (b / 100 * 100)) × (contributionRate photovoltaic b ≡ contributionRate photovoltaic (b / 100 * 100))
+unfolding contributionRate percentsAbove
+sky-by-percents b = (omega arith, omega arith)
