@@ -1,0 +1,4 @@
+pub mod Filling
+pub mod Ample
+pub mod Examples
+pub mod Said
