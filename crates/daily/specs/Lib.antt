@@ -1,1 +1,1 @@
-pub mod Daily
+pub mod Forms

@@ -2,4 +2,6 @@
 // answers 0, and leaves the buffer alone, where that is shorter than the most bytes its text may have.
 pub mod away;
 pub mod bad;
+mod forms;
 pub mod other;
+mod why;

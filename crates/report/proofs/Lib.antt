@@ -1,4 +1,3 @@
 pub mod Rows
 pub mod Signs
-pub mod Somes
 pub mod Promises

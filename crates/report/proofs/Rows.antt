@@ -7,11 +7,17 @@ use native.Mathlib.Omega.{arith}
 use lib.ListN.{getD}
 use Rattle.render.specs.Inner.{Puts}
 use Rattle.render.proofs.Placed.{and-then, looser, same-put, none-put}
+use Rattle.form.specs.Form.{isSign, nextMarked, mostShown, mostByte, mostFrom, mostOf}
 use Rattle.month.specs.declared.Row.{Row}
 use Rattle.month.specs.Settling.{blankRow}
 use Rattle.report.specs.declared.totals.Totals.{Totals}
 use Rattle.report.specs.Totals.{withRow, totalsOf}
+use Rattle.report.specs.Forms.{rowForm}
 use Rattle.report.specs.Texts.{mostRow, rowText, rowsText}
+
+pub most-row : mostOf rowForm ≡ mostRow
+unfolding isSign nextMarked mostShown mostByte mostFrom
+most-row = refl
 
 module _ (rows : List Row) where
   pub rows-none : (k : List ℕ) (at : ℕ) → Puts (mostRow * 0) k at (rowsText rows 0) k at

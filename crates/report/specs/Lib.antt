@@ -1,4 +1,3 @@
 pub mod Totals
 pub mod Texts
-pub mod Explained
-pub mod Hours
+pub mod Forms

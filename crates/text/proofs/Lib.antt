@@ -1,5 +1,4 @@
+pub mod Names
 pub mod Statements
-pub mod Records
 pub mod ReadsBack
 pub mod Printed
-pub mod Names

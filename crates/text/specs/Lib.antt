@@ -1,3 +1,3 @@
+pub mod Forms
 pub mod Texts
 pub mod Reading
-pub mod Room

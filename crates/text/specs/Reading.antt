@@ -5,7 +5,10 @@ use Prim.Native.Nat.{ℕ}
 use lib.Dec.{eqb}
 use lib.IntN.{ℤ, pos, negℤ}
 use Rattle.row.specs.Numbers.{linesOf, partsOf, value}
+use mir.Syntax.{w64}
+use mir.Val.{SFits}
 use Rattle.share.specs.declared.Line.{Line}
+use Rattle.share.specs.declared.Shared.{Shared}
 
 abbrev pub blankByte : ℕ
 blankByte = 32
@@ -63,3 +66,20 @@ readNumbers text = readRows (rowsOf text)
 -- number, share and amount of a line
 abbrev pub lineNumbers : Line → List ℤ
 lineNumbers l = pos (l .number) ∷ l .share .0 ∷ l .amount .0 ∷ []
+
+-- A form shows a number with a sign by its 64 bits, so it reads back where the number is one of 64 bits, as every one in the program is.
+
+-- share and amount of a line
+pub record LineFits (l : Line) : Type 0 where
+  pub share : SFits w64 (l .share .0)
+  pub amount : SFits w64 (l .amount .0)
+
+pub data LinesFit : List Line → Type 0 where
+  noLine : LinesFit []
+  oneLine : {l : Line} {ls : List Line} → LineFits l → LinesFit ls → LinesFit (l ∷ ls)
+
+-- R, the user's amount, and those of every line
+pub record StatementFits (s : Shared) : Type 0 where
+  pub gap : SFits w64 (s .gap .0)
+  pub user : SFits w64 (s .user .0)
+  pub lines : LinesFit (s .lines)

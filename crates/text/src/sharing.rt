@@ -1,45 +1,38 @@
 // What `statement` prints: R, the lines and the user's amount, or a refusal.
-use crate::put::put_refusal;
-use crate::put::put_total;
-use crate::put::put_user;
+use crate::forms::REFUSED;
+use crate::forms::TOTAL;
+use crate::forms::USER;
+use form::fen_bits;
+use form::fill;
+use form::say;
 use render::put_decimal;
 use render::put_money;
 use render::put_word;
 use share::Line;
 use share::Shared;
 use share::array::seen;
-use units::SignedFen;
-ghost use mathlib.Core.List.{_++_};
+ghost use mathlib.Core.List.{[], _∷_};
 ghost use Prim.Native.Nat.{_+_, _*_, _≤_};
 ghost use lib.ListN.{length, take};
 ghost use Rattle.io.specs.Counts.{Counts};
 ghost use Rattle.render.specs.Inner.{Puts};
 ghost use Rattle.render.specs.Room.{Renders};
-ghost use Rattle.text.specs.Room.{mostRefused, mostLine, mostStatement};
-ghost use Rattle.text.specs.Texts.{refusedText, totalText, userText, lineText, linesText, statementText};
+ghost use Rattle.form.specs.Form.{filled, mostOf};
+ghost use Rattle.text.specs.Forms.{refusedForm};
+ghost use Rattle.text.specs.Reading.{StatementFits};
+ghost use Rattle.text.specs.Texts.{lineText, linesText, acceptedText, statementText, mostLine, mostStatement};
 
-// The most bytes of a refusal, and of a statement: 27 of R, 63 for each of 64 lines, and 26 of the user's amount.
-pub const MOST_REFUSED: usize = 50;
+// The most bytes of a statement: 27 of R, 63 for each of 64 lines, and 26 of the user's amount.
+const MOST_STATEMENT: usize = 4085;
 
-pub const MOST_STATEMENT: usize = 4085;
-
-fn put_refused(out: &mut [u8], at: usize, number: u32, place: usize) -> usize
-    requires { ⌜ at + mostRefused ≤ length (now out) ⌝ }
-    ensures { λ r. ⌜ Puts mostRefused (now (out .entry)) at (refusedText number place) (now (out .exit)) r ⌝ }
-{
-    let next = put_refusal(out, at, number, place);
-    put_word(out, next, b"\n")
-}
-
+// A line as its form says it, put piece by piece: there are up to 64 of them, and reading the form for each takes twice the instructions.
 fn put_line(out: &mut [u8], at: usize, l: Line) -> usize
     requires { ⌜ at + mostLine ≤ length (now out) ⌝ }
     ensures { λ r. ⌜ Puts mostLine (now (out .entry)) at (lineText l) (now (out .exit)) r ⌝ }
 {
-    let share = l.share;
-    let amount = l.amount;
     let a = put_decimal(out, at, l.number as u64);
-    let b = put_money(out, a, b" ", share);
-    let c = put_money(out, b, b" ", amount);
+    let b = put_money(out, a, b" ", l.share);
+    let c = put_money(out, b, b" ", l.amount);
     put_word(out, c, b"\n")
 }
 
@@ -60,45 +53,37 @@ fn put_lines(out: &mut [u8], at: usize, lines: [Line; 64], count: usize) -> usiz
 }
 
 // R, the first `count` lines, and the user's amount.
-fn put_statement(
-    out: &mut [u8],
-    gap: SignedFen,
-    lines: [Line; 64],
-    count: usize,
-    user: SignedFen,
-) -> usize
+fn put_accepted(out: &mut [u8], s: Shared, count: usize) -> usize
     requires { ⌜ mostStatement ≤ length (now out) ⌝ }
-    ensures { λ r. ⌜ Puts mostStatement (now (out .entry)) 0 (totalText (gap .0) ++ linesText (take count lines) ++ userText (user .0)) (now (out .exit)) r ⌝ }
+    ensures { λ r. ⌜ Puts mostStatement (now (out .entry)) 0 (acceptedText s count) (now (out .exit)) r ⌝ }
 {
-    let a = put_total(out, 0, gap);
+    let gap = fen_bits(s.gap);
+    let user = fen_bits(s.user);
+    let lines = s.lines;
+    let a = fill(out, 0, &TOTAL, &[gap]);
     let b = put_lines(out, a, lines, seen(count));
-    put_user(out, b, user)
+    fill(out, b, &USER, &[user])
 }
 
-// What sharing says of the first `count` lines.
+// What sharing says of the first `count` lines. Its numbers fit their bits, so that the text reads back.
 pub fn statement_text(s: Shared, count: usize, out: &mut [u8]) -> usize
     ensures { λ r. ⌜ Renders mostStatement (statementText s count) (now (out .entry)) (now (out .exit)) r ⌝ }
     ensures { λ r. ⌜ Counts r (now (out .exit)) ⌝ }
+    ensures { λ r. ⌜ StatementFits s ⌝ }
 {
     if out.len() < MOST_STATEMENT {
         return 0;
     }
     if s.number == 0 {
-        let gap = s.gap;
-        let lines = s.lines;
-        let user = s.user;
-        return put_statement(out, gap, lines, count, user);
+        return put_accepted(out, s, count);
     }
-    put_refused(out, 0, s.number, s.place)
+    fill(out, 0, &REFUSED, &[s.number as u64, s.place as u64])
 }
 
 // A refusal's number and place.
 pub fn refused_text(number: u32, place: usize, out: &mut [u8]) -> usize
-    ensures { λ r. ⌜ Renders mostRefused (refusedText number place) (now (out .entry)) (now (out .exit)) r ⌝ }
+    ensures { λ r. ⌜ Renders (mostOf refusedForm) (filled refusedForm (number ∷ place ∷ [])) (now (out .entry)) (now (out .exit)) r ⌝ }
     ensures { λ r. ⌜ Counts r (now (out .exit)) ⌝ }
 {
-    if out.len() < MOST_REFUSED {
-        return 0;
-    }
-    put_refused(out, 0, number, place)
+    say(&REFUSED, &[number as u64, place as u64], out)
 }

@@ -1,36 +1,27 @@
 // A refusal and what it is about; what failed, and why; an argument that is not taken; a remark; how a command is called; that nothing was changed.
-use crate::put::put_refusal;
-use render::put_field;
-use render::put_word;
+use crate::forms::BAD_ARGUMENT;
+use crate::forms::FAILED;
+use crate::forms::NO_NUMBER;
+use crate::forms::NOT_HIGHER;
+use crate::forms::NOTE;
+use crate::forms::REFUSED_ABOUT;
+use crate::forms::TAKES;
+use crate::forms::UNCHANGED;
+use crate::forms::USAGE;
+use form::flag;
+use form::say;
+use form::say_with;
+ghost use mathlib.Core.List.{[], _∷_};
 ghost use mathlib.Core.Path.{_≡_};
 ghost use Prim.Native.Nat.{_+_, _≤_};
 ghost use lib.ListN.{length};
 ghost use Rattle.io.specs.Counts.{Counts};
 ghost use Rattle.render.specs.Inner.{Puts};
 ghost use Rattle.render.specs.Room.{Renders};
-ghost use Rattle.text.specs.Room.{mostRefusedAbout, mostFailed, mostArgument, mostBadArgument, mostNoNumber, mostNote, mostLed, mostUsage, mostUnchanged, mostNotHigher};
-ghost use Rattle.text.specs.Room.{mostWords, mostUpto, mostLeast, mostTakes};
-ghost use Rattle.text.specs.Texts.{shownByte, shownName, whatText, refusedAboutText, failedText, argumentText};
-ghost use Rattle.text.specs.Texts.{badArgumentText, noNumberText, wordsText, uptoText, leastText, takesText, noteText, ledText, usageText, unchangedText, notHigherText};
-
-// The most bytes of each, besides those of what is named.
-pub const MOST_REFUSED_ABOUT: usize = 51;
-
-pub const MOST_FAILED: usize = 10;
-
-pub const MOST_BAD_ARGUMENT: usize = 41;
-
-pub const MOST_NO_NUMBER: usize = 77;
-
-pub const MOST_TAKES: usize = 104;
-
-pub const MOST_NOTE: usize = 3;
-
-pub const MOST_USAGE: usize = 6;
-
-pub const MOST_UNCHANGED: usize = 11;
-
-pub const MOST_NOT_HIGHER: usize = 82;
+ghost use Rattle.form.specs.Form.{filled, filledWith, mostOf, mostWith};
+ghost use Rattle.text.specs.Forms.{refusedAboutForm, failedForm, badArgumentForm, noNumberForm, takesForm, takesValues, noteForm};
+ghost use Rattle.text.specs.Forms.{usageForm, unchangedForm, notHigherForm};
+ghost use Rattle.text.specs.Texts.{shownByte, shownName};
 
 // A byte of a name as it is printed: a control character as `?`.
 fn shown_byte(b: u8) -> u8
@@ -68,176 +59,46 @@ pub fn shown_text(name: &[u8], out: &mut [u8]) -> usize
     put_shown(out, name)
 }
 
-fn put_refused_about(out: &mut [u8], number: u32, place: usize, what: &[u8]) -> usize
-    requires { ⌜ mostRefusedAbout (now what) ≤ length (now out) ⌝ }
-    ensures { λ r. ⌜ Puts (mostRefusedAbout (now (what .entry))) (now (out .entry)) 0 (refusedAboutText number place (now (what .entry))) (now (out .exit)) r ⌝ }
-{
-    let a = put_refusal(out, 0, number, place);
-    let b = put_word(out, a, b" ");
-    let c = put_word(out, b, what);
-    put_word(out, c, b"\n")
-}
-
 // A refusal, and what it is about.
 pub fn refused_about_text(number: u32, place: usize, what: &[u8], out: &mut [u8]) -> usize
-    ensures { λ r. ⌜ Renders (mostRefusedAbout (now (what .entry))) (refusedAboutText number place (now (what .entry))) (now (out .entry)) (now (out .exit)) r ⌝ }
+    ensures { λ r. ⌜ Renders (mostWith refusedAboutForm (length (now (what .entry))) 0) (filledWith refusedAboutForm (now (what .entry)) [] (number ∷ place ∷ []))
+        (now (out .entry)) (now (out .exit)) r ⌝ }
     ensures { λ r. ⌜ Counts r (now (out .exit)) ⌝ }
 {
-    if out.len() < MOST_REFUSED_ABOUT {
-        return 0;
-    }
-    if out.len() - MOST_REFUSED_ABOUT < what.len() {
-        return 0;
-    }
-    put_refused_about(out, number, place, what)
-}
-
-fn put_what(out: &mut [u8], at: usize, what: &[u8]) -> usize
-    requires { ⌜ at + length (now what) + 2 ≤ length (now out) ⌝ }
-    ensures { λ r. ⌜ Puts (length (now (what .entry)) + 2) (now (out .entry)) at (whatText (now (what .entry))) (now (out .exit)) r ⌝ }
-{
-    if what.len() == 0 {
-        return at;
-    }
-    let next = put_word(out, at, what);
-    put_word(out, next, b": ")
-}
-
-fn put_failed(out: &mut [u8], what: &[u8], why: &[u8]) -> usize
-    requires { ⌜ mostFailed (now what) (now why) ≤ length (now out) ⌝ }
-    ensures { λ r. ⌜ Puts (mostFailed (now (what .entry)) (now (why .entry))) (now (out .entry)) 0 (failedText (now (what .entry)) (now (why .entry))) (now (out .exit)) r ⌝ }
-{
-    let a = put_word(out, 0, b"failed ");
-    let b = put_what(out, a, what);
-    let c = put_word(out, b, why);
-    put_word(out, c, b"\n")
+    say_with(
+        &REFUSED_ABOUT,
+        &[number as u64, place as u64],
+        what,
+        b"",
+        out,
+    )
 }
 
 // What failed, and why.
 pub fn failed_text(what: &[u8], why: &[u8], out: &mut [u8]) -> usize
-    ensures { λ r. ⌜ Renders (mostFailed (now (what .entry)) (now (why .entry))) (failedText (now (what .entry)) (now (why .entry))) (now (out .entry)) (now (out .exit)) r ⌝ }
+    ensures { λ r. ⌜ Renders (mostWith failedForm (length (now (what .entry))) (length (now (why .entry))))
+        (filledWith failedForm (now (what .entry)) (now (why .entry)) (length (now (what .entry)) ∷ [])) (now (out .entry)) (now (out .exit)) r ⌝ }
     ensures { λ r. ⌜ Counts r (now (out .exit)) ⌝ }
 {
-    if out.len() < MOST_FAILED {
-        return 0;
-    }
-    if out.len() - MOST_FAILED < what.len() {
-        return 0;
-    }
-    if out.len() - MOST_FAILED - what.len() < why.len() {
-        return 0;
-    }
-    put_failed(out, what, why)
-}
-
-fn put_argument(out: &mut [u8], i: usize, name: &[u8]) -> usize
-    requires { ⌜ mostArgument (now name) ≤ length (now out) ⌝ }
-    ensures { λ r. ⌜ Puts (mostArgument (now (name .entry))) (now (out .entry)) 0 (argumentText i (now (name .entry))) (now (out .exit)) r ⌝ }
-{
-    let a = put_field(out, 0, b"failed argument ", i as u64);
-    let b = put_word(out, a, b", ");
-    put_word(out, b, name)
-}
-
-fn put_bad_argument(out: &mut [u8], i: usize, name: &[u8], why: &[u8]) -> usize
-    requires { ⌜ mostBadArgument (now name) (now why) ≤ length (now out) ⌝ }
-    ensures { λ r. ⌜ Puts (mostBadArgument (now (name .entry)) (now (why .entry))) (now (out .entry)) 0 (badArgumentText i (now (name .entry)) (now (why .entry))) (now (out .exit)) r ⌝ }
-{
-    let a = put_argument(out, i, name);
-    let b = put_word(out, a, b": ");
-    let c = put_word(out, b, why);
-    put_word(out, c, b"\n")
+    say_with(&FAILED, &[what.len() as u64], what, why, out)
 }
 
 // An argument that is not taken, by its name, and why.
 pub fn bad_argument_text(i: usize, name: &[u8], why: &[u8], out: &mut [u8]) -> usize
-    ensures { λ r. ⌜ Renders (mostBadArgument (now (name .entry)) (now (why .entry))) (badArgumentText i (now (name .entry)) (now (why .entry))) (now (out .entry)) (now (out .exit)) r ⌝ }
+    ensures { λ r. ⌜ Renders (mostWith badArgumentForm (length (now (name .entry))) (length (now (why .entry))))
+        (filledWith badArgumentForm (now (name .entry)) (now (why .entry)) (i ∷ [])) (now (out .entry)) (now (out .exit)) r ⌝ }
     ensures { λ r. ⌜ Counts r (now (out .exit)) ⌝ }
 {
-    if out.len() < MOST_BAD_ARGUMENT {
-        return 0;
-    }
-    if out.len() - MOST_BAD_ARGUMENT < name.len() {
-        return 0;
-    }
-    if out.len() - MOST_BAD_ARGUMENT - name.len() < why.len() {
-        return 0;
-    }
-    put_bad_argument(out, i, name, why)
-}
-
-fn put_no_number(out: &mut [u8], i: usize, name: &[u8], most: u64) -> usize
-    requires { ⌜ mostNoNumber (now name) ≤ length (now out) ⌝ }
-    ensures { λ r. ⌜ Puts (mostNoNumber (now (name .entry))) (now (out .entry)) 0 (noNumberText i (now (name .entry)) most) (now (out .exit)) r ⌝ }
-{
-    let a = put_argument(out, i, name);
-    let b = put_field(out, a, b": no number up to ", most);
-    put_word(out, b, b"\n")
+    say_with(&BAD_ARGUMENT, &[i as u64], name, why, out)
 }
 
 // An argument that is no number, or one too large.
 pub fn no_number_text(i: usize, name: &[u8], most: u64, out: &mut [u8]) -> usize
-    ensures { λ r. ⌜ Renders (mostNoNumber (now (name .entry))) (noNumberText i (now (name .entry)) most) (now (out .entry)) (now (out .exit)) r ⌝ }
+    ensures { λ r. ⌜ Renders (mostWith noNumberForm (length (now (name .entry))) 0) (filledWith noNumberForm (now (name .entry)) [] (i ∷ most ∷ []))
+        (now (out .entry)) (now (out .exit)) r ⌝ }
     ensures { λ r. ⌜ Counts r (now (out .exit)) ⌝ }
 {
-    if out.len() < MOST_NO_NUMBER {
-        return 0;
-    }
-    if out.len() - MOST_NO_NUMBER < name.len() {
-        return 0;
-    }
-    put_no_number(out, i, name, most)
-}
-
-fn put_words(out: &mut [u8], at: usize, n: usize) -> usize
-    requires { ⌜ at + mostWords ≤ length (now out) ⌝ }
-    ensures { λ r. ⌜ Puts mostWords (now (out .entry)) at (wordsText n) (now (out .exit)) r ⌝ }
-{
-    if n == 1 {
-        return put_word(out, at, b" word");
-    }
-    put_word(out, at, b" words")
-}
-
-fn put_upto(out: &mut [u8], at: usize, more: bool, least: usize, most: usize) -> usize
-    requires { ⌜ at + mostUpto ≤ length (now out) ⌝ }
-    ensures { λ r. ⌜ Puts mostUpto (now (out .entry)) at (uptoText more least most) (now (out .exit)) r ⌝ }
-{
-    if more {
-        let a = put_words(out, at, least);
-        return put_word(out, a, b" or more");
-    }
-    if least == most {
-        return put_words(out, at, least);
-    }
-    let b = put_field(out, at, b" to ", most as u64);
-    put_word(out, b, b" words")
-}
-
-fn put_least(out: &mut [u8], name: &[u8], least: usize) -> usize
-    requires { ⌜ mostLeast (now name) ≤ length (now out) ⌝ }
-    ensures { λ r. ⌜ Puts (mostLeast (now (name .entry))) (now (out .entry)) 0 (leastText (now (name .entry)) least) (now (out .exit)) r ⌝ }
-{
-    let a = put_word(out, 0, b"failed ");
-    let b = put_word(out, a, name);
-    put_field(out, b, b": takes ", least as u64)
-}
-
-fn put_takes(
-    out: &mut [u8],
-    name: &[u8],
-    more: bool,
-    least: usize,
-    most: usize,
-    given: usize,
-) -> usize
-    requires { ⌜ mostTakes (now name) ≤ length (now out) ⌝ }
-    ensures { λ r. ⌜ Puts (mostTakes (now (name .entry))) (now (out .entry)) 0 (takesText (now (name .entry)) more least most given) (now (out .exit)) r ⌝ }
-{
-    let a = put_least(out, name, least);
-    let b = put_upto(out, a, more, least, most);
-    let c = put_field(out, b, b" behind it, ", given as u64);
-    put_word(out, c, b" given\n")
+    say_with(&NO_NUMBER, &[i as u64, most], name, b"", out)
 }
 
 // A command that is given more or fewer words than it takes: so many, from so many on, or from so many to so many.
@@ -249,99 +110,60 @@ pub fn takes_text(
     given: usize,
     out: &mut [u8],
 ) -> usize
-    ensures { λ r. ⌜ Renders (mostTakes (now (name .entry))) (takesText (now (name .entry)) more least most given) (now (out .entry)) (now (out .exit)) r ⌝ }
+    ensures { λ r. ⌜ Renders (mostWith takesForm (length (now (name .entry))) 0) (filledWith takesForm (now (name .entry)) [] (takesValues more least most given))
+        (now (out .entry)) (now (out .exit)) r ⌝ }
     ensures { λ r. ⌜ Counts r (now (out .exit)) ⌝ }
 {
-    if out.len() < MOST_TAKES {
-        return 0;
-    }
-    if out.len() - MOST_TAKES < name.len() {
-        return 0;
-    }
-    put_takes(out, name, more, least, most, given)
-}
-
-fn put_note(out: &mut [u8], what: &[u8], why: &[u8]) -> usize
-    requires { ⌜ mostNote (now what) (now why) ≤ length (now out) ⌝ }
-    ensures { λ r. ⌜ Puts (mostNote (now (what .entry)) (now (why .entry))) (now (out .entry)) 0 (noteText (now (what .entry)) (now (why .entry))) (now (out .exit)) r ⌝ }
-{
-    let a = put_word(out, 0, what);
-    let b = put_word(out, a, b": ");
-    let c = put_word(out, b, why);
-    put_word(out, c, b"\n")
+    let range = flag(!more & (least != most));
+    let several = flag(!more & (least != most) | (least != 1));
+    let more = flag(more);
+    say_with(
+        &TAKES,
+        &[
+            least as u64,
+            range,
+            most as u64,
+            several,
+            more,
+            given as u64,
+        ],
+        name,
+        b"",
+        out,
+    )
 }
 
 // A remark, and what it is about.
 pub fn note_text(what: &[u8], why: &[u8], out: &mut [u8]) -> usize
-    ensures { λ r. ⌜ Renders (mostNote (now (what .entry)) (now (why .entry))) (noteText (now (what .entry)) (now (why .entry))) (now (out .entry)) (now (out .exit)) r ⌝ }
+    ensures { λ r. ⌜ Renders (mostWith noteForm (length (now (what .entry))) (length (now (why .entry))))
+        (filledWith noteForm (now (what .entry)) (now (why .entry)) []) (now (out .entry)) (now (out .exit)) r ⌝ }
     ensures { λ r. ⌜ Counts r (now (out .exit)) ⌝ }
 {
-    if out.len() < MOST_NOTE {
-        return 0;
-    }
-    if out.len() - MOST_NOTE < what.len() {
-        return 0;
-    }
-    if out.len() - MOST_NOTE - what.len() < why.len() {
-        return 0;
-    }
-    put_note(out, what, why)
-}
-
-// A word, a line behind it, and the line's end.
-fn put_led(out: &mut [u8], lead: &[u8], line: &[u8]) -> usize
-    requires { ⌜ mostLed (now lead) (now line) ≤ length (now out) ⌝ }
-    ensures { λ r. ⌜ Puts (mostLed (now (lead .entry)) (now (line .entry))) (now (out .entry)) 0 (ledText (now (lead .entry)) (now (line .entry))) (now (out .exit)) r ⌝ }
-{
-    let a = put_word(out, 0, lead);
-    let b = put_word(out, a, line);
-    put_word(out, b, b"\n")
+    say_with(&NOTE, &[], what, why, out)
 }
 
 // How a command is called.
 pub fn usage_text(line: &[u8], out: &mut [u8]) -> usize
-    ensures { λ r. ⌜ Renders (mostUsage (now (line .entry))) (usageText (now (line .entry))) (now (out .entry)) (now (out .exit)) r ⌝ }
+    ensures { λ r. ⌜ Renders (mostWith usageForm (length (now (line .entry))) 0) (filledWith usageForm (now (line .entry)) [] [])
+        (now (out .entry)) (now (out .exit)) r ⌝ }
     ensures { λ r. ⌜ Counts r (now (out .exit)) ⌝ }
 {
-    if out.len() < MOST_USAGE {
-        return 0;
-    }
-    if out.len() - MOST_USAGE < line.len() {
-        return 0;
-    }
-    put_led(out, b"desk ", line)
+    say_with(&USAGE, &[], line, b"", out)
 }
 
 // That nothing was changed, and why.
 pub fn unchanged_text(why: &[u8], out: &mut [u8]) -> usize
-    ensures { λ r. ⌜ Renders (mostUnchanged (now (why .entry))) (unchangedText (now (why .entry))) (now (out .entry)) (now (out .exit)) r ⌝ }
+    ensures { λ r. ⌜ Renders (mostWith unchangedForm (length (now (why .entry))) 0) (filledWith unchangedForm (now (why .entry)) [] [])
+        (now (out .entry)) (now (out .exit)) r ⌝ }
     ensures { λ r. ⌜ Counts r (now (out .exit)) ⌝ }
 {
-    if out.len() < MOST_UNCHANGED {
-        return 0;
-    }
-    if out.len() - MOST_UNCHANGED < why.len() {
-        return 0;
-    }
-    put_led(out, b"unchanged ", why)
-}
-
-fn put_not_higher(out: &mut [u8], stands: u64, least: u64) -> usize
-    requires { ⌜ mostNotHigher ≤ length (now out) ⌝ }
-    ensures { λ r. ⌜ Puts mostNotHigher (now (out .entry)) 0 (notHigherText stands least) (now (out .exit)) r ⌝ }
-{
-    let a = put_field(out, 0, b"unchanged revision ", stands);
-    let b = put_field(out, a, b" stands, give ", least);
-    put_word(out, b, b" or more\n")
+    say_with(&UNCHANGED, &[], why, b"", out)
 }
 
 // That nothing was changed, since a revision stands that is as high: the least that would do.
 pub fn not_higher_text(stands: u32, out: &mut [u8]) -> usize
-    ensures { λ r. ⌜ Renders mostNotHigher (notHigherText stands (stands + 1)) (now (out .entry)) (now (out .exit)) r ⌝ }
+    ensures { λ r. ⌜ Renders (mostOf notHigherForm) (filled notHigherForm (stands ∷ (stands + 1) ∷ [])) (now (out .entry)) (now (out .exit)) r ⌝ }
     ensures { λ r. ⌜ Counts r (now (out .exit)) ⌝ }
 {
-    if out.len() < MOST_NOT_HIGHER {
-        return 0;
-    }
-    put_not_higher(out, stands as u64, stands as u64 + 1)
+    say(&NOT_HIGHER, &[stands as u64, stands as u64 + 1], out)
 }

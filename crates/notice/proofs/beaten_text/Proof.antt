@@ -1,40 +1,20 @@
-use native.Mathlib.Omega.{arith}
-use Rattle.notice.specs.Texts.{mostBeaten}
-use Rattle.render.proofs.Placed.{no-room, rendered}
 use borrow.Author.Needs.{needs}
 use Rattle.notice.proofs.beaten_text.Statement.{statement}
 use Rattle.notice.proofs.beaten_text.Tie as tie
 
 returns : tie.Need-returns
 returns c =
-    let a = c .before .before .before .before .args in
-    no-room (mostBeaten (a .holder .now) (a .file .now)) _ (a .out .now) (omega arith)
-
-returns-2 : tie.Need-returns-2
-returns-2 c =
-    let a = c .before .before .before .before .before .args in
-    no-room (mostBeaten (a .holder .now) (a .file .now)) _ (a .out .now) (omega arith)
-
-returns-3 : tie.Need-returns-3
-returns-3 c =
-    let a = c .before .before .before .before .before .before .args in
-    no-room (mostBeaten (a .holder .now) (a .file .now)) _ (a .out .now) (omega arith)
-
-returns-4 : tie.Need-returns-4
-returns-4 c =
-    let a = c .before .before .before .before .before .before .before .before .before .before .args in
-    rendered (mostBeaten (a .holder .now) (a .file .now)) (omega arith) (c .before .before .put-beaten .ensures)
+    rw (c .before .before .before .before .before .before .before .flag .ensures, c .before .before .before .before .before .before .flag2 .ensures)
+    at (c .before .before .say-with .ensures)
 
 pub beaten-text-spec : {M : Type 1} → statement M
 beaten-text-spec =
     tie.close
     (tie.spec
-    returns
-    (λ c. search needs)
-    returns-2
-    (λ c. search needs)
-    (λ c. search needs)
-    returns-3
+    (λ c κs. search needs)
     (λ c κs. search needs)
     (λ c. search needs)
-    returns-4)
+    (λ c. search needs)
+    (λ c κs. search needs)
+    (λ c. search needs)
+    returns)

@@ -1,14 +1,20 @@
-use Rattle.render.proofs.Placed.{no-room, rendered}
-use Rattle.remark.specs.Remarks.{mostNotOpen}
+use Rattle.remark.specs.Forms.{notOpenForm}
+use Rattle.remark.proofs.Cases.{same-said}
+use mathlib.Core.Path.{refl}
 use borrow.Author.Needs.{needs}
 use Rattle.remark.proofs.away.not_open_text.Statement.{statement}
 use Rattle.remark.proofs.away.not_open_text.Tie as tie
 
 returns : tie.Need-returns
-returns c = no-room mostNotOpen _ (c .before .before .args .out .now) (c .if1 .taken)
-
-returns-2 : tie.Need-returns-2
-returns-2 c = rendered mostNotOpen (c .before .before .before .before .if1 .left) (c .before .before .put-not-open .ensures)
+returns c = same-said notOpenForm refl (c .before .before .before .before .before .before .not-open-values .ensures) (c .before .before .say .ensures)
 
 pub not-open-text-spec : {M : Type 1} → statement M
-not-open-text-spec = tie.close (tie.spec returns (λ c κs. search needs) (λ c. search needs) returns-2)
+not-open-text-spec =
+    tie.close
+    (tie.spec
+    (λ c κs. search needs)
+    (λ c. search needs)
+    (λ c. search needs)
+    (λ c κs. search needs)
+    (λ c. search needs)
+    returns)

@@ -1,14 +1,19 @@
-use Rattle.report.specs.Explained.{mostExplained}
-use Rattle.render.proofs.Placed.{no-room, rendered}
 use borrow.Author.Needs.{needs}
 use Rattle.report.proofs.why.explained_text.Statement.{statement}
 use Rattle.report.proofs.why.explained_text.Tie as tie
 
 returns : tie.Need-returns
-returns c = no-room mostExplained _ (c .before .before .args .out .now) (c .if1 .taken)
-
-returns-2 : tie.Need-returns-2
-returns-2 c = rendered mostExplained (c .before .before .before .before .if1 .left) (c .before .before .put-explained .ensures)
+returns c =
+    rw (c .before .before .before .before .before .before .before .wh-bits .ensures, c .before .before .before .before .before .before .to-fen .ensures) at (c .before .before .say .ensures)
 
 pub explained-text-spec : {M : Type 1} → statement M
-explained-text-spec = tie.close (tie.spec returns (λ c κs. search needs) (λ c. search needs) returns-2)
+explained-text-spec =
+    tie.close
+    (tie.spec
+    (λ c κs. search needs)
+    (λ c κs. search needs)
+    (λ c. search needs)
+    (λ c. search needs)
+    (λ c κs. search needs)
+    (λ c. search needs)
+    returns)

@@ -1,14 +1,9 @@
-use Rattle.report.specs.Explained.{mostPart}
-use Rattle.render.proofs.Placed.{no-room, rendered}
 use borrow.Author.Needs.{needs}
 use Rattle.report.proofs.why.part_text.Statement.{statement}
 use Rattle.report.proofs.why.part_text.Tie as tie
 
 returns : tie.Need-returns
-returns c = no-room mostPart _ (c .before .before .args .out .now) (c .if1 .taken)
-
-returns-2 : tie.Need-returns-2
-returns-2 c = rendered mostPart (c .before .before .before .before .if1 .left) (c .before .before .put-part .ensures)
+returns c = rw (c .before .before .before .before .before .before .wh-bits .ensures) at (c .before .before .say .ensures)
 
 pub part-text-spec : {M : Type 1} → statement M
-part-text-spec = tie.close (tie.spec returns (λ c κs. search needs) (λ c. search needs) returns-2)
+part-text-spec = tie.close (tie.spec (λ c κs. search needs) (λ c. search needs) (λ c. search needs) (λ c κs. search needs) (λ c. search needs) returns)

@@ -4,7 +4,7 @@ use native.Mathlib.Omega.{arith}
 use lib.ListN.{length, take}
 use Rattle.share.specs.Forms.{blankLine}
 use Rattle.render.specs.Inner.{Puts}
-use Rattle.text.specs.Texts.{linesText}
+use Rattle.text.specs.Texts.{linesText, mostLine}
 use Rattle.render.proofs.Placed.{looser}
 use Rattle.text.proofs.Statements.{lines-none, lines-more}
 use borrow.Author.Needs.{needs}
@@ -13,7 +13,7 @@ use Rattle.text.proofs.sharing.put_lines.Tie as tie
 
 abbrev Inv-loop : tie.InvT-loop
 Inv-loop out₀ at count lines next₀ i₀ out next i =
-    (i ≤ count) × (length out ≡ length out₀) × Puts (63 * i) out₀ at (linesText (take i lines)) out next
+    (i ≤ count) × (length out ≡ length out₀) × Puts (mostLine * i) out₀ at (linesText (take i lines)) out next
 
 abbrev μ-loop : tie.MeasureT-loop
 μ-loop out₀ at count lines next₀ i₀ out next i = count - i
@@ -40,7 +40,7 @@ returns : tie.Need-returns Inv-loop μ-loop
 returns c =
     let l = c .before .loop in
     let e : l .i ≡ c .before .before .before .args .count = omega arith in
-    looser 4032 (omega arith) (rw e at (l .inv .2))
+    looser (64 * mostLine) (omega arith) (rw e at (l .inv .2))
 
 pub put-lines-spec : {M : Type 1} → statement M
 put-lines-spec =
