@@ -1,18 +1,19 @@
 -- What the year's table promises: the sum of all amounts below it is nothing. Assumes nothing.
 use mathlib.Core.Path.{_≡_, refl, sym, ap, ap₂, _∙_}
 use mathlib.Core.List.{List, [], _∷_, _++_, map}
-use Prim.Native.Nat.{ℕ, zero, suc, _+_, _≤_, _<_, min}
+use Prim.Native.Nat.{ℕ, zero, suc, _+_, _-_, _≤_, _<_, min}
 use native.Mathlib.Nat.{add-zero}
 use native.Mathlib.Decide.{decLt}
 use native.Mathlib.Omega.{arith}
 use lib.IntN.{ℤ, pos, _+ℤ_, _-ℤ_, +ℤ-comm}
 use lib.ListN.{length, getD, take, length-replicate}
 use lib.Seq.{take-suc, take-all}
-use Rattle.render.specs.Decimal.{word}
+use Rattle.render.specs.Decimal.{word, decimalIn, decimal}
+use Rattle.render.specs.Yuan.{twoPlaces, yuan}
+use Rattle.form.specs.Form.{bits, shown, isNumber, isSign, byteText, nextOn, nextMarked, takenBy, filledFrom, filled}
 use Rattle.report.specs.declared.totals.Totals.{Totals}
-use Rattle.report.specs.Totals.{fenPlus, dueOf, owedOf, withUser}
-use Rattle.report.specs.Texts.{balanceText}
-use Rattle.report.proofs.Promises.{top, held, one-more, level, even}
+use Rattle.report.specs.Totals.{fenPlus, dueOf, owedOf, apart, withUser}
+use Rattle.report.proofs.Promises.{top, held, one-more, level, none-short, none-apart}
 use Rattle.year.specs.declared.MonthStatement.{MonthStatement}
 use Rattle.year.specs.declared.MemberYear.{MemberYear}
 use Rattle.year.specs.declared.Year.{Year}
@@ -20,6 +21,8 @@ use Rattle.year.specs.Year.{mostMembers, sumℤ, firstBadStatement, noMonths, m
 use Rattle.year.proofs.Taking.{bad-le, refused-is, taken-is}
 use Rattle.year.proofs.Zero.{amountsTold, adds-to-zero}
 use Rattle.annual.specs.Sums.{withMember, yearTotals}
+use Rattle.annual.specs.Forms.{headForm, footForm, footValues}
+use Rattle.annual.specs.Texts.{membersText, footText, yearOfText}
 
 -- The sums without an end
 
@@ -80,10 +83,14 @@ members-long ss = go (decLt (firstBadStatement [] ss) (length ss))
 abbrev told : Year → Totals
 told y = withUser (yearTotals (y .members) 64) (y .users .0)
 
--- THE SUM OF ALL AMOUNTS below a year's table, the users' among them, is 0.00.
-pub year-amounts-told : (ss : List MonthStatement) → balanceText (told (yearOf ss) .due) (told (yearOf ss) .owed) ≡ word "0.00"
+-- the values of its foot
+abbrev valuesBelow : Year → List ℕ
+valuesBelow y = footValues (y .users .0) (told y)
+
+-- as much is due as is owed
+level-year : (ss : List MonthStatement) → told (yearOf ss) .due ≡ told (yearOf ss) .owed
 unfolding withUser fenPlus
-year-amounts-told ss =
+level-year ss =
     let all = yearOf ss .members in
     let user = yearOf ss .users .0 in
     let long = members-long ss in
@@ -94,6 +101,31 @@ year-amounts-told ss =
     let equal : owedAll all + owedOf user ≡ dueAll all + dueOf user = omega (arith, same) in
     let d = due-told all 64 (omega (arith, long)) ∙ ap (λ (ms : List MemberYear). min (dueAll ms) top) front in
     let o = owed-told all 64 (omega (arith, long)) ∙ ap (λ (ms : List MemberYear). min (owedAll ms) top) front in
-    ap₂ balanceText (ap (λ (n : ℕ). min (n + dueOf user) top) d ∙ held (dueAll all) (dueOf user))
-    (ap (λ (n : ℕ). min (n + owedOf user) top) o ∙ held (owedAll all) (owedOf user) ∙ ap (λ (n : ℕ). min n top) equal)
-    ∙ even (min (dueAll all + dueOf user) top)
+    ap (λ (n : ℕ). min (n + dueOf user) top) d ∙ held (dueAll all) (dueOf user)
+    ∙ sym (ap (λ (n : ℕ). min (n + owedOf user) top) o ∙ held (owedAll all) (owedOf user) ∙ ap (λ (n : ℕ). min n top) equal)
+
+-- the foot of a year whose amounts are even
+abbrev pub evenForm : List ℕ
+evenForm = word "user amount %s\nall compensation %y assessment %y amounts 0.00\n"
+
+even-foot : (u c a : ℕ) → filled footForm (u ∷ c ∷ a ∷ 0 ∷ 0 ∷ []) ≡ filled evenForm (u ∷ c ∷ a ∷ 0 ∷ 0 ∷ [])
+unfolding shown isNumber isSign byteText nextOn nextMarked takenBy filledFrom yuan twoPlaces decimal decimalIn
+even-foot u c a = refl
+
+-- where as much is due as is owed the amounts are 0.00
+even : (users : ℤ) (t : Totals) → t .due ≡ t .owed → footText users t ≡ filled evenForm (footValues users t)
+unfolding footText footValues
+even users t e =
+    let p : t .owed - t .due ≡ 0 = ap (λ (m : ℕ). t .owed - m) e ∙ none-short (t .owed) in
+    let q : apart (t .due) (t .owed) ≡ 0 = ap (λ (m : ℕ). apart m (t .owed)) e ∙ none-apart (t .owed) in
+    let vs : ℕ → ℕ → List ℕ = λ m n. bits users ∷ t .compensation ∷ t .assessment ∷ m ∷ n ∷ [] in
+    ap (filled footForm) (ap₂ vs p q) ∙ even-foot (bits users) (t .compensation) (t .assessment) ∙ sym (ap (filled evenForm) (ap₂ vs p q))
+
+-- THE SUM OF ALL AMOUNTS below a year's table, the users' among them, is 0.00.
+pub year-amounts-told : (area : ℕ) (ss : List MonthStatement)
+    → yearOfText area (yearOf ss)
+    ≡ filled headForm (area ∷ yearOf ss .year ∷ yearOf ss .count ∷ []) ++ membersText (yearOf ss .members) 64 ++ filled evenForm (valuesBelow (yearOf ss))
+unfolding yearOfText
+year-amounts-told area ss =
+    let y = yearOf ss in
+    ap (λ (l : List ℕ). filled headForm (area ∷ y .year ∷ y .count ∷ []) ++ membersText (y .members) 64 ++ l) (even (y .users .0) (told y) (level-year ss))

@@ -9,7 +9,6 @@ use native.Mathlib.Omega.{arith}
 use borrow.Author.Tests.{eq-eqb, ne-eqb}
 use lib.ListN.{length, getD}
 use Rattle.render.specs.Inner.{Puts}
-use Rattle.render.specs.Yuan.{mostSignedYuan}
 use Rattle.render.proofs.Placed.{and-then, looser, same-put, none-put}
 use Rattle.form.specs.Form.{isSign, nextMarked, mostWordShown, mostShown, mostByte, mostFrom, filled, mostOf}
 use Rattle.report.specs.declared.totals.Totals.{Totals}
@@ -17,8 +16,8 @@ use Rattle.year.specs.declared.MemberYear.{MemberYear}
 use Rattle.year.specs.declared.Year.{Year}
 use Rattle.year.specs.Year.{noMonths}
 use Rattle.annual.specs.Sums.{withMember, yearTotals}
-use Rattle.annual.specs.Forms.{headForm, memberForm, memberValues, totalsForm}
-use Rattle.annual.specs.Texts.{isPresent, lineText, membersText, yearOfText, yearText, mostHead, mostLine, mostTotals}
+use Rattle.annual.specs.Forms.{headForm, memberForm, memberValues, footForm}
+use Rattle.annual.specs.Texts.{isPresent, lineText, membersText, yearOfText, yearText, mostHead, mostLine, mostFoot}
 
 -- The room of the forms
 
@@ -30,9 +29,9 @@ pub most-line : mostOf memberForm ≡ mostLine
 unfolding isSign nextMarked mostWordShown mostShown mostByte mostFrom
 most-line = refl
 
-pub most-totals : mostOf totalsForm + mostSignedYuan + 1 ≡ mostTotals
+pub most-foot : mostOf footForm ≡ mostFoot
 unfolding isSign nextMarked mostWordShown mostShown mostByte mostFrom
-most-totals = refl
+most-foot = refl
 
 -- Members
 

@@ -1,11 +1,14 @@
 -- The forms of a year's table, as they are printed, and their numbers in the order of the form. Assumes nothing.
 use mathlib.Core.Bool.{Bool, false}
 use mathlib.Core.List.{List, [], _∷_, _++_}
-use Prim.Native.Nat.{ℕ, _*_}
+use Prim.Native.Nat.{ℕ, _-_, _*_}
+use lib.IntN.{ℤ}
 use lib.ListN.{getD}
 use Rattle.units.specs.Money.{fenPerThousandth}
 use Rattle.render.specs.Decimal.{word}
 use Rattle.form.specs.Form.{bits, flag}
+use Rattle.report.specs.declared.totals.Totals.{Totals}
+use Rattle.report.specs.Totals.{apart}
 use Rattle.year.specs.declared.MemberYear.{MemberYear}
 
 -- the first line: whose year it is, and how many months were taken
@@ -31,6 +34,10 @@ memberValues number m =
     ++ (m .sums .compensation .0 ∷ (m .sums .assessment .0 * fenPerThousandth) ∷ bits (m .sums .share .0) ∷ bits (m .sums .amount .0)
     ∷ bits (m .largest .amount .0) ∷ m .largest .month ∷ [])
 
--- the last line, up to the sum of all amounts
-abbrev pub totalsForm : List ℕ
-totalsForm = word "all compensation %y assessment %y amounts "
+-- what stands below the lines: the users'; then compensation, assessment and amounts of all together, these as what is due less what is owed
+abbrev pub footForm : List ℕ
+footForm = word "user amount %s\nall compensation %y assessment %y amounts [-]%y\n"
+
+-- the minus stands where less is due than is owed
+unfoldable pub footValues : ℤ → Totals → List ℕ
+footValues users t = bits users ∷ t .compensation ∷ t .assessment ∷ (t .owed - t .due) ∷ apart (t .due) (t .owed) ∷ []

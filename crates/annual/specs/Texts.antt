@@ -3,16 +3,15 @@ use mathlib.Core.Bool.{Bool, false, cond, _||_}
 use mathlib.Core.List.{List, [], _∷_, _++_}
 use Prim.Native.Nat.{ℕ, zero, suc, _+_, _*_}
 use lib.Dec.{eqb}
+use lib.IntN.{ℤ}
 use lib.ListN.{getD}
-use Rattle.render.specs.Decimal.{word}
 use Rattle.form.specs.Form.{filled}
 use Rattle.report.specs.declared.totals.Totals.{Totals}
 use Rattle.report.specs.Totals.{withUser}
-use Rattle.report.specs.Texts.{userText, balanceText, mostUser}
 use Rattle.year.specs.declared.MemberYear.{MemberYear}
 use Rattle.year.specs.declared.Year.{Year}
 use Rattle.year.specs.Year.{noMonths}
-use Rattle.annual.specs.Forms.{headForm, memberForm, memberValues, totalsForm}
+use Rattle.annual.specs.Forms.{headForm, memberForm, memberValues, footForm, footValues}
 use Rattle.annual.specs.Sums.{yearTotals}
 
 -- one of the first so many months is present
@@ -29,29 +28,28 @@ unfoldable pub membersText : List MemberYear → ℕ → List ℕ
 membersText ms zero = []
 membersText ms (suc n) = membersText ms n ++ lineText (suc n) (getD ms n noMonths)
 
--- the last line: compensation, assessment and amounts of all together
-unfoldable pub totalsText : Totals → List ℕ
-totalsText t = filled totalsForm (t .compensation ∷ t .assessment ∷ []) ++ balanceText (t .due) (t .owed) ++ word "\n"
+-- what stands below the lines
+unfoldable pub footText : ℤ → Totals → List ℕ
+footText users t = filled footForm (footValues users t)
 
 -- a line for each member that is in a month, the users' sum, and the sums with it
 unfoldable pub yearOfText : ℕ → Year → List ℕ
 yearOfText area y =
-    filled headForm (area ∷ y .year ∷ y .count ∷ []) ++ membersText (y .members) 64 ++ userText (y .users .0)
-    ++ totalsText (withUser (yearTotals (y .members) 64) (y .users .0))
+    filled headForm (area ∷ y .year ∷ y .count ∷ []) ++ membersText (y .members) 64 ++ footText (y .users .0) (withUser (yearTotals (y .members) 64) (y .users .0))
 
 -- THE YEAR AS PEOPLE READ IT; no text of a year that is refused
 unfoldable pub yearText : ℕ → Year → List ℕ
 yearText area y = cond (eqb (y .number) 0) (yearOfText area y) []
 
--- the most bytes of the first line, of a member's, of the last, and of all
+-- the most bytes of the first line, of a member's, of what stands below, and of all
 abbrev pub mostHead : ℕ
 mostHead = 80
 
 abbrev pub mostLine : ℕ
 mostLine = 271
 
-abbrev pub mostTotals : ℕ
-mostTotals = 109
+abbrev pub mostFoot : ℕ
+mostFoot = 146
 
 abbrev pub mostYear : ℕ
-mostYear = mostHead + 64 * mostLine + mostUser + mostTotals
+mostYear = mostHead + 64 * mostLine + mostFoot

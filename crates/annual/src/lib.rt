@@ -2,14 +2,14 @@
 // long the text is; 0, and leaves the buffer alone, where that is shorter than the most bytes such a text may have.
 use form::fen_bits;
 use form::fill;
+use forms::FOOT;
 use forms::HEAD;
 use forms::MEMBER;
-use forms::TOTALS;
-use render::put_word;
-use report::put_balance;
-use report::put_user;
 use report::totals::Totals;
+use report::totals::apart;
+use report::totals::short;
 use report::totals::with_user;
+use units::SignedFen;
 use year::MOST_MEMBERS;
 use year::MOST_STATEMENTS;
 use year::MemberYear;
@@ -20,15 +20,15 @@ ghost use lib.ListN.{length};
 ghost use Rattle.io.specs.Counts.{Counts};
 ghost use Rattle.render.specs.Inner.{Puts};
 ghost use Rattle.render.specs.Room.{Renders};
-ghost use Rattle.annual.specs.Forms.{memberValues};
-ghost use Rattle.annual.specs.Texts.{isPresent, lineText, membersText, totalsText, yearOfText, yearText, mostLine, mostTotals, mostYear};
+ghost use Rattle.annual.specs.Forms.{memberValues, footValues};
+ghost use Rattle.annual.specs.Texts.{isPresent, lineText, membersText, footText, yearOfText, yearText, mostLine, mostFoot, mostYear};
 
 mod forms;
 mod sums;
 
 use sums::year_totals;
 
-// The most bytes of a year: 80 of its first line, 271 for each of 64 members, 37 of the users' line, and 109 of the sums.
+// The most bytes of a year: 80 of its first line, 271 for each of 64 members, and 146 of the users' line and the sums.
 pub const MOST_YEAR: usize = 17570;
 
 // Whether a month is present.
@@ -100,13 +100,22 @@ fn put_members(out: &mut [u8], at: usize, members: [MemberYear; MOST_MEMBERS]) -
     next
 }
 
-fn put_totals(out: &mut [u8], at: usize, t: Totals) -> usize
-    requires { ⌜ at + mostTotals ≤ length (now out) ⌝ }
-    ensures { λ r. ⌜ Puts mostTotals (now (out .entry)) at (totalsText t) (now (out .exit)) r ⌝ }
+fn foot_values(users: SignedFen, t: Totals) -> [u64; 5]
+    ensures { λ r. ⌜ r ≡ footValues (users .0) t ⌝ }
 {
-    let a = fill(out, at, &TOTALS, &[t.compensation, t.assessment]);
-    let b = put_balance(out, a, t.due, t.owed);
-    put_word(out, b, b"\n")
+    let users = fen_bits(users);
+    let minus = short(t.due, t.owed);
+    let left = apart(t.due, t.owed);
+    [users, t.compensation, t.assessment, minus, left]
+}
+
+// The users' line and the sums.
+fn put_foot(out: &mut [u8], at: usize, users: SignedFen, t: Totals) -> usize
+    requires { ⌜ at + mostFoot ≤ length (now out) ⌝ }
+    ensures { λ r. ⌜ Puts mostFoot (now (out .entry)) at (footText (users .0) t) (now (out .exit)) r ⌝ }
+{
+    let values = foot_values(users, t);
+    fill(out, at, &FOOT, &values)
 }
 
 fn put_year(out: &mut [u8], area: u8, y: Year) -> usize
@@ -120,8 +129,7 @@ fn put_year(out: &mut [u8], area: u8, y: Year) -> usize
     let head = [area as u64, y.year as u64, y.count as u64];
     let a = fill(out, 0, &HEAD, &head);
     let b = put_members(out, a, members);
-    let c = put_user(out, b, users);
-    put_totals(out, c, all)
+    put_foot(out, b, users, all)
 }
 
 // The year's table; none of a year that is refused.

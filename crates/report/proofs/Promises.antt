@@ -4,7 +4,6 @@ use mathlib.Core.List.{List, [], _∷_, _++_, map}
 use Prim.Native.Nat.{ℕ, zero, suc, _+_, _-_, _^_, _≤_, min}
 use native.Mathlib.Nat.{add-zero, zero-add}
 use native.Mathlib.Omega.{arith}
-use borrow.Author.Tests.{le-ltb}
 use lib.IntN.{ℤ, pos, negsuc, negℤ, natAbs, _+ℤ_, _-ℤ_, +ℤ-assoc, +ℤ-comm, +ℤ-idl, negℤ-+ℤ, -ℤ-+ℤ-cancel, pos-+ℤ-pos}
 use lib.ListN.{length, getD, take, replicate, length-append}
 use lib.Seq.{take-suc, take-at}
@@ -14,6 +13,7 @@ use Rattle.ceiling.proofs.Outcomes.{taken-list}
 use Rattle.render.specs.Decimal.{word, decimalIn, decimal}
 use Rattle.render.specs.Room.{Renders}
 use Rattle.render.specs.Yuan.{twoPlaces, yuan}
+use Rattle.form.specs.Form.{bits, shown, isNumber, isSign, byteText, nextOn, nextMarked, takenBy, filledFrom, filled}
 use Rattle.month.specs.declared.Fault.the-variants.{NoFault}
 use Rattle.month.specs.declared.Row.{Row}
 use Rattle.month.specs.declared.Statement.{Statement}
@@ -22,8 +22,9 @@ use Rattle.month.specs.Outcomes.{limitedIn, linesIn, grainsIn, sharedIn}
 use Rattle.month.proofs.Accepted.{rowsSettled, passed, length-rows, length-in, length-limited}
 use Rattle.month.proofs.Promises.{amounts-zero}
 use Rattle.report.specs.declared.totals.Totals.{Totals}
-use Rattle.report.specs.Totals.{fenPlus, dueOf, owedOf, withRow, withUser, totalsOf}
-use Rattle.report.specs.Texts.{balanceText}
+use Rattle.report.specs.Totals.{fenPlus, dueOf, owedOf, apart, withRow, withUser, totalsOf}
+use Rattle.report.specs.Forms.{footForm, footValues}
+use Rattle.report.specs.Texts.{rowsText, footText, monthOf, monthText}
 
 -- Two outcomes allowed by a contract coincide: the buffer byte by byte, and the answer.
 pub text-determined : {most : ℕ} {text before after after′ : List ℕ} {r r′ : ℕ} → Renders most text before after r → Renders most text before after′ r′ → (after ≡ after′) × (r ≡ r′)
@@ -100,24 +101,43 @@ balance (r ∷ rs) = ap (λ (z : ℤ). r .amount .0 +ℤ z) (balance rs) ∙ one
 pub level : (d o : ℕ) → pos d -ℤ pos o ≡ pos 0 → d ≡ o
 level d o e = ap natAbs (sym (-ℤ-+ℤ-cancel (pos d) (pos o)) ∙ ap (λ (z : ℤ). z +ℤ pos o) e ∙ +ℤ-idl (pos o))
 
-none-left : yuan 0 ≡ word "0.00"
-unfolding yuan twoPlaces decimal decimalIn
-none-left = refl
+-- the foot of a month whose amounts are even
+abbrev pub evenForm : List ℕ
+evenForm = word "user amount %s\nall compensation %y assessment %y R %s part %n amounts 0.00\n"
 
-pub even : (m : ℕ) → balanceText m m ≡ word "0.00"
-unfolding balanceText
-even m =
-    let z : m - m ≡ 0 = omega arith in
-    rw (le-ltb m m (omega arith)) (ap yuan z ∙ none-left)
+even-foot : (u c a r p : ℕ) → filled footForm (u ∷ c ∷ a ∷ r ∷ p ∷ 0 ∷ 0 ∷ []) ≡ filled evenForm (u ∷ c ∷ a ∷ r ∷ p ∷ 0 ∷ 0 ∷ [])
+unfolding shown isNumber isSign byteText nextOn nextMarked takenBy filledFrom yuan twoPlaces decimal decimalIn
+even-foot u c a r p = refl
+
+-- a sum is not short of itself, nor apart from it
+pub none-short : (m : ℕ) → m - m ≡ 0
+none-short m = omega arith
+
+pub none-apart : (m : ℕ) → apart m m ≡ 0
+unfolding apart
+none-apart m = omega arith
+
+-- where as much is due as is owed the amounts are 0.00
+even : (user gap : ℤ) (part : ℕ) (t : Totals) → t .due ≡ t .owed → footText user gap part t ≡ filled evenForm (footValues user gap part t)
+unfolding footText footValues
+even user gap part t e =
+    let p : t .owed - t .due ≡ 0 = ap (λ (m : ℕ). t .owed - m) e ∙ none-short (t .owed) in
+    let q : apart (t .due) (t .owed) ≡ 0 = ap (λ (m : ℕ). apart m (t .owed)) e ∙ none-apart (t .owed) in
+    let vs : ℕ → ℕ → List ℕ = λ m n. bits user ∷ t .compensation ∷ t .assessment ∷ bits gap ∷ part ∷ m ∷ n ∷ [] in
+    ap (filled footForm) (ap₂ vs p q) ∙ even-foot (bits user) (t .compensation) (t .assessment) (bits gap) part ∙ sym (ap (filled evenForm) (ap₂ vs p q))
 
 -- what is due and what is owed below a month's table, the user's amount included
 abbrev told : Statement → Totals
 told s = withUser (totalsOf (s .rows) (min (s .count) 64)) (s .user .0)
 
--- THE SUM OF ALL AMOUNTS below a settled month's table, the user's among them, is 0.00.
-pub amounts-told : (g : MonthGiven) → settling g .fault ≡ NoFault → balanceText (told (settling g) .due) (told (settling g) .owed) ≡ word "0.00"
+-- the values of its foot
+abbrev valuesBelow : Statement → List ℕ
+valuesBelow s = footValues (s .user .0) (s .gap .0) (s .part) (told s)
+
+-- as much is due as is owed
+level-month : (g : MonthGiven) → settling g .fault ≡ NoFault → told (settling g) .due ≡ told (settling g) .owed
 unfolding filledRows withUser fenPlus
-amounts-told g none =
+level-month g none =
     let p = passed g none in
     let ls = linesIn g in
     let xs = rowsSettled g in
@@ -140,6 +160,13 @@ amounts-told g none =
     let equal : owedAll xs + owedOf user ≡ dueAll xs + dueOf user = omega (arith, due-blank (64 - length xs), owed-blank (64 - length xs)) in
     let d = ap₂ (λ (rs : List Row) (n : ℕ). totalsOf rs n .due) rows count ∙ due-told (xs ++ zs) (length xs) room ∙ ap (λ (rs : List Row). min (dueAll rs) top) front in
     let o = ap₂ (λ (rs : List Row) (n : ℕ). totalsOf rs n .owed) rows count ∙ owed-told (xs ++ zs) (length xs) room ∙ ap (λ (rs : List Row). min (owedAll rs) top) front in
-    ap₂ balanceText (ap (λ (n : ℕ). min (n + dueOf user) top) d ∙ held (dueAll xs) (dueOf user))
-    (ap (λ (n : ℕ). min (n + owedOf user) top) o ∙ held (owedAll xs) (owedOf user) ∙ ap (λ (n : ℕ). min n top) equal)
-    ∙ even (min (dueAll xs + dueOf user) top)
+    ap (λ (n : ℕ). min (n + dueOf user) top) d ∙ held (dueAll xs) (dueOf user)
+    ∙ sym (ap (λ (n : ℕ). min (n + owedOf user) top) o ∙ held (owedAll xs) (owedOf user) ∙ ap (λ (n : ℕ). min n top) equal)
+
+-- THE SUM OF ALL AMOUNTS below a settled month's table, the user's among them, is 0.00.
+pub amounts-told : (g : MonthGiven) → settling g .fault ≡ NoFault
+    → monthText (settling g) ≡ rowsText (settling g .rows) (min (settling g .count) 64) ++ filled evenForm (valuesBelow (settling g))
+unfolding monthText monthOf
+amounts-told g none =
+    let s = settling g in
+    ap (λ (l : List ℕ). rowsText (s .rows) (min (s .count) 64) ++ l) (even (s .user .0) (s .gap .0) (s .part) (told s) (level-month g none))

@@ -12,12 +12,16 @@ use Rattle.month.specs.declared.Row.{Row}
 use Rattle.month.specs.Settling.{blankRow}
 use Rattle.report.specs.declared.totals.Totals.{Totals}
 use Rattle.report.specs.Totals.{withRow, totalsOf}
-use Rattle.report.specs.Forms.{rowForm}
-use Rattle.report.specs.Texts.{mostRow, rowText, rowsText}
+use Rattle.report.specs.Forms.{rowForm, footForm}
+use Rattle.report.specs.Texts.{mostRow, mostFoot, rowText, rowsText}
 
 pub most-row : mostOf rowForm ≡ mostRow
 unfolding isSign nextMarked mostShown mostByte mostFrom
 most-row = refl
+
+pub most-foot : mostOf footForm ≡ mostFoot
+unfolding isSign nextMarked mostShown mostByte mostFrom
+most-foot = refl
 
 module _ (rows : List Row) where
   pub rows-none : (k : List ℕ) (at : ℕ) → Puts (mostRow * 0) k at (rowsText rows 0) k at

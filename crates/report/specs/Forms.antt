@@ -1,12 +1,14 @@
 -- What people read of a month: forms and their numbers. Assumes nothing.
 use mathlib.Core.List.{List, [], _∷_}
-use Prim.Native.Nat.{ℕ, _*_}
+use Prim.Native.Nat.{ℕ, _-_, _*_}
 use lib.IntN.{ℤ}
 use Rattle.units.specs.Money.{grainsToFen, fenPerThousandth}
 use Rattle.render.specs.Decimal.{word}
 use Rattle.form.specs.Form.{bits, filled, filledWith}
 use Rattle.share.specs.Sharing.{mostCompensation}
 use Rattle.month.specs.declared.Row.{Row}
+use Rattle.report.specs.declared.totals.Totals.{Totals}
+use Rattle.report.specs.Totals.{apart}
 
 -- a member's line: its points are the fen of its grains
 abbrev pub rowForm : List ℕ
@@ -16,6 +18,15 @@ unfoldable pub rowValues : Row → List ℕ
 rowValues r =
     r .number ∷ r .hours ∷ grainsToFen (r .grains .0) ∷ r .compensation .0 ∷ (r .assessment .0 * fenPerThousandth) ∷ r .energy .0 ∷ r .weight
     ∷ bits (r .share .0) ∷ r .uncollected .0 ∷ r .given .0 ∷ bits (r .amount .0) ∷ []
+
+-- what stands below the lines: the user's; then C, A, R, the generators' part of it, and what is due less what is owed
+abbrev pub footForm : List ℕ
+footForm = word "user amount %s\nall compensation %y assessment %y R %s part %n amounts [-]%y\n"
+
+-- the minus stands where less is due than is owed
+unfoldable pub footValues : ℤ → ℤ → ℕ → Totals → List ℕ
+footValues user gap part t =
+    bits user ∷ t .compensation ∷ t .assessment ∷ bits gap ∷ part ∷ (t .owed - t .due) ∷ apart (t .due) (t .owed) ∷ []
 
 -- a call's member that the register, by its file's name, has no line for
 abbrev pub noLineForm : List ℕ

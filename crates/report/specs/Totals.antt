@@ -21,6 +21,10 @@ unfoldable pub owedOf : ℤ → ℕ
 owedOf (pos n) = 0
 owedOf (negsuc n) = suc n
 
+-- how far two sums are apart
+unfoldable pub apart : ℕ → ℕ → ℕ
+apart a b = a - b + (b - a)
+
 -- the sums with one member's line more
 unfoldable pub withRow : Totals → Row → Totals
 withRow t r =

@@ -2,6 +2,9 @@
 pub const ROW: [u8; 122] =
     *b"member %n hours %n points %p compensation %y assessment %y energy %n weight %n share %s uncollected %y given %y amount %s\n";
 
+pub const FOOT: [u8; 76] =
+    *b"user amount %s\nall compensation %y assessment %y R %s part %n amounts [-]%y\n";
+
 pub const NO_LINE: [u8; 33] = *b"failed %1: no line for member %n\n";
 
 pub const ABOVE: [u8; 69] =

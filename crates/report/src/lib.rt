@@ -1,6 +1,7 @@
 // What people read of a month, as bytes in a buffer that the caller lends. Each function answers how long its text is. It answers 0, and
 // leaves the buffer alone, where that is shorter than the most bytes its text may have.
 use crate::forms::ABOVE;
+use crate::forms::FOOT;
 use crate::forms::NO_LINE;
 use crate::forms::ROW;
 use form::fen_bits;
@@ -10,11 +11,6 @@ use form::say_with;
 use month::Row;
 use month::Statement;
 use register::MOST_ENTRIES;
-use render::put_field;
-use render::put_word;
-use render::yuan::put_signed_yuan_field;
-use render::yuan::put_yuan;
-use render::yuan::put_yuan_field;
 use share::array::seen;
 use share::limits::MOST_COMPENSATION;
 use units::Fen;
@@ -25,12 +21,9 @@ ghost use lib.ListN.{length};
 ghost use Rattle.io.specs.Counts.{Counts};
 ghost use Rattle.render.specs.Inner.{Puts};
 ghost use Rattle.render.specs.Room.{Renders};
-ghost use Rattle.render.specs.Yuan.{mostSignedYuan};
-ghost use Rattle.report.specs.Texts.{rowText, rowsText, userText, balanceText, sumsText, totalsText};
-ghost use Rattle.report.specs.Texts.{monthOf, monthText};
-ghost use Rattle.report.specs.Texts.{mostRow, mostUser, mostSums, mostTotals, mostMonth};
+ghost use Rattle.report.specs.Texts.{rowText, rowsText, footText, monthOf, monthText, mostRow, mostFoot, mostMonth};
 ghost use Rattle.form.specs.Form.{mostOf, mostWith};
-ghost use Rattle.report.specs.Forms.{rowValues, noLineForm, noLineText, aboveForm, aboveText};
+ghost use Rattle.report.specs.Forms.{rowValues, footValues, noLineForm, noLineText, aboveForm, aboveText};
 
 mod forms;
 pub mod hourly;
@@ -38,10 +31,12 @@ pub mod totals;
 pub mod why;
 
 use totals::Totals;
+use totals::apart;
+use totals::short;
 use totals::totals_of;
 use totals::with_user;
 
-// The most bytes of a month: 346 for each of 64 members, 37 of the user's line, and 162 of the sums.
+// The most bytes of a month: 346 for each of 64 members, and 199 of the user's line and the sums.
 pub const MOST_MONTH: usize = 22343;
 
 fn row_values(r: Row) -> [u64; 11]
@@ -95,45 +90,38 @@ fn put_rows(out: &mut [u8], rows: [Row; MOST_ENTRIES], count: usize) -> usize
     next
 }
 
-// The user's line.
-pub fn put_user(out: &mut [u8], at: usize, user: SignedFen) -> usize
-    requires { ⌜ at + mostUser ≤ length (now out) ⌝ }
-    ensures { λ r. ⌜ Puts mostUser (now (out .entry)) at (userText (user .0)) (now (out .exit)) r ⌝ }
+fn foot_values(user: SignedFen, gap: SignedFen, part: u32, t: Totals) -> [u64; 7]
+    ensures { λ r. ⌜ r ≡ footValues (user .0) (gap .0) part t ⌝ }
 {
-    let a = put_signed_yuan_field(out, at, b"user amount ", user.0);
-    put_word(out, a, b"\n")
+    let user = fen_bits(user);
+    let gap = fen_bits(gap);
+    let minus = short(t.due, t.owed);
+    let left = apart(t.due, t.owed);
+    [
+        user,
+        t.compensation,
+        t.assessment,
+        gap,
+        part as u64,
+        minus,
+        left,
+    ]
 }
 
-// What is due less what is owed.
-pub fn put_balance(out: &mut [u8], at: usize, due: u64, owed: u64) -> usize
-    requires { ⌜ at + mostSignedYuan ≤ length (now out) ⌝ }
-    ensures { λ r. ⌜ Puts mostSignedYuan (now (out .entry)) at (balanceText due owed) (now (out .exit)) r ⌝ }
+// The user's line and the sums.
+fn put_foot(
+    out: &mut [u8],
+    at: usize,
+    user: SignedFen,
+    gap: SignedFen,
+    part: u32,
+    t: Totals,
+) -> usize
+    requires { ⌜ at + mostFoot ≤ length (now out) ⌝ }
+    ensures { λ r. ⌜ Puts mostFoot (now (out .entry)) at (footText (user .0) (gap .0) part t) (now (out .exit)) r ⌝ }
 {
-    if due < owed {
-        let next = put_word(out, at, b"-");
-        return put_yuan(out, next, owed - due);
-    }
-    put_yuan(out, at, due - owed)
-}
-
-fn put_sums(out: &mut [u8], at: usize, gap: SignedFen, part: u32, t: Totals) -> usize
-    requires { ⌜ at + mostSums ≤ length (now out) ⌝ }
-    ensures { λ r. ⌜ Puts mostSums (now (out .entry)) at (sumsText (gap .0) part t) (now (out .exit)) r ⌝ }
-{
-    let a = put_yuan_field(out, at, b"all compensation ", t.compensation);
-    let b = put_yuan_field(out, a, b" assessment ", t.assessment);
-    let c = put_signed_yuan_field(out, b, b" R ", gap.0);
-    put_field(out, c, b" part ", part as u64)
-}
-
-fn put_totals(out: &mut [u8], at: usize, gap: SignedFen, part: u32, t: Totals) -> usize
-    requires { ⌜ at + mostTotals ≤ length (now out) ⌝ }
-    ensures { λ r. ⌜ Puts mostTotals (now (out .entry)) at (totalsText (gap .0) part t) (now (out .exit)) r ⌝ }
-{
-    let a = put_sums(out, at, gap, part, t);
-    let b = put_word(out, a, b" amounts ");
-    let c = put_balance(out, b, t.due, t.owed);
-    put_word(out, c, b"\n")
+    let values = foot_values(user, gap, part, t);
+    fill(out, at, &FOOT, &values)
 }
 
 fn put_month(out: &mut [u8], s: Statement, count: usize) -> usize
@@ -142,13 +130,10 @@ fn put_month(out: &mut [u8], s: Statement, count: usize) -> usize
     ensures { λ r. ⌜ Puts mostMonth (now (out .entry)) 0 (monthOf s count) (now (out .exit)) r ⌝ }
 {
     let rows = s.rows;
-    let gap = s.gap;
-    let user = s.user;
     let t = totals_of(rows, count);
-    let all = with_user(t, user);
+    let all = with_user(t, s.user);
     let a = put_rows(out, rows, count);
-    let b = put_user(out, a, user);
-    put_totals(out, b, gap, s.part, all)
+    put_foot(out, a, s.user, s.gap, s.part, all)
 }
 
 // The month's table.

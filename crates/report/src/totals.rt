@@ -4,8 +4,8 @@ use register::MOST_ENTRIES;
 use render::size;
 use units::SignedFen;
 ghost use mathlib.Core.Path.{_≡_};
-ghost use Prim.Native.Nat.{_≤_};
-ghost use Rattle.report.specs.Totals.{fenPlus, dueOf, owedOf, withRow, withUser, totalsOf};
+ghost use Prim.Native.Nat.{_-_, _≤_};
+ghost use Rattle.report.specs.Totals.{fenPlus, dueOf, owedOf, apart, withRow, withUser, totalsOf};
 
 // C, A, what is due to members and what members owe, in fen.
 pub struct Totals {
@@ -40,6 +40,20 @@ pub fn owed_of(n: i64) -> u64
     ensures { λ r. ⌜ r ≡ owedOf n ⌝ }
 {
     if n < 0 { size(n) } else { 0 }
+}
+
+// How far two sums are apart.
+pub fn apart(a: u64, b: u64) -> u64
+    ensures { λ r. ⌜ r ≡ apart a b ⌝ }
+{
+    if a < b { b - a } else { a - b }
+}
+
+// What the one is short of the other.
+pub fn short(a: u64, b: u64) -> u64
+    ensures { λ r. ⌜ r ≡ b - a ⌝ }
+{
+    if a < b { b - a } else { 0 }
 }
 
 fn with_row(t: Totals, r: Row) -> Totals

@@ -3,7 +3,7 @@ use native.Mathlib.Omega.{arith}
 use Rattle.report.specs.declared.totals.Totals.{Totals}
 use Rattle.report.specs.Totals.{withUser}
 use Rattle.render.proofs.Placed.{and-then, same-put}
-use Rattle.annual.specs.Texts.{totalsText, yearOfText}
+use Rattle.annual.specs.Texts.{footText, yearOfText}
 use Rattle.annual.proofs.Rows.{most-head}
 use borrow.Author.Needs.{needs}
 use Rattle.annual.proofs.put_year.Statement.{statement}
@@ -15,30 +15,22 @@ fill-requires c κs = omega (arith, most-head)
 put-members-requires : tie.Need-put-members-requires
 put-members-requires c κs = let p = c .before .before .before .fill .ensures in omega (arith, most-head, p .fits, p .behind)
 
-put-user-requires : tie.Need-put-user-requires
-put-user-requires c κs =
+put-foot-requires : tie.Need-put-foot-requires
+put-foot-requires c κs =
     let p = c .before .before .before .before .before .before .before .fill .ensures in
     let q = c .before .before .before .put-members .ensures in
     omega (arith, most-head, p .fits, p .behind, q .fits, q .behind)
 
-put-totals-requires : tie.Need-put-totals-requires
-put-totals-requires c κs =
-    let p = c .before .before .before .before .before .before .before .before .before .before .before .fill .ensures in
-    let q = c .before .before .before .before .before .before .before .put-members .ensures in
-    let r = c .before .before .before .put-user .ensures in
-    omega (arith, most-head, p .fits, p .behind, q .fits, q .behind, r .fits, r .behind)
-
 returns : tie.Need-returns
 unfolding yearOfText
 returns c =
-    let d = c .before .before .before .before .before .before .before .before .before .before .before .before .before .before in
+    let d = c .before .before .before .before .before .before .before .before .before .before in
     let y = d .before .before .before .before .before .before .before .before .before .before .args .y in
     let p = rw most-head at (d .fill .ensures) in
-    let q = c .before .before .before .before .before .before .before .before .before .before .put-members .ensures in
-    let r = c .before .before .before .before .before .before .put-user .ensures in
+    let q = c .before .before .before .before .before .before .put-members .ensures in
     let t = d .before .before .before .before .before .before .year-totals .ensures in
     let s = d .before .before .before .before .before .with-user .ensures ∙ ap (λ (t : Totals). withUser t (y .users .0)) t in
-    and-then (and-then (and-then p q) r) (same-put (ap totalsText s) (c .before .before .put-totals .ensures))
+    and-then (and-then p q) (same-put (ap (footText (y .users .0)) s) (c .before .before .put-foot .ensures))
 
 pub put-year-spec : {M : Type 1} → statement M
 put-year-spec =
@@ -51,7 +43,6 @@ put-year-spec =
     (λ c. search needs)
     fill-requires
     put-members-requires
-    put-user-requires
-    put-totals-requires
+    put-foot-requires
     (λ c. search needs)
     returns)
