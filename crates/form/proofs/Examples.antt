@@ -43,6 +43,10 @@ cases =
     ∷ shows "%q %n %? %n" (7 ∷ 8 ∷ 9 ∷ []) "q 8 ? 9"
     -- a `%` at the end shows nothing
     ∷ shows "100%" [] "100"
+    -- brackets that are not in pairs: a `|` turns showing off up to the next `]`, a `[` in what is not shown asks its own number, a `]` alone is nothing
+    ∷ shows "a|b]c" [] "ac"
+    ∷ shows "[a[b]c]d" (0 ∷ 5 ∷ []) "bcd"
+    ∷ shows "a]b" [] "ab"
     ∷ []
 
 pub shown-so : every cases ≡ true
