@@ -2,6 +2,7 @@
 use clerk::args::Held;
 use clerk::args::argument;
 use clerk::args::first;
+use clerk::args::is_word;
 use clerk::print;
 use clerk::usage::Command;
 use clerk::usage::command_of;
@@ -37,11 +38,8 @@ fn main() {
     run(first(&word, n));
 }
 
-fn run(word: &[u8]) {
-    let command = command_of(word);
-    if !is_called(command) {
-        return;
-    }
+// The commands on books, and those on one member.
+fn on_books(command: Command) {
     match command {
         Command::Check => check_book(),
         Command::Show => show_book(),
@@ -51,16 +49,44 @@ fn run(word: &[u8]) {
         Command::Withdraw => withdraw(),
         Command::Join => join_books(),
         Command::Find => find_call(),
+        Command::Help => help_with(),
+        Command::Version => tell_version(),
+        _ => {}
+    }
+}
+
+fn on_members(command: Command) {
+    match command {
         Command::Score => score_member(),
         Command::Reckon => reckon_member(),
         Command::Ramp => ramp_member(),
-        Command::Month => settle_month(),
         Command::Year => tell_year(),
-        Command::Drawer => list_drawer(),
         Command::Explain => explain_member(),
-        Command::Help => help_with(),
-        Command::Version => tell_version(),
+        _ => {}
+    }
+}
+
+// The command that a word is; `--help` is `help`. Since this function calls itself, the compiler gives each function that it calls a frame of its own: a command takes the stack
+// that it needs, and not that of the month and the drawer (tests/program-stack).
+fn run(word: &[u8]) {
+    if 2 < word.len() {
+        if is_word(word, b"--help") {
+            run(&word[2..]);
+            return;
+        }
+    }
+    let command = command_of(word);
+    if !is_called(command) {
+        return;
+    }
+    match command {
+        Command::Month => settle_month(),
+        Command::Drawer => list_drawer(),
         Command::Unknown => unknown(word),
+        _ => {
+            on_books(command);
+            on_members(command);
+        }
     }
 }
 
