@@ -97,6 +97,7 @@ int fsync(int fd) { return next("fsync", name_of(fd)) < 0 ? -1 : REAL(int, fsync
 int close(int fd) {
     int wrong = next("close", name_of(fd)), error = errno, closed = REAL(int, close, int)(fd);
     if (fd >= 0 && fd < FILES) names[fd][0] = 0;
+    if (fd == full) full = -1;
     if (wrong < 0) errno = error;
     return wrong < 0 ? -1 : closed;
 }

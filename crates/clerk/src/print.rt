@@ -106,6 +106,15 @@ pub fn note(what: &[u8], why: &[u8]) {
     say::text(&line[..n]);
 }
 
+// The same on a page.
+pub fn put_note(page: &mut [u8], at: usize, what: &[u8], why: &[u8]) -> usize {
+    let mut name = io::buffer();
+    let m = shown_text(what, &mut name);
+    let mut line = io::large_buffer();
+    let n = note_text(&name[..m], why, &mut line);
+    say::add(page, at, &line[..n])
+}
+
 // A number outside its limits, by its name, and what it is of: a line before the last one.
 pub fn outside(what: &[u8], name: &[u8], n: u64, low: u64, high: u64) {
     let mut why = io::buffer();
@@ -174,16 +183,16 @@ pub fn put_call(page: &mut [u8], at: usize, x: Call) -> usize {
     say::add(page, at, &line[..n])
 }
 
-// The call that stands, and whether the second of two books has it or the first.
-pub fn found(second: bool, x: Call) {
+// The call that stands, and whether the second of two books has it or the first, on a page.
+pub fn put_found(page: &mut [u8], at: usize, second: bool, x: Call) -> usize {
     let mut line = io::buffer();
     let n = found_text(second, x, &mut line);
-    say::text(&line[..n]);
+    say::add(page, at, &line[..n])
 }
 
-// No call stands in either book.
-pub fn none() {
-    say::text(b"none\n");
+// No call stands in either book, on a page.
+pub fn put_none(page: &mut [u8], at: usize) -> usize {
+    say::add(page, at, b"none\n")
 }
 
 // Whose month it is, and how many calls its book has, on a page.

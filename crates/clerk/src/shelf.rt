@@ -18,6 +18,20 @@ ghost use Prim.Native.Nat.{_≤_};
 ghost use Rattle.book.specs.Book.{countAt};
 ghost use Rattle.book.specs.Check.{accepted, check, headerOf};
 
+// Whether a name is that of the file which is held.
+pub enum Compared {
+    Same,
+    Other,
+    Unknown,
+}
+
+// Whether a file begins with a book's mark; unknown where it cannot be read.
+pub enum Mark {
+    Stands,
+    Missing,
+    Unknown,
+}
+
 // The whole file in the buffer's first bytes.
 pub fn load(path: &[u8], buf: &mut [u8]) -> Held {
     match files::load(path, buf) {
@@ -102,6 +116,7 @@ fn told(path: &[u8], stored: Stored) -> bool {
             path,
             b"too long a name to write beside it, or links that lead round",
         ),
+        Stored::Unknown => print::failed(path, b"cannot be looked at, and is left as it was"),
         Stored::NotRegular => print::failed(path, b"is no regular file, and is left alone"),
         Stored::ReadOnly => print::failed(
             path,
@@ -117,12 +132,18 @@ fn told(path: &[u8], stored: Stored) -> bool {
     false
 }
 
-// Whether argument i names the file that is held, by whatever name.
-pub fn is_same(hold: Hold, i: usize) -> bool {
+// Whether argument i names the file that is held, by whatever name; of one that cannot be looked at that is unknown.
+pub fn compared_at(hold: Hold, i: usize) -> Compared {
     let mut buf = io::buffer();
     let n = os::arg(i, &mut buf);
     let node = node_of(&buf[..n]);
-    node.is_same(hold.node)
+    if node.unknown {
+        return Compared::Unknown;
+    }
+    if node.is_same(hold.node) {
+        return Compared::Same;
+    }
+    Compared::Other
 }
 
 // Whether a whole file begins with a book's mark.
@@ -130,15 +151,22 @@ fn is_marked(bytes: &[u8]) -> bool {
     is_word(first(bytes, 3), b"NWB")
 }
 
-// The same of the file that argument i names. One that cannot be read, or is longer than any book, is none.
-pub fn is_marked_at(i: usize) -> bool {
+// The same of the file that argument i names. One that is longer than any book is none.
+pub fn mark_at(i: usize) -> Mark {
     let mut name = io::buffer();
     let n = os::arg(i, &mut name);
     let mut bytes = io::large_buffer();
-    let Loaded::Whole(m) = files::load(&name[..n], &mut bytes) else {
-        return false;
+    let loaded = files::load(&name[..n], &mut bytes);
+    if let Loaded::TooLong = loaded {
+        return Mark::Missing;
+    }
+    let Loaded::Whole(m) = loaded else {
+        return Mark::Unknown;
     };
-    is_marked(first(&bytes, m))
+    if is_marked(first(&bytes, m)) {
+        return Mark::Stands;
+    }
+    Mark::Missing
 }
 
 // What the book that argument i names is found to be. A refusal is told.
@@ -193,6 +221,13 @@ pub fn note_at(i: usize, why: &[u8]) {
     let mut buf = io::buffer();
     let n = os::arg(i, &mut buf);
     print::note(&buf[0..n], why);
+}
+
+// The same on a page.
+pub fn put_note_at(page: &mut [u8], at: usize, i: usize, why: &[u8]) -> usize {
+    let mut buf = io::buffer();
+    let n = os::arg(i, &mut buf);
+    print::put_note(page, at, &buf[0..n], why)
 }
 
 // Of which month and area the book that argument i names is, and of which those before it.

@@ -23,6 +23,7 @@ pub enum Loaded {
 pub enum Stored {
     Done,
     BadName,
+    Unknown,
     NotRegular,
     ReadOnly,
     Locked,
@@ -142,8 +143,12 @@ pub fn lock_of(target: Name) -> Name {
     joined(first(&bytes, target.size), b".lock")
 }
 
-// Whether a target may be written, by what stands there: nothing, or a regular file that its owner may write, and, where the file is to be new, nothing alone.
+// Whether a target may be written, by what stands there: nothing, or a regular file that its owner may write, and, where the file is to be new, nothing alone. Where the system does not
+// say what stands there, it may not.
 fn judged(new: bool, node: Node) -> Stored {
+    if node.unknown {
+        return Stored::Unknown;
+    }
     if !node.there {
         return Stored::Done;
     }

@@ -11,16 +11,19 @@ use clerk::args::is_word_at;
 use clerk::args::long_at;
 use clerk::args::short_at;
 use clerk::print;
+use clerk::shelf::Compared;
+use clerk::shelf::Mark;
+use clerk::shelf::compared_at;
 use clerk::shelf::hold_at;
 use clerk::shelf::is_held;
-use clerk::shelf::is_marked_at;
-use clerk::shelf::is_same;
 use clerk::shelf::load_at;
+use clerk::shelf::mark_at;
 use clerk::shelf::note_at;
 use clerk::shelf::open;
 use clerk::shelf::opened_at;
 use clerk::shelf::other_month_at;
 use clerk::shelf::put;
+use clerk::shelf::put_note_at;
 use clerk::shelf::refused_at;
 use clerk::shelf::tell_failed;
 use files::Hold;
@@ -35,6 +38,13 @@ ghost use Rattle.book.specs.Check.{accepted, check};
 pub enum Key {
     Of(u16, u32),
     Nothing,
+}
+
+// Whether a file is one of those that arguments name: it is, it is none, or that is unknown since the one at a place cannot be looked at.
+enum Named {
+    One,
+    None,
+    Unknown(usize),
 }
 
 // The key that arguments 4 and 5 say.
@@ -172,19 +182,35 @@ pub fn put_header(page: &mut [u8], at: usize, book: &[u8]) -> usize {
     print::put_header(page, at, o.header, o.calls)
 }
 
+// Whether argument i names the file that is held, or one before it does. The first that cannot be looked at is kept.
+fn named_next(hold: Hold, i: usize, before: Named) -> Named {
+    match compared_at(hold, i) {
+        Compared::Same => Named::One,
+        Compared::Other => before,
+        Compared::Unknown => {
+            if let Named::None = before {
+                return Named::Unknown(i);
+            }
+            before
+        }
+    }
+}
+
 // Whether one of the arguments from `from` on names the file that is held.
-fn is_named(hold: Hold, from: usize) -> bool
+fn named_in(hold: Hold, from: usize) -> Named
     requires { ⌜ from < 10 ⌝ }
 {
     let count = os::arg_count();
+    let mut named = Named::None;
     let mut i = from;
     while i < count {
-        if is_same(hold, i) {
-            return true;
+        named = named_next(hold, i, named);
+        if let Named::One = named {
+            return named;
         }
         i += 1;
     }
-    false
+    named
 }
 
 // The books behind argument `out`, joined into the file that is held.
@@ -207,11 +233,41 @@ fn join_held(hold: Hold, out: usize)
 fn join_over(hold: Hold, out: usize)
     requires { ⌜ out < 9 ⌝ }
 {
-    if is_marked_at(out) {
-        join_held(hold, out);
+    match mark_at(out) {
+        Mark::Stands => {
+            join_held(hold, out);
+            return;
+        }
+        Mark::Missing => tell_failed(out, b"is no book, and join -f writes over books alone"),
+        Mark::Unknown => tell_failed(out, b"cannot be read"),
+    }
+    files::release(hold);
+}
+
+// The same over a file that is there, by whether it is one of the books.
+fn join_there(hold: Hold, out: usize, forced: bool)
+    requires { ⌜ out < 9 ⌝ }
+{
+    match named_in(hold, out + 1) {
+        Named::One => {
+            join_held(hold, out);
+            return;
+        }
+        Named::Unknown(i) => {
+            tell_failed(i, b"cannot be looked at");
+            files::release(hold);
+            return;
+        }
+        Named::None => {}
+    }
+    if forced {
+        join_over(hold, out);
         return;
     }
-    tell_failed(out, b"is no book, and join -f writes over books alone");
+    tell_failed(
+        out,
+        b"is there already, and is none of the books (join -f writes over a book)",
+    );
     files::release(hold);
 }
 
@@ -229,19 +285,11 @@ fn join_to(out: usize, forced: bool)
         return;
     }
     let node = hold.node;
-    if !node.there | is_named(hold, out + 1) {
-        join_held(hold, out);
+    if node.there {
+        join_there(hold, out, forced);
         return;
     }
-    if forced {
-        join_over(hold, out);
-        return;
-    }
-    tell_failed(
-        out,
-        b"is there already, and is none of the books (join -f writes over a book)",
-    );
-    files::release(hold);
+    join_held(hold, out);
 }
 
 pub fn join_books() {
@@ -252,20 +300,20 @@ pub fn join_books() {
     join_to(2, false);
 }
 
-// Where joining would refuse two books, nothing is found in them. The paper gives no number here, so that words say which book is at fault.
-fn tell_refused(number: u32) {
+// Where joining would refuse two books, nothing is found in them. The paper gives no number here, so that words say which book is at fault, on a page.
+fn put_refused(page: &mut [u8], number: u32) -> usize {
     if number < 7 {
-        note_at(2, b"not a sound book, so nothing is found");
-        return;
+        return put_note_at(page, 0, 2, b"not a sound book, so nothing is found");
     }
     if number == 7 {
-        note_at(
+        return put_note_at(
+            page,
+            0,
             3,
             b"of another month or area than the first book, so nothing is found",
         );
-        return;
     }
-    note_at(3, b"not a sound book, so nothing is found");
+    put_note_at(page, 0, 3, b"not a sound book, so nothing is found")
 }
 
 // Whether a book has a record of the key: of a book and itself it stands.
@@ -273,47 +321,60 @@ fn has(book: &[u8], member: u16, call: u32) -> bool {
     RECORD_SIZE <= lookup::find(book, book, member, call).len()
 }
 
-// No record stands: neither book has the call, or both have it and contradict each other.
-fn tell_none(one: &[u8], two: &[u8], member: u16, call: u32) {
+// Why no record stands, on a page: neither book has the call, or both have it and contradict each other.
+fn put_why_none(page: &mut [u8], one: &[u8], two: &[u8], member: u16, call: u32) -> usize {
     if has(one, member, call) & has(two, member, call) {
-        note_at(
+        return put_note_at(
+            page,
+            0,
             3,
             b"both books have the call at one revision and contradict each other, so that neither stands",
         );
-    } else {
-        note_at(3, b"neither this book nor the first has the call");
     }
-    print::none();
+    put_note_at(page, 0, 3, b"neither this book nor the first has the call")
 }
 
-// The record that stands for a key: which book has it, and its 32 bytes as they lie there.
-fn tell_found<'a>(first: &'a [u8], second: &'a [u8], member: u16, call: u32) {
+fn put_none(page: &mut [u8], one: &[u8], two: &[u8], member: u16, call: u32) -> usize {
+    let at = put_why_none(page, one, two, member, call);
+    print::put_none(page, at)
+}
+
+// The record that stands for a key: which book has it, and its 32 bytes as they lie there, on a page.
+fn put_found<'a>(
+    page: &mut [u8],
+    first: &'a [u8],
+    second: &'a [u8],
+    member: u16,
+    call: u32,
+) -> usize {
     let part = lookup::find(first, second, member, call);
     if part.len() < RECORD_SIZE {
-        tell_none(first, second, member, call);
-        return;
+        return put_none(page, first, second, member, call);
     }
     match lookup::which(first, second, member, call) {
-        Place::Nowhere => print::none(),
-        Place::InFirst(_) => print::found(false, call_at(part, 0)),
-        Place::InSecond(_) => print::found(true, call_at(part, 0)),
+        Place::Nowhere => print::put_none(page, 0),
+        Place::InFirst(_) => print::put_found(page, 0, false, call_at(part, 0)),
+        Place::InSecond(_) => print::put_found(page, 0, true, call_at(part, 0)),
     }
+}
+
+// The same where the books may be joined; else why not.
+fn put_answer<'a>(page: &mut [u8], one: &'a [u8], two: &'a [u8], member: u16, call: u32) -> usize {
+    let v = screen(one, two);
+    if v.number != 0 {
+        let at = put_refused(page, v.number);
+        return print::put_none(page, at);
+    }
+    put_found(page, one, two, member, call)
 }
 
 fn find_in(one: &[u8], member: u16, call: u32) {
     let mut book = io::large_buffer();
-    let Held::Bytes(n) = load_at(3, &mut book) else {
-        return;
-    };
-    let two = first(&book, n);
-    let v = screen(one, two);
-    if v.number != 0 {
-        tell_refused(v.number);
-        print::none();
-    } else {
-        tell_found(one, two, member, call);
+    if let Held::Bytes(n) = load_at(3, &mut book) {
+        let mut page = io::large_buffer();
+        let at = put_answer(&mut page, one, first(&book, n), member, call);
+        print::finish(&mut page, at);
     }
-    print::done();
 }
 
 pub fn find_call() {

@@ -26,9 +26,10 @@ use clerk::args::service_at;
 use clerk::args::short_at;
 use clerk::args::start_at;
 use clerk::print;
+use clerk::shelf::Compared;
+use clerk::shelf::compared_at;
 use clerk::shelf::hold_at;
 use clerk::shelf::is_held;
-use clerk::shelf::is_same;
 use clerk::shelf::load_at;
 use clerk::shelf::opened_at;
 use clerk::shelf::put;
@@ -36,6 +37,7 @@ use clerk::shelf::tell_failed;
 use clerk::wrong::tell_call;
 use clerk::wrong::tell_header;
 use clerk::wrong::tell_no_day;
+use files::Hold;
 use units::calendar::days_of;
 use wish::Old;
 use wish::Verdict;
@@ -235,15 +237,38 @@ fn changed(wish: Wish, x: Call, given: bool, book: &mut [u8]) -> Held {
     join_asked(wish, x, given, o.header, book, n)
 }
 
+// Whether the file that is held may be written: it is new, or it is the book that is read. Where it may not, one line has said why.
+fn is_open(hold: Hold) -> bool {
+    let node = hold.node;
+    if !node.there {
+        return true;
+    }
+    match compared_at(hold, BOOK) {
+        Compared::Same => return true,
+        Compared::Other => tell_failed(OUT, b"is there already, and is not the book that is read"),
+        Compared::Unknown => tell_failed(BOOK, b"cannot be looked at"),
+    }
+    false
+}
+
+// What stands of the call now, and `ok`.
+fn tell_changed(old: Old) {
+    let Old::Stands(y) = old else {
+        print::done();
+        return;
+    };
+    let mut page = io::buffer();
+    let at = print::put_call(&mut page, 0, y);
+    print::finish(&mut page, at);
+}
+
 // The book changed, and stored as argument 2, which may be there only where it is that book.
 fn apply(wish: Wish, x: Call, given: bool) {
     let hold = hold_at(OUT, false);
     if !is_held(hold) {
         return;
     }
-    let node = hold.node;
-    if node.there & !is_same(hold, BOOK) {
-        tell_failed(OUT, b"is there already, and is not the book that is read");
+    if !is_open(hold) {
         files::release(hold);
         return;
     }
@@ -253,8 +278,7 @@ fn apply(wish: Wish, x: Call, given: bool) {
         return;
     };
     if put(hold, OUT, first(&book, n)) {
-        tell_old(old_of(first(&book, n), x));
-        print::done();
+        tell_changed(old_of(first(&book, n), x));
     }
 }
 

@@ -7,9 +7,10 @@ use libc::PATH_MAX;
 use libc::types::stat;
 use libc::types::timespec;
 
-// What the system says of a name, links followed: whether there is such a file, its kind and mode, and which file it is.
+// What the system says of a name, links followed: whether there is such a file, its kind and mode, and which file it is. Where it is unknown the system does not say: there may be one.
 pub struct Node {
     pub there: bool,
+    pub unknown: bool,
     pub mode: u32,
     pub device: u64,
     pub inode: u64,
@@ -67,12 +68,30 @@ fn blank() -> stat {
     }
 }
 
+// Whether an error says that a path names nothing: no such name, a folder on the way that is none, or a name longer than any is.
+fn is_none(error: i32) -> bool {
+    (error == libc::ENOENT) | (error == libc::ENOTDIR) | (error == libc::ENAMETOOLONG)
+}
+
+// What `stat` answered, asked just after it.
 fn told(r: i32, s: stat) -> Node {
+    let there = r == 0;
     Node {
-        there: r == 0,
+        there,
+        unknown: !there & !is_none(os::errno()),
         mode: s.st_mode,
         device: s.st_dev,
         inode: s.st_ino,
+    }
+}
+
+fn no_node() -> Node {
+    Node {
+        there: false,
+        unknown: false,
+        mode: 0,
+        device: 0,
+        inode: 0,
     }
 }
 
@@ -98,7 +117,7 @@ fn ended(path: &[u8]) -> [u8; PATH_MAX]
 // What the system says of a path; of one that is too long, that there is nothing.
 pub fn node_of(path: &[u8]) -> Node {
     if LAST < path.len() {
-        return told(-1, blank());
+        return no_node();
     }
     let name = ended(path);
     node_at(&name)

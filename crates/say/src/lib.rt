@@ -7,15 +7,39 @@ ghost use mathlib.Core.Path.{_≡_};
 ghost use lib.IntN.{natAbs};
 ghost use Rattle.io.specs.Counts.{Counts};
 
-// Words in one write. Where they do not get out, or not all of them, that is told on standard error: who reads the rest must not take it for
+// Whether standard output is shut already, as `shut` leaves it: a folder, which is open for reading alone and is no file to read. It is asked just after a write that failed.
+fn is_shut() -> bool {
+    if os::errno() != libc::EBADF {
+        return false;
+    }
+    let mut one = [0u8; 1];
+    let got = libc::read(STDOUT_FILENO, &mut one);
+    (got < 0) & (os::errno() == libc::EISDIR)
+}
+
+// Every later write to standard output fails: its number is a folder's, so that no file that is opened later gets it. The lowest free number is given out, which is 0 where standard input
+// is closed too.
+fn shut() {
+    libc::close(STDOUT_FILENO);
+    if os::open_read(b"/") == libc::STDIN_FILENO {
+        os::open_read(b"/");
+    }
+}
+
+// Words in one write. Where they do not get out, or not all of them, that is told on standard error, once, and nothing more gets out: who reads the rest must not take it for
 // the whole.
 pub fn text(words: &[u8]) {
-    if !io::write_all(STDOUT_FILENO, words) {
-        io::write_all(
-            STDERR_FILENO,
-            b"not all could be written to standard output\n",
-        );
+    if io::write_all(STDOUT_FILENO, words) {
+        return;
     }
+    if is_shut() {
+        return;
+    }
+    io::write_all(
+        STDERR_FILENO,
+        b"not all could be written to standard output\n",
+    );
+    shut();
 }
 
 // The first n bytes of a page, in one write: all of it where it has no more.

@@ -1,13 +1,13 @@
 use Prim.Native.Nat.{_-_}
 use borrow.Author.Needs.{needs}
-use Rattle.ledger.proofs.books.is_named.Statement.{statement}
-use Rattle.ledger.proofs.books.is_named.Tie as tie
+use Rattle.ledger.proofs.books.named_in.Statement.{statement}
+use Rattle.ledger.proofs.books.named_in.Tie as tie
 
 abbrev Inv-loop : tie.InvT-loop
-Inv-loop hold from count i₀ i = Unit {0}
+Inv-loop hold from count named₀ i₀ named i = Unit {0}
 
 abbrev μ-loop : tie.MeasureT-loop
-μ-loop hold from count i₀ i = count - i
+μ-loop hold from count named₀ i₀ named i = count - i
 
 loop-holds : tie.Need-loop-holds Inv-loop μ-loop
 loop-holds c = tt
@@ -15,8 +15,8 @@ loop-holds c = tt
 loop-again : tie.Need-loop-again Inv-loop μ-loop
 loop-again c = tt
 
-pub is-named-spec : {M : Type 1} → statement M
-is-named-spec =
+pub named-in-spec : {M : Type 1} → statement M
+named-in-spec =
     tie.close
     (tie.spec
     Inv-loop
@@ -24,6 +24,7 @@ is-named-spec =
     (λ c κs. search needs)
     loop-holds
     (λ c κs. search needs)
+    (λ c. search needs)
     (λ c. search needs)
     (λ c. search needs)
     (λ c. search needs)
