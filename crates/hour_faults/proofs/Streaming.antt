@@ -1,24 +1,32 @@
 -- What the end of a line, a step and the end of the file do to what a finder would find. Assumes nothing.
 use mathlib.Core.Path.{_≡_, refl, ap, sym, _∙_}
-use mathlib.Core.Bool.{Bool, true, false, cond, not, _&&_}
-use mathlib.Core.List.{List, [], _∷_, _++_, append-assoc}
+use mathlib.Core.Bool.{Bool, true, false, cond, not, _&&_, _||_}
+use mathlib.Core.List.{List, [], _∷_, _++_, map, append-assoc}
 use Prim.Native.Nat.{ℕ, suc, _+_, _≤_, _<_}
-use lib.Dec.{eqb}
-use lib.ListN.{length, getD, drop, replicate, drop-of-length-le}
-use borrow.Author.Tests.{ne-eqb}
-use Rattle.row.specs.Numbers.{lineFeed}
+use native.Mathlib.Omega.{arith}
+use lib.Dec.{eqb, leb}
+use lib.ListN.{length, getD, take, drop, replicate, drop-of-length-le, length-take, length-append}
+use borrow.Author.Tests.{eq-eqb, ne-eqb, not-true, leb-true}
+use Rattle.le.proofs.Tests.{each}
+use Rattle.row.specs.Numbers.{lineFeed, partsOf}
+use Rattle.row.specs.Meaning.{mostColumns}
 use Rattle.row.proofs.Left.{next-byte}
 use Rattle.grid.specs.declared.Grid.{Grid}
 use Rattle.grid.specs.declared.Step.{Step}
-use Rattle.grid.specs.Meaning.{headLeft, blankLeft, rowLeft, blanksThen, lineThen, rowsLeft, rowsAfter, StepFrom, Next}
+use Rattle.grid.specs.Grid.{comma, unquoted}
+use Rattle.grid.specs.Told.{told}
+use Rattle.grid.specs.Meaning.{toldLeft, cellsLeft, plainLeft, headLeft, blankLeft, rowLeft, blanksThen, lineThen, rowsLeft, rowsAfter, StepFrom, Next}
 use Rattle.grid.proofs.Rows.{blanks-none, feed, ends}
+use Rattle.hours.specs.Hours.{hourColumns}
 use Rattle.hours.specs.Inner.{oneIf}
+use Rattle.hours.proofs.Lost.{rows-begin}
 use Rattle.faults.specs.Inner.{asTold}
+use Rattle.hour_faults.specs.declared.HourWrong.the-variants.{Columns}
 use Rattle.hour_faults.specs.declared.HourFound.{HourFound}
 use Rattle.hour_faults.specs.declared.judge.Judge.{Judge}
 use Rattle.hour_faults.specs.declared.Finder.{Finder}
 use Rattle.hour_faults.specs.HourFaults.{isSound, rowFault}
-use Rattle.hour_faults.specs.Inner.{judgeFault, judgeRefusing, judgeOf, judgeAll, judgeAfter, blankAfter, firstLeft, foundBy, judgeLeft, finderIsSettled, foundLeft}
+use Rattle.hour_faults.specs.Inner.{judgeFault, judgeRefusing, judgeOf, judgeAll, judgeAfter, blankAfter, firstLeft, foundBy, judgeLeft, isSpoilt, finderIsSettled, foundLeft}
 
 -- A fault that was found stays
 
@@ -120,12 +128,82 @@ pub found-ends : (f : Finder) (first : ℕ) (j : Judge) (found : HourFound) → 
 unfolding foundLeft judgeLeft
 found-ends f first j found a b e = e ∙ (λ i. foundBy (a i) ((b ∙ left-ends (f .judge) (f .blank) (f .grid) (f .ended)) i))
 
-pub settled-is : (f : Finder) (t : Bool) → t ≡ isSound (f .judge .wrong) → (not t && not (eqb (f .first) 0)) ≡ finderIsSettled f
-unfolding finderIsSettled
-settled-is f t e = ap (λ (b : Bool). not b && not (eqb (f .first) 0)) e
+-- Settled
 
 pub found-settled : (f : Finder) → isSound (f .judge .wrong) ≡ false → (f .first ≡ 0 → ⊥) → (rest : List ℕ) → foundLeft f rest ≡ foundLeft f []
 unfolding foundLeft judgeLeft firstLeft
 found-settled f h n rest = rw (ne-eqb (f .first) 0 n)
     (λ i. foundBy (f .first) ((stays (rowsLeft asTold (oneIf (f .blank)) (f .grid) (f .ended) rest) (f .judge) h
     ∙ sym (stays (rowsLeft asTold (oneIf (f .blank)) (f .grid) (f .ended) []) (f .judge) h)) i))
+
+-- a row of eight cells has too many, whatever they say
+eight : (j : Judge) → isSound (j .wrong) ≡ true → (row : List ℕ) → length row ≡ 8 → judgeOf j row ≡ judgeRefusing j (Columns 8 hourColumns)
+unfolding judgeOf judgeFault rowFault isSound
+eight j h row long = rw (h, long)
+
+-- a line with an eighth cell is one
+cells-eight : (grid : Grid) (ended : List ℕ) → length ended ≡ 8 → hourColumns ≤ grid .at → (l : List ℕ) → length (rowLeft asTold grid ended l) ≡ 8
+unfolding rowLeft
+cells-eight grid ended long h l = go (partsOf comma (plainLeft (grid .shut) l))
+  where
+    many : (c : ℕ) (more : List ℕ) → length (take mostColumns (take (grid .at) ended ++ c ∷ more)) ≡ 8
+    many c more =
+        omega (arith, h, long, length-take mostColumns (take (grid .at) ended ++ c ∷ more), length-append (take (grid .at) ended) (c ∷ more), length-take (grid .at) ended)
+
+    go : (ps : List (List ℕ)) → length (cellsLeft (grid .at) ended (grid .cell) ps) ≡ 8
+    go [] = many (toldLeft (grid .cell) []) []
+    go (p ∷ ps) = many (toldLeft (grid .cell) p) (map told (map unquoted ps))
+
+module _ (f : Finder) (long : length (f .ended) ≡ 8) (on : isSound (f .judge .wrong) ≡ true) (head : headLeft (f .grid) [] ≡ false) (filled : blankLeft (f .grid) [] ≡ false) where
+  -- what the judge has come to then
+  spoiltJudge : Bool → Judge
+  spoiltJudge true = judgeOf (f .judge) []
+  spoiltJudge false = judgeRefusing (f .judge) (Columns 8 hourColumns)
+
+  spoilt-judge : (blank : Bool) → (blank || leb hourColumns (f .grid .at)) ≡ true → (rest : List ℕ) → leftBy (f .judge) blank (f .grid) (f .ended) rest ≡ spoiltJudge blank
+  unfolding spoiltJudge oneIf judgeAll judgeRefusing isSound
+  spoilt-judge true h rest =
+      let b = rows-begin (f .grid) (f .ended) head filled asTold 1 rest in
+      ap (judgeAll (f .judge)) (b .is) ∙ stays (rowLeft asTold (f .grid) (f .ended) (b .left) ∷ b .more) (judgeOf (f .judge) []) (spoils (f .judge))
+  spoilt-judge false h rest =
+      let b = rows-begin (f .grid) (f .ended) head filled asTold 0 rest in
+      let row = rowLeft asTold (f .grid) (f .ended) (b .left) in
+      let one = eight (f .judge) on row (cells-eight (f .grid) (f .ended) long (leb-true hourColumns (f .grid .at) h) (b .left)) in
+      ap (judgeAll (f .judge)) (b .is) ∙ ap (λ (j : Judge). judgeAll j (b .more)) one ∙ stays (b .more) (judgeRefusing (f .judge) (Columns 8 hourColumns)) (refuses (f .judge))
+    where
+      refuses : (j : Judge) → isSound (judgeRefusing j (Columns 8 hourColumns) .wrong) ≡ false
+      refuses j = refl
+
+pub found-spoilt : (f : Finder) → length (f .ended) ≡ 8 → isSound (f .judge .wrong) ≡ true → (f .first ≡ 0 → ⊥) → isSpoilt f ≡ true → (rest : List ℕ) → foundLeft f rest ≡ foundLeft f []
+unfolding foundLeft judgeLeft firstLeft isSpoilt
+found-spoilt f long on n h rest =
+    let p = each (not (headLeft (f .grid) [])) ((not (blankLeft (f .grid) []) && (f .blank || leb hourColumns (f .grid .at))) ∷ []) h in
+    let q = each (not (blankLeft (f .grid) [])) ((f .blank || leb hourColumns (f .grid .at)) ∷ []) (p .1 .0) in
+    let is = spoilt-judge f long on (not-true _ (p .0)) (not-true _ (q .0)) (f .blank) (q .1 .0) in
+    rw (ne-eqb (f .first) 0 n) (λ i. foundBy (f .first) ((is rest ∙ sym (is [])) i))
+
+-- the test, by its returns
+module _ (f : Finder) where
+  pub spoilt-heading : headLeft (f .grid) [] ≡ true → false ≡ isSpoilt f
+  unfolding isSpoilt
+  spoilt-heading h = rw h
+
+  pub spoilt-blank : headLeft (f .grid) [] ≡ false → blankLeft (f .grid) [] ≡ true → false ≡ isSpoilt f
+  unfolding isSpoilt
+  spoilt-blank h b = rw (h, b)
+
+  pub spoilt-line : headLeft (f .grid) [] ≡ false → blankLeft (f .grid) [] ≡ false → (f .blank || leb hourColumns (f .grid .at)) ≡ isSpoilt f
+  unfolding isSpoilt
+  spoilt-line h b = rw (h, b)
+
+  pub unknown-line : f .first ≡ 0 → false ≡ finderIsSettled f
+  unfolding finderIsSettled
+  unknown-line e = rw (eq-eqb (f .first) 0 e)
+
+  pub known-fault : (f .first ≡ 0 → ⊥) → isSound (f .judge .wrong) ≡ false → true ≡ finderIsSettled f
+  unfolding finderIsSettled
+  known-fault n h = rw (ne-eqb (f .first) 0 n, h)
+
+  pub by-line : (f .first ≡ 0 → ⊥) → isSound (f .judge .wrong) ≡ true → (t : Bool) → t ≡ isSpoilt f → t ≡ finderIsSettled f
+  unfolding finderIsSettled
+  by-line n h t e = e ∙ sym (λ i. not (ne-eqb (f .first) 0 n i) && (not (h i) || isSpoilt f))

@@ -1,12 +1,13 @@
 -- What a finder keeps of the lines that it has judged, and what it would find, whatever follows. It serves the contracts of the finder alone; what is wrong with a ramping
 -- file is in HourFaults. Assumes nothing.
-use mathlib.Core.Bool.{Bool, cond, not, _&&_}
+use mathlib.Core.Bool.{Bool, cond, not, _&&_, _||_}
 use mathlib.Core.List.{List, [], _∷_}
 use Prim.Native.Nat.{ℕ, _+_, _%_, _^_}
-use lib.Dec.{eqb}
+use lib.Dec.{eqb, leb}
 use lib.ListN.{getD}
 use Rattle.grid.specs.declared.Grid.{Grid}
 use Rattle.grid.specs.Meaning.{headLeft, blankLeft, rowLeft, rowsLeft}
+use Rattle.hours.specs.Hours.{hourColumns}
 use Rattle.hours.specs.Inner.{oneIf}
 use Rattle.faults.specs.Faults.{firstLine}
 use Rattle.faults.specs.Inner.{asTold}
@@ -82,9 +83,13 @@ foundBy first j = cond (isSound (j .wrong)) noneFound (record { line = (first + 
 unfoldable pub judgeLeft : Finder → List ℕ → Judge
 judgeLeft f rest = judgeAll (f .judge) (rowsLeft asTold (oneIf (f .blank)) (f .grid) (f .ended) rest)
 
--- a fault was found, at a line that is known: no bytes that follow change it
+-- the line that is being read has its fault whatever follows: it is no heading and not blank, and a blank line is held back before it, or an eighth cell is begun
+unfoldable pub isSpoilt : Finder → Bool
+isSpoilt f = not (headLeft (f .grid) []) && (not (blankLeft (f .grid) []) && (f .blank || leb hourColumns (f .grid .at)))
+
+-- a fault was found, or the line that is being read has it, at a line that is known: no bytes that follow change it
 unfoldable pub finderIsSettled : Finder → Bool
-finderIsSettled f = not (isSound (f .judge .wrong)) && not (eqb (f .first) 0)
+finderIsSettled f = not (eqb (f .first) 0) && (not (isSound (f .judge .wrong)) || isSpoilt f)
 
 -- WHAT IS FOUND then
 unfoldable pub foundLeft : Finder → List ℕ → HourFound

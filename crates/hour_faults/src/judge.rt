@@ -16,7 +16,7 @@ ghost use Rattle.hour_faults.specs.HourFaults.{orElse, cellsFault, actio
 ghost use Rattle.hour_faults.specs.Inner.{judgeFirst, filledFor, standardFor, judgeFault, judgeTaking, judgeRefusing, judgeOf, judgeAfter};
 
 // A line has seven cells.
-const COLUMNS: usize = 7;
+pub const COLUMNS: usize = 7;
 
 // The fault of the first bad line, or that there is none so far; the hours of the month; how many lines were sound before it, the hour of the last of them (else 0), how
 // many actions that has, and the standard rate of its first.

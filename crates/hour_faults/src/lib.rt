@@ -4,6 +4,7 @@ pub mod words;
 
 use grid::Grid;
 use hours::month_hours;
+use judge::COLUMNS;
 use judge::Judge;
 use ramp::actions::MOST_DELAY;
 use ramp::actions::MOST_OVER_STANDARD;
@@ -21,7 +22,7 @@ ghost use lib.ListN.{getD};
 ghost use Rattle.ramp.specs.Ramping.{mostRampRate};
 ghost use Rattle.hour_faults.specs.HourFaults.{isSound, orElse, columnFault, monthFault, cellsFault, risingFault, fullFault, standardFault, fastFault, moveFault, actionFault, firstHourFault};
 ghost use Rattle.hours.specs.Hours.{monthHours};
-ghost use Rattle.hour_faults.specs.Inner.{blankAfter, firstLeft, foundBy, finderIsSettled, foundLeft};
+ghost use Rattle.hour_faults.specs.Inner.{blankAfter, firstLeft, foundBy, isSpoilt, finderIsSettled, foundLeft};
 
 // What is wrong with a line: nothing; it is blank, with another behind it; so many cells, and so many that it should have; a column, counted from 1, that has no number;
 // one whose number is outside its limits, with these; an hour below that of the line before, with that; an hour that has 60 actions before it; a standard rate of an hour
@@ -284,14 +285,35 @@ impl Finder {
         }
     }
 
-    // Whether the fault is known. No bytes that follow change it then.
+    // Whether the line that is being read has its fault whatever follows: it is neither a heading nor blank, and a blank line is held back before it, or it has too many cells.
+    // Of any other line only its end tells what is wrong with it: before that there may be too few.
+    fn is_spoilt(self) -> bool
+        ensures { λ r. ⌜ r ≡ isSpoilt self ⌝ }
+    {
+        let grid = self.grid;
+        if grid.is_heading() {
+            return false;
+        }
+        if grid.is_blank() {
+            return false;
+        }
+        self.blank | (COLUMNS <= grid.at)
+    }
+
+    // Whether the fault is known, and its line. No bytes that follow change it then.
     pub fn is_settled(self) -> bool
         ensures { λ r. ⌜ r ≡ finderIsSettled self ⌝ }
         ensures { λ r. ⌜ (r ≡ true → (rest : List ℕ) → foundLeft self rest ≡ foundLeft self []) ⌝ }
     {
+        if self.first == 0 {
+            return false;
+        }
         let judge = self.judge;
         let wrong = judge.wrong;
-        !is_sound(wrong) & (self.first != 0)
+        if !is_sound(wrong) {
+            return true;
+        }
+        self.is_spoilt()
     }
 
     // The first fault, if the file ends here.

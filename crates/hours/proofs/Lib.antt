@@ -3,6 +3,7 @@ pub mod Adding
 pub mod Sound
 pub mod Taking
 pub mod Typing
+pub mod Lost
 pub mod Paying
 pub mod Streaming
 pub mod Exact

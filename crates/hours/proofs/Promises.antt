@@ -1,6 +1,6 @@
 -- What reading a ramping file promises: the lowest bad line is told, otherwise every hour; however the bytes come in; and the sum is the hours' sum. Assumes nothing.
 use mathlib.Core.Path.{_≡_, refl, ap, sym, _∙_}
-use mathlib.Core.Bool.{Bool, true}
+use mathlib.Core.Bool.{Bool, true, false}
 use mathlib.Core.List.{List, [], _∷_, _++_, map}
 use Prim.Native.Nat.{ℕ, zero, suc, _*_, _+_, _≤_, _<_}
 use native.Mathlib.Nat.{zero-add, add-zero, suc-add, add-suc}
@@ -23,9 +23,8 @@ use Rattle.hours.specs.declared.Hours.{Hours}
 use Rattle.hours.specs.declared.Reader.{Reader}
 use Rattle.hours.specs.Hours.{mostHours, ofHour, hourLines, paysFrom, grainsSum, isFault, hoursRefused, hoursPaid, readHours}
 use Rattle.hours.specs.Outcomes.{LineWithinAt, LinesWithin, MayRead, HoursOutcome, bad-member, other-kind, bad-line, paid}
-use Rattle.hours.specs.Stream.{endedPart, HasRead, Settled}
+use Rattle.hours.specs.Stream.{endedPart, HasRead, Settled, readerIsSettled, Stops}
 use Rattle.hours.proofs.Sound.{good-most, good-sound, AllSound, all-sound}
-use Rattle.hours.proofs.Streaming.{settled}
 use Rattle.hours.proofs.Exact.{none-bad, hours-exact}
 
 -- the line of a fault, from 1 on
@@ -210,8 +209,12 @@ module _ (m : Member) (hours : ℕ) where
     stream-answer t h = h m hours text k
 
     -- A FAULT THAT IS KNOWN STAYS: no bytes that follow change the answer.
-    pub stops-late-enough : ((m : Member) (hours : ℕ) (x : List ℕ) → HasRead m hours r x → true ≡ isFault (readHours m hours (endedPart x) .fault)) → Settled m hours text
-    stops-late-enough t = settled m hours r text k (sym (t m hours text k))
+    pub stops-late-enough : ((m : Member) (hours : ℕ) (x : List ℕ) → HasRead m hours r x → Stops m hours x true) → Settled m hours text
+    stops-late-enough t = t m hours text k .late refl
+
+    -- AND IT IS KNOWN BY THE END OF ITS LINE at the latest: where reading goes on, no line that has ended has one.
+    pub stops-soon-enough : ((m : Member) (hours : ℕ) (x : List ℕ) → HasRead m hours r x → Stops m hours x false) → isFault (readHours m hours (endedPart text) .fault) ≡ true → ⊥
+    stops-soon-enough t f = holds-or-fails (t m hours text k .soon f) refl
 
 -- Two outcomes that a contract allows are one
 
@@ -224,8 +227,6 @@ pub finish-determined : (m : Member) (hours : ℕ) (text : List ℕ) (r s : Read
     → ((m : Member) (hours : ℕ) (x : List ℕ) → HasRead m hours s x → u ≡ readHours m hours x) → t ≡ u
 finish-determined m hours text r s a b t u e f = e m hours text a ∙ sym (f m hours text b)
 
--- and know of a fault at the same byte.
-pub settled-determined : (m : Member) (hours : ℕ) (text : List ℕ) (r s : Reader) → HasRead m hours r text → HasRead m hours s text → (t u : Bool)
-    → ((m : Member) (hours : ℕ) (x : List ℕ) → HasRead m hours r x → t ≡ isFault (readHours m hours (endedPart x) .fault))
-    → ((m : Member) (hours : ℕ) (x : List ℕ) → HasRead m hours s x → u ≡ isFault (readHours m hours (endedPart x) .fault)) → t ≡ u
-settled-determined m hours text r s a b t u e f = e m hours text a ∙ sym (f m hours text b)
+-- and one reader says the same of whether to stop.
+pub settled-determined : (r : Reader) (t u : Bool) → t ≡ readerIsSettled r → u ≡ readerIsSettled r → t ≡ u
+settled-determined r t u e f = e ∙ sym f

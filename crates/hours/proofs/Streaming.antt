@@ -1,6 +1,6 @@
 -- What a step, a line feed and the end of the file do to what a reader has read. Assumes nothing.
 use mathlib.Core.Path.{_≡_, refl, ap, sym, _∙_, subst}
-use mathlib.Core.Bool.{Bool, true, false, cond, not, _||_}
+use mathlib.Core.Bool.{Bool, true, false, cond, not, _&&_, _||_}
 use mathlib.Core.List.{List, [], _∷_, _++_, map, append-assoc, append-nil}
 use Prim.Native.Nat.{ℕ, suc, _+_, _≤_, _<_}
 use native.Mathlib.Numerals.{add-one}
@@ -9,7 +9,7 @@ use lib.Dec.{eqb, ltb}
 use lib.ListN.{length, take, drop, getD, replicate, length-drop, length-append}
 use lib.Seq.{take-suc, take-add, take-append-seam, append-snoc}
 use borrow.Author.Tests.{ne-eqb, eqb-false, not-true}
-use Rattle.le.proofs.Tests.{each}
+use Rattle.le.proofs.Tests.{each, holds-or-fails}
 use Rattle.row.specs.Numbers.{lineFeed}
 use Rattle.row.proofs.Texts.{or-true}
 use Rattle.pay.specs.declared.Member.{Member}
@@ -19,13 +19,15 @@ use Rattle.grid.specs.Grid.{rowsOf}
 use Rattle.grid.specs.Meaning.{rowBy, headLeft, blankLeft, rowLeft, blanksThen, lineThen, linesBy, rowsLeft, rowsAfter, noFeed, StepFrom, Starts, Next}
 use Rattle.grid.proofs.Rows.{blanks-none, numbers-rows, feed, ends}
 use Rattle.hours.specs.declared.HourLine.{HourLine}
+use Rattle.hours.specs.declared.HoursFault.the-variants.{AtLine}
 use Rattle.hours.specs.declared.Hours.{Hours}
 use Rattle.hours.specs.declared.sheet.Sheet.{Sheet}
 use Rattle.hours.specs.declared.Reader.{Reader}
 use Rattle.hours.specs.Hours.{hourColumns, asHourLine, hourLines, isFault, hoursRefused, hoursPaid, readHours}
-use Rattle.hours.specs.Inner.{endedLines, heldAfter, linesSay, Judged}
-use Rattle.hours.specs.Stream.{hasFeed, endedPart, HasRead, Settled}
-use Rattle.hours.proofs.Taking.{refused-answer, answers}
+use Rattle.hours.specs.Inner.{endedLines, heldAfter, isLost, linesSay, Judged}
+use Rattle.hours.specs.Stream.{hasFeed, endedPart, HasRead, Settled, isSpoilt, readerIsSettled, Stops}
+use Rattle.hours.proofs.Taking.{bad-refused, refused-answer, answers}
+use Rattle.hours.proofs.Lost.{begins-bad}
 
 -- The part of a text that has ended
 
@@ -94,6 +96,29 @@ none-after k grid = refl
 abbrev pub GoesOn : Bool → Grid → List ℕ → Sheet → Sheet → Type 0
 GoesOn blank grid ended s r =
     (m : Member) (hours : ℕ) (ls : List HourLine) (held : ℕ) → blank ≡ ltb 0 held → Judged m hours ls s → Judged m hours (ls ++ endedLines held grid ended) r
+
+-- The line that is being read
+
+module _ (r : Reader) where
+  pub spoilt-heading : headLeft (r .grid) [] ≡ true → false ≡ isSpoilt r
+  unfolding isSpoilt
+  spoilt-heading h = rw h
+
+  pub spoilt-blank : headLeft (r .grid) [] ≡ false → blankLeft (r .grid) [] ≡ true → false ≡ isSpoilt r
+  unfolding isSpoilt
+  spoilt-blank h b = rw (h, b)
+
+  pub spoilt-line : headLeft (r .grid) [] ≡ false → blankLeft (r .grid) [] ≡ false → (t : Bool) → t ≡ isLost (r .grid) (r .ended) → (r .blank || t) ≡ isSpoilt r
+  unfolding isSpoilt
+  spoilt-line h b t e = rw (h, b, e)
+
+  pub settled-refused : r .sheet .refused ≡ true → true ≡ readerIsSettled r
+  unfolding readerIsSettled
+  settled-refused h = ap (λ (t : Bool). t || isSpoilt r) (sym h)
+
+  pub settled-spoilt : r .sheet .refused ≡ false → (t : Bool) → t ≡ isSpoilt r → t ≡ readerIsSettled r
+  unfolding readerIsSettled
+  settled-spoilt h t e = e ∙ ap (λ (u : Bool). u || isSpoilt r) (sym h)
 
 module _ (m : Member) (hours : ℕ) where
   -- The start
@@ -189,6 +214,31 @@ module _ (m : Member) (hours : ℕ) where
         let no' = k .ended .no (settles ∙ f) in
         said m hours (text ++ rest) ∙ ap (linesSay m hours) (k .left rest) ∙ no' .stays (map asHourLine (rowsLeft (rowBy hourColumns) (k .held) (r .grid) (r .ended) rest))
         ∙ sym (said m hours text ∙ ap (linesSay m hours) ends-here ∙ no' .stays (endedLines (k .held) (r .grid) (r .ended)))
+
+    -- what the test of a reader that knows no fault of a line that has ended promises
+    module _ (on : r .sheet .refused ≡ false) (long : length (r .ended) ≡ 8) where
+      spoilt-answer : isSpoilt r ≡ true → (rest : List ℕ) → readHours m hours (text ++ rest) ≡ hoursRefused (AtLine (r .sheet .count))
+      unfolding done isSpoilt
+      spoilt-answer h rest =
+          let p = each (not (headLeft (r .grid) [])) ((not (blankLeft (r .grid) []) && (r .blank || isLost (r .grid) (r .ended))) ∷ []) h in
+          let q = each (not (blankLeft (r .grid) [])) ((r .blank || isLost (r .grid) (r .ended)) ∷ []) (p .1 .0) in
+          let taken = k .ended .yes on in
+          let begins =
+          begins-bad (r .grid) (r .ended) long hours (taken .month .1) done (not-true _ (p .0)) (not-true _ (q .0)) (k .held)
+          (ap (λ (t : Bool). t || isLost (r .grid) (r .ended)) (sym (k .blank)) ∙ q .1 .0) rest in
+          let l = asHourLine (begins .row) in
+          let more = map asHourLine (begins .more) in
+          said m hours (text ++ rest) ∙ ap (linesSay m hours) (k .left rest ∙ ap (λ (rows : List (List ℕ)). done ++ map asHourLine rows) (begins .is) ∙ sym (append-snoc done l more))
+          ∙ bad-refused m hours done (r .sheet) taken l (begins .bad) .stays more
+
+      spoilt-settled : isSpoilt r ≡ true → Settled m hours text
+      spoilt-settled h rest = spoilt-answer h rest ∙ sym (spoilt-answer h []) ∙ ap (readHours m hours) (append-nil text)
+
+      pub stops-spoilt : (test : Bool) → test ≡ isSpoilt r → Stops m hours text test
+      stops-spoilt test e = record { soon = λ f. absurd (holds-or-fails (settles ∙ f) on); late = λ t. spoilt-settled (sym e ∙ t) }
+
+    pub stops-refused : r .sheet .refused ≡ true → Stops m hours text true
+    stops-refused h = record { soon = λ f. refl; late = λ t. settled (sym settles ∙ h) }
 
 -- Many bytes
 

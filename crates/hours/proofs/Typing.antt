@@ -95,7 +95,7 @@ told-fits (a ∷ b ∷ c ∷ d ∷ e ∷ f ∷ ns) x l h =
       le-leb x ceiling (omega arith),
     )
 
-blank-fair : blankHourLine ≡ fairHourLine (asHourLine [])
+pub blank-fair : blankHourLine ≡ fairHourLine (asHourLine [])
 unfolding asHourLine fairHourLine hourLineFits blankHourLine noAction
 blank-fair = refl
 

@@ -1,11 +1,14 @@
 -- What the inner contracts speak of, and no sentence of the request: the line that is being read, and the lines judged so far. What a file says is in Hours. Assumes
 -- nothing.
 use mathlib.Core.Path.{_≡_}
-use mathlib.Core.Bool.{Bool, true, false, cond, not, _&&_}
+use mathlib.Core.Bool.{Bool, true, false, cond, not, _&&_, _||_}
 use mathlib.Core.List.{List, [], _∷_, _++_, map}
 use Prim.Native.Nat.{ℕ, suc, _-_, _≤_}
 use lib.Dec.{eqb, ltb, leb}
 use lib.ListN.{length, getD, take, replicate}
+use Rattle.row.specs.Numbers.{ceiling}
+use Rattle.grid.specs.declared.cell.Cell.{Cell}
+use Rattle.grid.specs.declared.cell.Cell.the-variants.{Fresh, Bare, Opened, Quoted, Dashed, Closed, Bad}
 use Rattle.grid.specs.declared.Grid.{Grid}
 use Rattle.grid.specs.Meaning.{rowBy, headLeft, blankLeft, rowLeft}
 use Rattle.pay.specs.declared.Member.{Member}
@@ -58,6 +61,25 @@ endedLines held grid ended =
 -- how many blank lines are held back then
 unfoldable pub heldAfter : ℕ → Grid → ℕ
 heldAfter held grid = cond (headLeft grid []) held (cond (blankLeft grid []) (suc held) 0)
+
+-- the open cell is no number or past every limit, whatever follows of it: all that stands for no number is above 10^12, which is above every limit
+abbrev pub isPast : Cell → Bool
+isPast Fresh = false
+isPast (Bare v) = leb ceiling v
+isPast Opened = false
+isPast (Quoted v) = leb ceiling v
+isPast Dashed = true
+isPast (Closed n) = leb ceiling n
+isPast Bad = true
+
+-- one of the cells that ended is
+unfoldable pub somePast : List ℕ → Bool
+somePast [] = false
+somePast (n ∷ ns) = leb ceiling n || somePast ns
+
+-- NO BYTES CAN MEND THE LINE: an eighth cell is begun, or a cell is no number or past every limit
+unfoldable pub isLost : Grid → List ℕ → Bool
+isLost grid ended = leb hourColumns (grid .at) || (somePast (take (grid .at) ended) || isPast (grid .cell))
 
 -- 1 where something is so, else 0
 unfoldable pub oneIf : Bool → ℕ

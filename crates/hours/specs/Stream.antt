@@ -1,15 +1,15 @@
 -- A ramping file that comes as a stream, in whatever parts: what a reader has read of it, and when its fault is known. Assumes nothing.
 use mathlib.Core.Path.{_≡_}
-use mathlib.Core.Bool.{Bool, false, cond, _||_}
+use mathlib.Core.Bool.{Bool, true, false, cond, not, _&&_, _||_}
 use mathlib.Core.List.{List, [], _∷_, _++_, map}
 use Prim.Native.Nat.{ℕ}
 use lib.Dec.{eqb, ltb}
 use Rattle.row.specs.Numbers.{lineFeed}
-use Rattle.grid.specs.Meaning.{rowBy, rowsLeft}
+use Rattle.grid.specs.Meaning.{rowBy, headLeft, blankLeft, rowsLeft}
 use Rattle.pay.specs.declared.Member.{Member}
 use Rattle.hours.specs.declared.Reader.{Reader}
-use Rattle.hours.specs.Hours.{hourColumns, asHourLine, hourLines, readHours}
-use Rattle.hours.specs.Inner.{Judged}
+use Rattle.hours.specs.Hours.{hourColumns, asHourLine, hourLines, isFault, readHours}
+use Rattle.hours.specs.Inner.{isLost, Judged}
 
 -- a line ends in these bytes
 unfoldable pub hasFeed : List ℕ → Bool
@@ -32,3 +32,18 @@ pub record HasRead (m : Member) (hours : ℕ) (reader : Reader) (text : List ℕ
 -- no bytes that follow change what the text says
 abbrev pub Settled : Member → ℕ → List ℕ → Type 0
 Settled m hours text = (rest : List ℕ) → readHours m hours (text ++ rest) ≡ readHours m hours text
+
+-- When reading stops
+
+-- the line that is being read is bad whatever follows: it is no heading and not blank, and a blank line is held back before it, or no bytes can mend it
+unfoldable pub isSpoilt : Reader → Bool
+isSpoilt r = not (headLeft (r .grid) []) && (not (blankLeft (r .grid) []) && (r .blank || isLost (r .grid) (r .ended)))
+
+-- the fault is known: of the member or a line that has ended, or of the line that is being read
+unfoldable pub readerIsSettled : Reader → Bool
+readerIsSettled r = r .sheet .refused || isSpoilt r
+
+-- a test whether to stop behind a text: true at the latest where a line with a fault has ended, and only where no bytes that follow change the answer
+pub record Stops (m : Member) (hours : ℕ) (text : List ℕ) (test : Bool) : Type 0 where
+  pub soon : isFault (readHours m hours (endedPart text) .fault) ≡ true → test ≡ true
+  pub late : test ≡ true → Settled m hours text

@@ -5,6 +5,7 @@ mod sheet;
 mod sums;
 
 use grid::Grid;
+use line::is_lost;
 use pay::Member;
 use ramp::Action;
 use row::MOST_COLUMNS;
@@ -15,9 +16,9 @@ ghost use mathlib.Core.List.{List, [], _++_};
 ghost use Prim.Native.Nat.{ℕ};
 ghost use lib.Dec.{ltb};
 ghost use Rattle.pay.specs.declared.Member.{Member};
-ghost use Rattle.hours.specs.Hours.{monthHours, isFault, readHours};
+ghost use Rattle.hours.specs.Hours.{monthHours, readHours};
 ghost use Rattle.hours.specs.Inner.{heldAfter};
-ghost use Rattle.hours.specs.Stream.{HasRead, endedPart};
+ghost use Rattle.hours.specs.Stream.{HasRead, isSpoilt, readerIsSettled, Stops};
 
 // The hours of 31 days.
 pub const MOST_HOURS: usize = 744;
@@ -115,12 +116,31 @@ impl Reader {
         }
     }
 
-    // Whether a fault is known: of the member, or of a line that has ended. No bytes that follow change the answer then.
+    // Whether the line that is being read is bad whatever follows: it is neither a heading nor blank, and a blank line is held back before it, or no bytes can mend it.
+    fn is_spoilt(self) -> bool
+        ensures { λ r. ⌜ r ≡ isSpoilt self ⌝ }
+    {
+        let grid = self.grid;
+        let ended = self.ended;
+        if grid.is_heading() {
+            return false;
+        }
+        if grid.is_blank() {
+            return false;
+        }
+        self.blank | is_lost(grid, ended)
+    }
+
+    // Whether a fault is known: of the member, of a line that has ended, or of one that no bytes can mend. Nothing that follows changes the answer then.
     pub fn is_settled(self) -> bool
-        ensures { λ r. ⌜ ((m : Member) (hours : ℕ) (text : List ℕ) → HasRead m hours self text → r ≡ isFault (readHours m hours (endedPart text) .fault)) ⌝ }
+        ensures { λ r. ⌜ r ≡ readerIsSettled self ⌝ }
+        ensures { λ r. ⌜ ((m : Member) (hours : ℕ) (text : List ℕ) → HasRead m hours self text → Stops m hours text r) ⌝ }
     {
         let sheet = self.sheet;
-        sheet.refused
+        if sheet.refused {
+            return true;
+        }
+        self.is_spoilt()
     }
 
     // The answer, if the file ends here.

@@ -1,13 +1,17 @@
 // The line that is being read: seven numbers parted by commas, of which the last one read may still grow.
 use crate::HourLine;
 use grid::Grid;
+use grid::cell::Cell;
 use ramp::Action;
+use row::CEILING;
 use row::MOST_COLUMNS;
 use units::Kw;
 ghost use mathlib.Core.Path.{_≡_};
+ghost use Prim.Native.Nat.{_≤_};
+ghost use lib.ListN.{take};
 ghost use Rattle.ramp.specs.Ramping.{noAction};
 ghost use Rattle.hours.specs.Hours.{asHourLine};
-ghost use Rattle.hours.specs.Inner.{blankHourLine, fairHourLine, endedLine, sevenOf};
+ghost use Rattle.hours.specs.Inner.{blankHourLine, fairHourLine, endedLine, sevenOf, isPast, somePast, isLost};
 
 // A line is seven numbers.
 const COLUMNS: usize = 7;
@@ -85,4 +89,45 @@ pub fn line_in(grid: Grid, ended: [u64; MOST_COLUMNS]) -> HourLine
         return typed(ended, cell.told());
     }
     blank_hour_line()
+}
+
+// Whether a cell is no number or past every limit, whatever follows of it.
+fn is_past(cell: Cell) -> bool
+    ensures { λ r. ⌜ r ≡ isPast cell ⌝ }
+{
+    match cell {
+        Cell::Fresh => false,
+        Cell::Bare(v) => CEILING <= v,
+        Cell::Opened => false,
+        Cell::Quoted(v) => CEILING <= v,
+        Cell::Dashed => true,
+        Cell::Closed(n) => CEILING <= n,
+        Cell::Bad => true,
+    }
+}
+
+// Whether one of the first n cells is.
+fn some_past(ended: [u64; MOST_COLUMNS], n: usize) -> bool
+    requires { ⌜ n ≤ 8 ⌝ }
+    ensures { λ r. ⌜ r ≡ somePast (take n ended) ⌝ }
+{
+    let mut i: usize = 0;
+    while i < n {
+        if CEILING <= ended[i] {
+            return true;
+        }
+        i += 1;
+    }
+    false
+}
+
+// Whether no bytes that follow make the line one that is taken: one of its cells is no number or past every limit, or an eighth is begun.
+pub fn is_lost(grid: Grid, ended: [u64; MOST_COLUMNS]) -> bool
+    ensures { λ r. ⌜ r ≡ isLost grid ended ⌝ }
+{
+    if COLUMNS <= grid.at {
+        return true;
+    }
+    let cell = grid.cell;
+    some_past(ended, grid.at) | is_past(cell)
 }

@@ -1,14 +1,22 @@
 // The first fault of a ramping file by its name, read a second time, as a stream again: nothing of the first reading is kept but where the file was refused.
 ghost use Prim.Native.Nat.{_<_};
-use crate::MOST_READS;
+use crate::Found;
+use crate::MOST_BYTES;
+use crate::without;
 use hour_faults::Finder;
 use hour_faults::HourFound;
 
-// The finder, whether every read so far went well, and how many more reads are made, none behind the last.
+// The fault, and what became of the file: where that was not read to its end, or until its fault was known, none.
+pub struct Reread {
+    pub fault: HourFound,
+    pub found: Found,
+}
+
+// The finder, what became of the file if no more is read, and how many more bytes are taken, none behind the last read.
 struct Finding {
     finder: Finder,
     left: u64,
-    sound: bool,
+    found: Found,
 }
 
 // One read, of up to 64 KiB.
@@ -21,25 +29,32 @@ fn find_some(fd: i32, finding: Finding) -> Finding
     let n = io::count(got, &buffer);
     let before = finding.finder;
     let finder = before.feed(&buffer[..n]);
-    if (got <= 0) | finder.is_settled() {
+    if got < 0 {
         return Finding {
             finder,
             left: 0,
-            sound: 0 <= got,
+            found: Found::Failed,
+        };
+    }
+    if (n == 0) | finder.is_settled() {
+        return Finding {
+            finder,
+            left: 0,
+            found: Found::Whole,
         };
     }
     Finding {
         finder,
-        left: finding.left - 1,
-        sound: true,
+        left: without(finding.left, n),
+        found: Found::TooLong,
     }
 }
 
 fn find_all(fd: i32, finder: Finder) -> Finding {
     let mut finding = Finding {
         finder,
-        left: MOST_READS,
-        sound: true,
+        left: MOST_BYTES + 1,
+        found: Found::TooLong,
     };
     while 0 < finding.left {
         finding = find_some(fd, finding);
@@ -47,26 +62,29 @@ fn find_all(fd: i32, finder: Finder) -> Finding {
     finding
 }
 
-// What was found where the file could not be read: nothing.
-fn nothing(hours: u16) -> HourFound {
+// What was found where the file was not read: nothing, and why.
+fn nothing(hours: u16, found: Found) -> Reread {
     let finder = Finder::start(hours);
-    finder.finish()
+    let fault = finder.finish();
+    Reread { fault, found }
 }
 
-fn find_open(fd: i32, hours: u16) -> HourFound {
+fn find_open(fd: i32, hours: u16) -> Reread {
     let finding = find_all(fd, Finder::start(hours));
-    if !finding.sound {
-        return nothing(hours);
-    }
+    let found = finding.found;
     let finder = finding.finder;
-    finder.finish()
+    if let Found::Whole = found {
+        let fault = finder.finish();
+        return Reread { fault, found };
+    }
+    nothing(hours, found)
 }
 
-// The first fault of the file of that name in a month of so many hours; none where it has none, and where it cannot be read.
-pub fn find_fault(path: &[u8], hours: u16) -> HourFound {
+// The first fault of the file of that name in a month of so many hours.
+pub fn find_fault(path: &[u8], hours: u16) -> Reread {
     let fd = os::open_read(path);
     if fd < 0 {
-        return nothing(hours);
+        return nothing(hours, Found::Failed);
     }
     let found = find_open(fd, hours);
     libc::close(fd);

@@ -7,13 +7,17 @@ use pay::Member;
 pub mod faulty;
 pub mod given;
 
-// More reads than any file has.
-const MOST_READS: u64 = 0xffff_ffff_ffff_ffff;
+// More bytes than any file needs, 16 MiB: 60 actions in each of 744 hours come to some 4. A first line without a digit is a heading whatever its length, so that one without an
+// end would be read for ever.
+const MOST_BYTES: u64 = 16_777_216;
 
-// What became of the file: it was read to its end, or to the end of its first bad line; there is none; or a read failed, which is no end of it.
+// What became of the file: it was read to its end, or until its fault was known; there is none; its name is a link that leads to no file; it goes on behind the most bytes;
+// or a read failed, which is no end of it.
 pub enum Found {
     Whole,
     Missing,
+    Nowhere,
+    TooLong,
     Failed,
 }
 
@@ -23,17 +27,23 @@ pub struct HoursFile {
     pub found: Found,
 }
 
-enum Input {
-    More,
-    Whole,
-    Failed,
-}
-
-// The reader, what became of the file so far, and how many more reads are made, none behind the last.
+// The reader, what became of the file if no more is read, and how many more bytes are taken, none behind the last read.
 struct Reading {
     reader: Reader,
     left: u64,
-    input: Input,
+    found: Found,
+}
+
+// So many bytes less, down to none.
+fn without(left: u64, n: usize) -> u64
+    requires { ⌜ 0 < left ⌝ }
+    requires { ⌜ 0 < n ⌝ }
+    ensures { λ r. ⌜ r < left ⌝ }
+{
+    if left <= n as u64 {
+        return 0;
+    }
+    left - n as u64
 }
 
 // One read, of up to 64 KiB.
@@ -50,28 +60,28 @@ fn read_some(fd: i32, reading: Reading) -> Reading
         return Reading {
             reader,
             left: 0,
-            input: Input::Failed,
+            found: Found::Failed,
         };
     }
-    if (got == 0) | reader.is_settled() {
+    if (n == 0) | reader.is_settled() {
         return Reading {
             reader,
             left: 0,
-            input: Input::Whole,
+            found: Found::Whole,
         };
     }
     Reading {
         reader,
-        left: reading.left - 1,
-        input: Input::More,
+        left: without(reading.left, n),
+        found: Found::TooLong,
     }
 }
 
 fn read_all(fd: i32, reader: Reader) -> Reading {
     let mut reading = Reading {
         reader,
-        left: MOST_READS,
-        input: Input::More,
+        left: MOST_BYTES + 1,
+        found: Found::TooLong,
     };
     while 0 < reading.left {
         reading = read_some(fd, reading);
@@ -87,19 +97,24 @@ fn nothing(reader: Reader, found: Found) -> HoursFile {
 
 fn read_open(fd: i32, first: Reader) -> HoursFile {
     let reading = read_all(fd, first);
-    let input = reading.input;
+    let found = reading.found;
     let reader = reading.reader;
     let hours = reader.finish();
-    let Input::Whole = input else {
-        return HoursFile {
-            hours,
-            found: Found::Failed,
-        };
-    };
-    HoursFile {
-        hours,
-        found: Found::Whole,
+    HoursFile { hours, found }
+}
+
+// Why a file could not be opened. A name that is there is a file: only where nothing has it is there none.
+fn unopened(path: &[u8], error: i32) -> Found {
+    if error != libc::ENOENT {
+        return Found::Failed;
     }
+    if node::is_absent(path) {
+        return Found::Missing;
+    }
+    if node::is_link(path) {
+        return Found::Nowhere;
+    }
+    Found::Failed
 }
 
 // The file of that name, of a member, in a month of so many hours.
@@ -107,10 +122,7 @@ pub fn read_file(path: &[u8], member: Member, hours: u16) -> HoursFile {
     let reader = Reader::start(member, hours);
     let fd = os::open_read(path);
     if fd < 0 {
-        if os::errno() == libc::ENOENT {
-            return nothing(reader, Found::Missing);
-        }
-        return nothing(reader, Found::Failed);
+        return nothing(reader, unopened(path, os::errno()));
     }
     let file = read_open(fd, reader);
     libc::close(fd);

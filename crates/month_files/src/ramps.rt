@@ -1,9 +1,9 @@
 // The members' ramping files.
 use crate::series::Name;
 use crate::series::in_folder;
+use crate::told::tell_unread;
 use book::header_of;
 use clerk::args::first;
-use clerk::load::tell_of;
 use hours::name::ramping_name;
 use hours_file::Found;
 use hours_file::HoursFile;
@@ -54,9 +54,7 @@ pub fn read_ramping(member: Member, hours: u16, goes_on: bool) -> HoursFile {
     let path = first(&bytes, name.size);
     let file = read_file(path, member, hours);
     let found = file.found;
-    if let Found::Failed = found {
-        tell_of(path, goes_on, b"cannot be read");
-    }
+    tell_unread(path, goes_on, found);
     file
 }
 
@@ -85,12 +83,12 @@ fn read_next(e: Entry, i: usize, hours: u16, goes_on: bool, before: Ramps) -> Ra
     let found = file.found;
     match found {
         Found::Missing => {}
-        Found::Failed => {
-            return Ramps { each, bad: bad + 1 };
-        }
         Found::Whole => {
             let h = file.hours;
             each[i] = ramped_of(h);
+        }
+        _ => {
+            return Ramps { each, bad: bad + 1 };
         }
     }
     Ramps { each, bad }

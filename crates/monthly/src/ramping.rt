@@ -13,6 +13,7 @@ use hours_file::given::ramped_of;
 use hours_file::read_file;
 use month_files::told::tell_ramping_row;
 use month_files::told::tell_unramped;
+use month_files::told::tell_unread;
 use pay::Member;
 use report::hourly::hour_text;
 use report::hourly::hours_text;
@@ -98,8 +99,8 @@ fn tell_file(member: Member, file: HoursFile, path: &[u8]) {
     let found = file.found;
     match found {
         Found::Missing => print::failed(path, b"no such file"),
-        Found::Failed => print::failed(path, b"cannot be read"),
         Found::Whole => tell_hours(hours, path),
+        _ => tell_unread(path, false, found),
     }
 }
 

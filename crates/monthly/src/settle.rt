@@ -29,6 +29,7 @@ use month_files::series::file_of;
 use month_files::series::part_of;
 use month_files::series::read_all;
 use month_files::series::room;
+use month_files::told::tell_nobody;
 use month_files::told::tell_ramping_file;
 use month_files::told::tell_sums;
 use posted::posted_text;
@@ -71,6 +72,14 @@ fn tell_statement(s: Statement) {
     let n = month_text(s, &mut out);
     let end = say::add(&mut page, at, &out[..n]);
     print::finish(&mut page, end);
+}
+
+// The statement of so many members; that they are none is told before it.
+fn tell_settled(members: usize, s: Statement) {
+    if members == 0 {
+        tell_nobody();
+    }
+    tell_statement(s);
 }
 
 // The member's refusal: of its series, with a line before it that says why, of a call, which is shown before, or of its line.
@@ -189,7 +198,7 @@ fn settle_with(
     let s = month::settle(part, entries, register.count, book, series, each, ramped);
     let fault = s.fault;
     if let Fault::NoFault = fault {
-        tell_statement(s);
+        tell_settled(register.count, s);
         return;
     }
     tell_fault(fault, register, book, series, lengths, ramps);

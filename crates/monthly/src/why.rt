@@ -27,6 +27,7 @@ use month_files::series::entry_at;
 use month_files::series::line_of;
 use month_files::series::read_member;
 use register::Entry;
+use report::why::energy_text;
 use report::why::explained_text;
 use report::why::part_text;
 use tally::outputs::Values;
@@ -71,10 +72,17 @@ fn put_parts(
     at
 }
 
-// The sums, and what stands before them on the page.
+// The month's energy, on a page.
+fn put_energy(page: &mut [u8], at: usize, x: Explained) -> usize {
+    let mut out = io::buffer();
+    let n = energy_text(x.wh, x.energy, &mut out);
+    say::add(page, at, &out[..n])
+}
+
+// What the hours add and all the grains, and what stands before them on the page.
 fn tell_sums(page: &mut [u8], at: usize, x: Explained, many: u16) {
     let mut out = io::buffer();
-    let n = explained_text(x.wh, x.energy, many, x.added, x.grains, &mut out);
+    let n = explained_text(many, x.added, x.grains, &mut out);
     let end = say::add(page, at, &out[..n]);
     print::finish(page, end);
 }
@@ -84,7 +92,8 @@ fn tell_explained(x: Explained, hours: Hours, many: u16, book: &[u8]) {
     let head = put_header(&mut page, 0, book);
     let parts = x.parts;
     let calls = put_parts(&mut page, head, parts, x.count, book);
-    let end = put_each(&mut page, calls, hours);
+    let energy = put_energy(&mut page, calls, x);
+    let end = put_each(&mut page, energy, hours);
     tell_sums(&mut page, end, x, many);
 }
 
@@ -113,12 +122,12 @@ fn explain_with(e: Entry, line: usize, book: &[u8]) {
     let file = read_ramping(e.member, month_hours(book), false);
     let found = file.found;
     match found {
-        Found::Failed => {}
         Found::Missing => explain_hours(e, line, book, part(&series, 0, n), no_hours()),
         Found::Whole => {
             let hours = file.hours;
             explain_hours(e, line, book, part(&series, 0, n), hours);
         }
+        _ => {}
     }
 }
 

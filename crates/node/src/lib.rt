@@ -223,3 +223,20 @@ pub fn led_to(path: &[u8]) -> Name {
     }
     unlinked(name)
 }
+
+// Whether the system says that nothing has this name, not even a link that leads nowhere.
+pub fn is_absent(path: &[u8]) -> bool {
+    if LAST < path.len() {
+        return false;
+    }
+    let name = ended(path);
+    let mut text = io::buffer();
+    let got = libc::readlink(&name, &mut text);
+    (got < 0) & (os::errno() == libc::ENOENT)
+}
+
+// Whether this is the name of a link, wherever it leads.
+pub fn is_link(path: &[u8]) -> bool {
+    let mut text = io::buffer();
+    0 < link_of(path, &mut text)
+}

@@ -66,13 +66,19 @@ partValues quarters rate wh grains = quarters ∷ quarters ∷ rate ∷ rate ∷
 abbrev pub partText : ℕ → ℕ → ℤ → ℕ → List ℕ
 partText quarters rate wh grains = filled partForm (partValues quarters rate wh grains)
 
--- what stands below the parts: the month's energy, and what it is paid; what the ramping hours add; all the grains, in points and in yuan as well
+-- what stands below the parts: the month's energy, and what it is paid;
+abbrev pub energyForm : List ℕ
+energyForm = word "[energy wh %i grains %n\n]"
+
+abbrev pub energyText : ℤ → ℕ → List ℕ
+energyText wh energy = filled energyForm (bits wh ∷ bits wh ∷ energy ∷ [])
+
+-- behind the hours, what they add; all the grains, in points and in yuan as well
 abbrev pub explainedForm : List ℕ
-explainedForm = word "[energy wh %i grains %n\n][ramping hours %n grains %n\n]all grains %n points %p yuan %y\n"
+explainedForm = word "[ramping hours %n grains %n\n]all grains %n points %p yuan %y\n"
 
-abbrev pub explainedValues : ℤ → ℕ → ℕ → ℕ → ℕ → List ℕ
-explainedValues wh energy hours added grains =
-    bits wh ∷ bits wh ∷ energy ∷ hours ∷ hours ∷ added ∷ grains ∷ grainsToFen grains ∷ grainsToFen grains ∷ []
+abbrev pub explainedValues : ℕ → ℕ → ℕ → List ℕ
+explainedValues hours added grains = hours ∷ hours ∷ added ∷ grains ∷ grainsToFen grains ∷ grainsToFen grains ∷ []
 
-abbrev pub explainedText : ℤ → ℕ → ℕ → ℕ → ℕ → List ℕ
-explainedText wh energy hours added grains = filled explainedForm (explainedValues wh energy hours added grains)
+abbrev pub explainedText : ℕ → ℕ → ℕ → List ℕ
+explainedText hours added grains = filled explainedForm (explainedValues hours added grains)

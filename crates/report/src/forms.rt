@@ -16,5 +16,6 @@ pub const HOURS: [u8; 19] = *b"hours %n grains %n\n";
 
 pub const PART: [u8; 52] = *b"paid[ quarter-hours %n][ rate %n][ wh %i] grains %n\n";
 
-pub const EXPLAINED: [u8; 86] =
-    *b"[energy wh %i grains %n\n][ramping hours %n grains %n\n]all grains %n points %p yuan %y\n";
+pub const ENERGY: [u8; 25] = *b"[energy wh %i grains %n\n]";
+
+pub const EXPLAINED: [u8; 61] = *b"[ramping hours %n grains %n\n]all grains %n points %p yuan %y\n";

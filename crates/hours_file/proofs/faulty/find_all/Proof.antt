@@ -18,4 +18,4 @@ returns : tie.Need-returns Inv-loop μ-loop
 returns c = tt
 
 pub find-all-spec : {M : Type 1} → statement M
-find-all-spec = tie.close (tie.spec Inv-loop μ-loop loop-holds (λ c κs. search needs) (λ c. search needs) loop-again returns)
+find-all-spec = tie.close (tie.spec Inv-loop μ-loop (λ c. search needs) loop-holds (λ c κs. search needs) (λ c. search needs) loop-again returns)
