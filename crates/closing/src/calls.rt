@@ -19,6 +19,7 @@ use register::Entry;
 use register::MOST_ENTRIES;
 use share::array::seen;
 use tables::roll::Register;
+use tray::books::lost_at;
 use tray::books::more;
 use tray::keys::tell_call;
 use tray::keys::tell_standing;
@@ -187,7 +188,7 @@ fn findings_of(
 }
 
 // The call itself, what stands first: where a book has another record, all of them and why; else a book that has it; or nothing, where nothing is to be told.
-fn tell_head(from: usize, left: &[u8], joined: &[u8], x: Call, f: Findings) {
+fn tell_head(from: usize, left: &mut [u8], joined: &[u8], x: Call, f: Findings) {
     if f.stale {
         tell_key(from, left, joined, x);
         return;
@@ -198,13 +199,8 @@ fn tell_head(from: usize, left: &[u8], joined: &[u8], x: Call, f: Findings) {
     }
 }
 
-// A call without a line is not scored.
-fn list_contested(f: Findings, before: Counted) -> Counted {
-    if !f.without {
-        say::text(
-            b"scoring refuses it with 14: a higher revision or a withdrawal ends the contest\n",
-        );
-    }
+fn list_contested(before: Counted) -> Counted {
+    say::text(b"scoring refuses it with 14: a higher revision or a withdrawal ends the contest\n");
     let mut c = before;
     c.contested = more(c.contested);
     c
@@ -241,7 +237,7 @@ fn list_closed(register: Register, joined: &[u8], x: Call, before: Counted) -> C
 
 fn list_against(
     from: usize,
-    left: &[u8],
+    left: &mut [u8],
     joined: &[u8],
     at: usize,
     x: Call,
@@ -259,7 +255,7 @@ fn list_against(
 // What scoring would refuse a live call with.
 fn list_number(
     from: usize,
-    left: &[u8],
+    left: &mut [u8],
     register: Register,
     joined: &[u8],
     x: Call,
@@ -275,10 +271,10 @@ fn list_number(
     before
 }
 
-// What is told of x, and counted.
+// What is told of x, and counted. A call without a line is not scored, and so counts once where it is contested too.
 fn list_found(
     from: usize,
-    left: &[u8],
+    left: &mut [u8],
     register: Register,
     joined: &[u8],
     x: Call,
@@ -289,19 +285,19 @@ fn list_found(
     if f.stale {
         c.stale = more(c.stale);
     }
-    if f.contested {
-        c = list_contested(f, c);
-    }
     if f.without {
-        c = list_without(x, c);
+        return list_without(x, c);
+    }
+    if f.contested {
+        return list_contested(c);
     }
     list_number(from, left, register, joined, x, f, c)
 }
 
-// Record j of the joined book.
+// Record j of the joined book; nothing more once a book is lost.
 fn list_call(
     from: usize,
-    left: &[u8],
+    left: &mut [u8],
     joined: &[u8],
     register: Register,
     marks: Marks,
@@ -309,6 +305,9 @@ fn list_call(
     j: usize,
     before: Counted,
 ) -> Counted {
+    if lost_at(from, left) != 0 {
+        return before;
+    }
     let x = call_in(joined, j);
     let f = findings_of(register, marks, refusals, j, x);
     tell_head(from, left, joined, x, f);
@@ -318,7 +317,7 @@ fn list_call(
 // The first so many.
 fn list_each(
     from: usize,
-    left: &[u8],
+    left: &mut [u8],
     joined: &[u8],
     register: Register,
     marks: Marks,
@@ -338,7 +337,7 @@ fn list_each(
 // Every call of the joined book, in the order of the keys.
 pub fn list_calls(
     from: usize,
-    left: &[u8],
+    left: &mut [u8],
     joined: &[u8],
     register: Register,
     before: Counted,

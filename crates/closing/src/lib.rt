@@ -7,6 +7,7 @@ use clerk::args::number_at;
 use clerk::load::load_or;
 use clerk::print;
 use clerk::shelf::note_at;
+use clerk::shelf::tell_failed;
 use faults::Table;
 use faults::Walk;
 use faults::is_sound;
@@ -14,19 +15,16 @@ use grid::alone::Told;
 use month::Fault;
 use month_files::places::books_at;
 use month_files::places::register_at;
-use month_files::ramps::Ramps;
 use month_files::ramps::month_hours;
-use month_files::ramps::read_ramps;
 use month_files::series::Lengths;
 use month_files::series::folder_is_named;
 use month_files::series::read_all;
 use month_files::series::room;
+use month_files::told::tell_nobody;
 use month_files::told::tell_sums;
 use notice::Counted;
 use notice::counted_text;
 use notice::unsettled_text;
-use register::Entry;
-use register::MOST_ENTRIES;
 use share::array::seen;
 use share::limits::MOST_PART;
 use share::limits::PART_PLACE;
@@ -35,6 +33,7 @@ use tables::roll::read_register;
 use tally::wrong::tell_register;
 use tray::books::is_unchanged;
 use tray::books::join_named;
+use tray::books::lost_at;
 use tray::books::more;
 use tray::books::note_refused;
 use tray::books::note_refused_at;
@@ -48,9 +47,11 @@ pub mod members;
 pub mod sound;
 
 use calls::list_calls;
+use members::Ramping;
 use members::list_above;
 use members::list_ramping;
 use members::list_series;
+use members::read_ramping_files;
 use sound::sound_register;
 
 // The argument that gives the part.
@@ -214,21 +215,25 @@ fn tell_end(c: Counted, settled: bool) {
     say::text(&last[..m]);
 }
 
-// What sharing refuses besides a compensation above a line's limit, which is told of each member; of a register with a bad line nothing is shared.
-fn list_sharing(refused: u32, fault: Fault) -> usize {
-    if refused != 0 {
+// What sharing refuses besides a compensation above a line's limit, which is told of each member: where nothing else is in the way, for its sums are of all members.
+fn list_sharing(before: Counted, fault: Fault) -> usize {
+    if in_the_way(before) != 0 {
         return 0;
     }
     match fault {
         Fault::InSharing(number, place) => {
-            if number == 10 {
-                return 0;
-            }
             tell_sums(number);
             note_refused_at(register_at(), number, place);
             1
         }
         _ => 0,
+    }
+}
+
+// That a sound register has no member, so that the month would be settled of nobody.
+fn list_nobody(register: Register) {
+    if (register.number == 0) & (register.count == 0) {
+        tell_nobody();
     }
 }
 
@@ -239,18 +244,19 @@ fn list_month(
     joined: &[u8],
     series: &[u32],
     lengths: Lengths,
-    ramps: Ramps,
+    ramping: Ramping,
     before: Counted,
 ) {
     let mut c = before;
     let entries = register.entries;
-    let count = seen(register.count);
-    let above = list_above(entries, count, joined, series, lengths, ramps);
+    c.sharing = list_above(register, joined, series, lengths, ramping);
     let each = lengths.each;
+    let ramps = ramping.ramps;
     let ramped = ramps.each;
     let s = month::settle(part, entries, register.count, joined, series, each, ramped);
     let fault = s.fault;
-    c.sharing = sum(above, list_sharing(register.number, fault));
+    c.sharing = sum(c.sharing, list_sharing(c, fault));
+    list_nobody(register);
     let read = (c.register == 0) & (c.books == 0) & (lengths.bad == 0) & (ramps.bad == 0);
     tell_end(c, is_settled(fault) & read);
 }
@@ -269,19 +275,8 @@ fn files_of(count: usize) -> usize
     0
 }
 
-// The members' ramping files; none, where no book says whose month it is.
-fn ramps_of(entries: [Entry; MOST_ENTRIES], count: usize, joined: &[u8]) -> Ramps
-    requires { ⌜ count ≤ 64 ⌝ }
-{
-    let hours = month_hours(joined);
-    if hours == 0 {
-        return read_ramps(entries, 0, 0, true);
-    }
-    read_ramps(entries, count, hours, true)
-}
-
 // The members' files, then the joined book's calls, then books that add nothing.
-fn list_joined(part: u32, register: Register, joined: &[u8], left: &[u8], before: Counted) {
+fn list_joined(part: u32, register: Register, joined: &[u8], left: &mut [u8], before: Counted) {
     let mut c = before;
     let entries = register.entries;
     let count = seen(register.count);
@@ -293,36 +288,47 @@ fn list_joined(part: u32, register: Register, joined: &[u8], left: &[u8], before
     let lengths = read_all(entries, files, true, &mut series);
     let bad = list_series(entries, files, joined, &series, lengths);
     c.series = sum(c.series, sum(lengths.bad, bad));
-    let ramps = ramps_of(entries, files, joined);
-    c.ramping = sum(
-        ramps.bad,
-        list_ramping(entries, files, ramps, month_hours(joined)),
-    );
+    let hours = month_hours(joined);
+    let ramping = read_ramping_files(entries, files, hours);
+    let ramps = ramping.ramps;
+    c.ramping = sum(ramps.bad, list_ramping(entries, files, ramps, hours));
     let d = list_calls(books_at(), left, joined, register, c);
-    list_rest(part, register, joined, &series, lengths, ramps, left, d);
+    list_rest(part, register, joined, &series, lengths, ramping, left, d);
 }
 
-// Books that add nothing; then the month, unless a book has changed since it was joined.
+// Whether the books could be read again and are still what they were; else that is told in the last line.
+fn is_current(left: &mut [u8], joined: &[u8]) -> bool {
+    let same = is_unchanged(books_at(), left, joined);
+    let lost = lost_at(books_at(), left);
+    if lost != 0 {
+        tell_failed(lost, b"cannot be read again: make the list again");
+        return false;
+    }
+    if !same {
+        print::failed(
+            b"",
+            b"a book has changed while the list was made: make it again",
+        );
+    }
+    same
+}
+
+// Books that add nothing; then the month, unless a book has changed since it was joined, or could not be read again.
 fn list_rest(
     part: u32,
     register: Register,
     joined: &[u8],
     series: &[u32],
     lengths: Lengths,
-    ramps: Ramps,
-    left: &[u8],
+    ramping: Ramping,
+    left: &mut [u8],
     before: Counted,
 ) {
     let mut c = before;
     c.spare = tell_spare(books_at(), left);
-    if !is_unchanged(books_at(), left, joined) {
-        print::failed(
-            b"",
-            b"a book has changed while the list was made: make it again",
-        );
-        return;
+    if is_current(left, joined) {
+        list_month(part, register, joined, series, lengths, ramping, c);
     }
-    list_month(part, register, joined, series, lengths, ramps, c);
 }
 
 // The part, the register and the books first.
@@ -341,5 +347,5 @@ pub fn list_drawer() {
     c.books = taken.bad;
     let joined = first(&all, taken.size);
     tell_header(joined);
-    list_joined(part, register, joined, &left, c);
+    list_joined(part, register, joined, &mut left, c);
 }

@@ -1,4 +1,5 @@
-// The books that the arguments name, joined. Those that are not taken are told once, and left out from then on: a byte for each argument says which.
+// The books that the arguments name, joined. Those that are not taken are told once, and left out from then on; so is one that cannot be read again, which the last
+// line names. A byte for each argument says which.
 use book::header_of;
 use clerk::args::Held;
 use clerk::args::argument;
@@ -18,6 +19,15 @@ pub struct Taken {
     pub bad: usize,
 }
 
+// What the byte of an argument says of its book: it is one of those that are joined; it is not taken; it could not be read again; the others make it spare.
+pub const STAYS: u8 = 0;
+
+pub const NOT_TAKEN: u8 = 1;
+
+pub const LOST: u8 = 2;
+
+pub const SPARE: u8 = 3;
+
 // One more, as far as anybody counts.
 pub fn more(n: usize) -> usize {
     if n < 0xffff_ffff { n + 1 } else { n }
@@ -25,17 +35,35 @@ pub fn more(n: usize) -> usize {
 
 // Whether argument i is left out.
 pub fn is_left(left: &[u8], i: usize) -> bool {
-    if i < left.len() {
-        return left[i] != 0;
-    }
-    true
+    mark_of(left, i) != STAYS
 }
 
-// Argument i left out from now on.
-pub fn leave(left: &mut [u8], i: usize) {
+// The mark of argument i; one that has no place for a mark is not taken.
+pub fn mark_of(left: &[u8], i: usize) -> u8 {
     if i < left.len() {
-        left[i] = 1;
+        return left[i];
     }
+    NOT_TAKEN
+}
+
+// Argument i left out from now on, and why.
+pub fn leave(left: &mut [u8], i: usize, mark: u8) {
+    if i < left.len() {
+        left[i] = mark;
+    }
+}
+
+// The first book that could not be read again, or 0 where there is none.
+pub fn lost_at(from: usize, left: &[u8]) -> usize {
+    let count = os::arg_count();
+    let mut i = from;
+    while i < count {
+        if mark_of(left, i) == LOST {
+            return i;
+        }
+        i += 1;
+    }
+    0
 }
 
 // That a file is refused, and where.
@@ -148,7 +176,7 @@ fn with_book(i: usize, all: &mut [u8], left: &mut [u8], before: Taken) -> Taken 
             bad: before.bad,
         },
         Held::Nothing => {
-            leave(left, i);
+            leave(left, i, NOT_TAKEN);
             Taken {
                 size: before.size,
                 bad: more(before.bad),
@@ -171,11 +199,8 @@ pub fn join_named(from: usize, all: &mut [u8], left: &mut [u8]) -> Taken {
 
 // Later passes, in which nothing is told of a book
 
-// The bytes of the book that argument i names, unless it is left out.
-pub fn take_book(i: usize, left: &[u8], book: &mut [u8]) -> Held {
-    if is_left(left, i) {
-        return Held::Nothing;
-    }
+// The bytes of the book that argument i names.
+fn load_again(i: usize, book: &mut [u8]) -> Held {
     let mut name = io::buffer();
     let Held::Bytes(k) = argument(i, &mut name) else {
         return Held::Nothing;
@@ -188,8 +213,20 @@ pub fn take_book(i: usize, left: &[u8], book: &mut [u8]) -> Held {
     }
 }
 
+// The bytes of the book that argument i names, unless it is left out. It was read before: where it cannot be read now, it is lost, and left out.
+pub fn take_book(i: usize, left: &mut [u8], book: &mut [u8]) -> Held {
+    if is_left(left, i) {
+        return Held::Nothing;
+    }
+    let read = load_again(i, book);
+    if let Held::Nothing = read {
+        leave(left, i, LOST);
+    }
+    read
+}
+
 // The same joined into the first n bytes of `all`: how many there are then.
-fn take_second(i: usize, left: &[u8], all: &mut [u8], n: usize) -> usize {
+fn take_second(i: usize, left: &mut [u8], all: &mut [u8], n: usize) -> usize {
     let mut second = io::large_buffer();
     let Held::Bytes(m) = take_book(i, left, &mut second) else {
         return n;
@@ -201,7 +238,7 @@ fn take_second(i: usize, left: &[u8], all: &mut [u8], n: usize) -> usize {
 }
 
 // The same, but for the book of argument `without`.
-fn take_other(i: usize, without: usize, left: &[u8], all: &mut [u8], n: usize) -> usize {
+fn take_other(i: usize, without: usize, left: &mut [u8], all: &mut [u8], n: usize) -> usize {
     if i == without {
         return n;
     }
@@ -209,7 +246,7 @@ fn take_other(i: usize, without: usize, left: &[u8], all: &mut [u8], n: usize) -
 }
 
 // The books from argument `from` on that are not left out, joined, but for that of argument `without`.
-pub fn join_others(from: usize, without: usize, left: &[u8], all: &mut [u8]) -> usize {
+pub fn join_others(from: usize, without: usize, left: &mut [u8], all: &mut [u8]) -> usize {
     let count = os::arg_count();
     let mut n: usize = 0;
     let mut i = from;
@@ -221,7 +258,7 @@ pub fn join_others(from: usize, without: usize, left: &[u8], all: &mut [u8]) -> 
 }
 
 // Whether the book that argument i names is still a sound one, unless it is left out.
-fn is_there(i: usize, left: &[u8]) -> bool {
+fn is_there(i: usize, left: &mut [u8]) -> bool {
     if is_left(left, i) {
         return true;
     }
@@ -234,7 +271,7 @@ fn is_there(i: usize, left: &[u8]) -> bool {
 }
 
 // Whether all of them are.
-fn are_there(from: usize, left: &[u8]) -> bool {
+fn are_there(from: usize, left: &mut [u8]) -> bool {
     let count = os::arg_count();
     let mut i = from;
     while i < count {
@@ -247,7 +284,7 @@ fn are_there(from: usize, left: &[u8]) -> bool {
 }
 
 // Whether the books are still what they were: all there, and joined again, the same bytes.
-pub fn is_unchanged(from: usize, left: &[u8], joined: &[u8]) -> bool {
+pub fn is_unchanged(from: usize, left: &mut [u8], joined: &[u8]) -> bool {
     let mut again = io::large_buffer();
     let n = join_others(from, 0, left, &mut again);
     is_word(first(&again, n), joined) & are_there(from, left)

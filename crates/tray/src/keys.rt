@@ -1,4 +1,5 @@
 // What each book has for one key.
+use crate::books::lost_at;
 use crate::books::take_book;
 use call::Call;
 use call::RECORD_SIZE;
@@ -50,7 +51,7 @@ fn own_in(book: &[u8], joined: &[u8], x: Call) -> Own {
 }
 
 // The same of the book that argument i names.
-pub fn own_of(i: usize, left: &[u8], joined: &[u8], x: Call) -> Own {
+pub fn own_of(i: usize, left: &mut [u8], joined: &[u8], x: Call) -> Own {
     let mut book = io::large_buffer();
     let Held::Bytes(n) = take_book(i, left, &mut book) else {
         return Own::Missing;
@@ -58,7 +59,7 @@ pub fn own_of(i: usize, left: &[u8], joined: &[u8], x: Call) -> Own {
     own_in(first(&book, n), joined, x)
 }
 
-fn has_standing(i: usize, left: &[u8], joined: &[u8], x: Call) -> bool {
+fn has_standing(i: usize, left: &mut [u8], joined: &[u8], x: Call) -> bool {
     let own = own_of(i, left, joined, x);
     match own {
         Own::Missing => false,
@@ -68,7 +69,7 @@ fn has_standing(i: usize, left: &[u8], joined: &[u8], x: Call) -> bool {
 }
 
 // The first book that has the record that stands, or 0 where none has.
-pub fn holder_of(from: usize, left: &[u8], joined: &[u8], x: Call) -> usize {
+pub fn holder_of(from: usize, left: &mut [u8], joined: &[u8], x: Call) -> usize {
     let count = os::arg_count();
     let mut i = from;
     while i < count {
@@ -101,7 +102,10 @@ pub fn tell_call_of(i: usize, x: Call) {
     tell_call(&name[..n], x);
 }
 
-// The call x, which stands, by a book that has it.
-pub fn tell_standing(from: usize, left: &[u8], joined: &[u8], x: Call) {
-    tell_call_of(holder_of(from, left, joined, x), x);
+// The call x, which stands, by a book that has it; nothing where a book is lost, for it may be the one.
+pub fn tell_standing(from: usize, left: &mut [u8], joined: &[u8], x: Call) {
+    let h = holder_of(from, left, joined, x);
+    if lost_at(from, left) == 0 {
+        tell_call_of(h, x);
+    }
 }

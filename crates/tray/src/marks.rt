@@ -76,7 +76,7 @@ fn mark_book(book: &[u8], joined: &[u8], before: Marks) -> Marks {
 }
 
 // Those of the book that argument i names.
-fn mark_file(i: usize, left: &[u8], joined: &[u8], before: Marks) -> Marks {
+fn mark_file(i: usize, left: &mut [u8], joined: &[u8], before: Marks) -> Marks {
     let mut book = io::large_buffer();
     let Held::Bytes(n) = take_book(i, left, &mut book) else {
         return before;
@@ -85,7 +85,7 @@ fn mark_file(i: usize, left: &[u8], joined: &[u8], before: Marks) -> Marks {
 }
 
 // A pass over the books that are named from argument `from` on.
-pub fn marks_of(from: usize, left: &[u8], joined: &[u8]) -> Marks {
+pub fn marks_of(from: usize, left: &mut [u8], joined: &[u8]) -> Marks {
     let count = os::arg_count();
     let mut marks = no_marks();
     let mut i = from;

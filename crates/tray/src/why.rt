@@ -1,4 +1,5 @@
 // Why a book's record of a key does not stand, in words.
+use crate::books::lost_at;
 use crate::keys::Own;
 use crate::keys::holder_of;
 use crate::keys::own_of;
@@ -26,7 +27,7 @@ fn is_apart(x: Call, y: Call) -> bool {
 }
 
 // Whether the book that argument i names has a record that contradicts c.
-fn contradicts(i: usize, left: &[u8], joined: &[u8], x: Call, c: Call) -> bool {
+fn contradicts(i: usize, left: &mut [u8], joined: &[u8], x: Call, c: Call) -> bool {
     let own = own_of(i, left, joined, x);
     match own {
         Own::Missing => false,
@@ -36,7 +37,7 @@ fn contradicts(i: usize, left: &[u8], joined: &[u8], x: Call, c: Call) -> bool {
 }
 
 // The first book before argument `until` that does, or 0 where none does.
-fn rival_of(from: usize, until: usize, left: &[u8], joined: &[u8], x: Call, c: Call) -> usize {
+fn rival_of(from: usize, until: usize, left: &mut [u8], joined: &[u8], x: Call, c: Call) -> usize {
     let mut i = from;
     while i < until {
         if contradicts(i, left, joined, x, c) {
@@ -140,7 +141,7 @@ fn tell_differing(h: usize, d: Call, i: usize, c: Call) {
     say::text(&out[..n]);
 }
 
-fn tell_rival(r: usize, left: &[u8], joined: &[u8], x: Call, i: usize, c: Call) {
+fn tell_rival(r: usize, left: &mut [u8], joined: &[u8], x: Call, i: usize, c: Call) {
     if r == 0 {
         return;
     }
@@ -153,12 +154,23 @@ fn tell_rival(r: usize, left: &[u8], joined: &[u8], x: Call, i: usize, c: Call) 
 }
 
 // c, which the book of argument i has, is contested at its revision: in the book of argument h, or, where no book has it so, by one before it that contradicts it.
-fn tell_contested(from: usize, left: &[u8], joined: &[u8], x: Call, h: usize, i: usize, c: Call) {
+fn tell_contested(
+    from: usize,
+    left: &mut [u8],
+    joined: &[u8],
+    x: Call,
+    h: usize,
+    i: usize,
+    c: Call,
+) {
     if h != 0 {
         tell_beaten(h, x, i, c);
         return;
     }
-    tell_rival(rival_of(from, i, left, joined, x, c), left, joined, x, i, c);
+    let r = rival_of(from, i, left, joined, x, c);
+    if lost_at(from, left) == 0 {
+        tell_rival(r, left, joined, x, i, c);
+    }
 }
 
 // c, which the book of argument i has, is of a lower revision than x, which the book of argument h has, or none.
@@ -173,7 +185,7 @@ fn tell_lower(x: Call, h: usize, i: usize, c: Call) {
 // Why c, which the book of argument i has, does not stand.
 fn tell_why(
     from: usize,
-    left: &[u8],
+    left: &mut [u8],
     joined: &[u8],
     x: Call,
     h: usize,
@@ -190,7 +202,7 @@ fn tell_why(
 }
 
 // What the book that argument i names has, and why that does not stand, if it does not.
-fn tell_book(from: usize, left: &[u8], joined: &[u8], x: Call, h: usize, i: usize) {
+fn tell_book(from: usize, left: &mut [u8], joined: &[u8], x: Call, h: usize, i: usize) {
     let own = own_of(i, left, joined, x);
     match own {
         Own::Missing => {}
@@ -202,10 +214,13 @@ fn tell_book(from: usize, left: &[u8], joined: &[u8], x: Call, h: usize, i: usiz
     }
 }
 
-// The key of x, which stands: what stands, what each book has, and why that does not stand.
-pub fn tell_key(from: usize, left: &[u8], joined: &[u8], x: Call) {
+// The key of x, which stands: what stands, what each book has, and why that does not stand; no more once a book is lost.
+pub fn tell_key(from: usize, left: &mut [u8], joined: &[u8], x: Call) {
     tell_call(b"stands", x);
     let h = holder_of(from, left, joined, x);
+    if lost_at(from, left) != 0 {
+        return;
+    }
     let count = os::arg_count();
     let mut i = from;
     while i < count {

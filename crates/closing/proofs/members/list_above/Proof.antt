@@ -4,10 +4,10 @@ use Rattle.closing.proofs.members.list_above.Statement.{statement}
 use Rattle.closing.proofs.members.list_above.Tie as tie
 
 abbrev Inv-loop : tie.InvT-loop
-Inv-loop entries count joined series lengths ramps n₀ i₀ n i = Unit {0}
+Inv-loop register joined series lengths ramping count n₀ i₀ n i = Unit {0}
 
 abbrev μ-loop : tie.MeasureT-loop
-μ-loop entries count joined series lengths ramps n₀ i₀ n i = count - i
+μ-loop register joined series lengths ramping count n₀ i₀ n i = count - i
 
 pub list-above-spec : {M : Type 1} → statement M
 list-above-spec =
@@ -15,10 +15,8 @@ list-above-spec =
     (tie.spec
     Inv-loop
     μ-loop
+    (λ c κs. search needs)
     (λ c. search needs)
-    (λ c κs. search needs)
-    (λ c κs. search needs)
-    (λ c κs. search needs)
     (λ c κs. search needs)
     (λ c. search needs)
     (λ c. search needs)

@@ -6,10 +6,10 @@ use Rattle.tray.proofs.books.join_others.Statement.{statement}
 use Rattle.tray.proofs.books.join_others.Tie as tie
 
 abbrev Inv-loop : tie.InvT-loop
-Inv-loop from without left all₀ count n₀ i₀ all n i = length all ≡ length all₀
+Inv-loop from without left₀ all₀ count n₀ i₀ left all n i = (length left ≡ length left₀) × (length all ≡ length all₀)
 
 abbrev μ-loop : tie.MeasureT-loop
-μ-loop from without left all₀ count n₀ i₀ all n i = count - i
+μ-loop from without left₀ all₀ count n₀ i₀ left all n i = count - i
 
 pub join-others-spec : {M : Type 1} → statement M
 join-others-spec =
@@ -20,6 +20,7 @@ join-others-spec =
     (λ c κs. search needs)
     (λ c. search needs)
     (λ c κs. search needs)
+    (λ c. search needs)
     (λ c. search needs)
     (λ c. search needs)
     (λ c. search needs)

@@ -1,13 +1,15 @@
 use borrow.Author.Needs.{needs}
+use mathlib.Core.Path.{_≡_}
 use Prim.Native.Nat.{_-_}
+use lib.ListN.{length}
 use Rattle.tray.proofs.marks.marks_of.Statement.{statement}
 use Rattle.tray.proofs.marks.marks_of.Tie as tie
 
 abbrev Inv-loop : tie.InvT-loop
-Inv-loop from left joined count marks₀ i₀ marks i = Unit {0}
+Inv-loop from left₀ joined count marks₀ i₀ left marks i = length left ≡ length left₀
 
 abbrev μ-loop : tie.MeasureT-loop
-μ-loop from left joined count marks₀ i₀ marks i = count - i
+μ-loop from left₀ joined count marks₀ i₀ left marks i = count - i
 
 pub marks-of-spec : {M : Type 1} → statement M
 marks-of-spec =
@@ -19,6 +21,7 @@ marks-of-spec =
     (λ c κs. search needs)
     (λ c. search needs)
     (λ c κs. search needs)
+    (λ c. search needs)
     (λ c. search needs)
     (λ c. search needs)
     (λ c. search needs)

@@ -6,10 +6,10 @@ use Rattle.tray.proofs.spare.turn_back.Statement.{statement}
 use Rattle.tray.proofs.spare.turn_back.Tie as tie
 
 abbrev Inv-loop : tie.InvT-loop
-Inv-loop from left₀ spare₀ i₀ left spare i = length left ≡ length left₀
+Inv-loop from left₀ i₀ left i = length left ≡ length left₀
 
 abbrev μ-loop : tie.MeasureT-loop
-μ-loop from left₀ spare₀ i₀ left spare i = i - from
+μ-loop from left₀ i₀ left i = i - from
 
 pub turn-back-spec : {M : Type 1} → statement M
 turn-back-spec =

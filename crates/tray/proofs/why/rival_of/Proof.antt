@@ -1,13 +1,15 @@
 use borrow.Author.Needs.{needs}
+use mathlib.Core.Path.{_≡_}
 use Prim.Native.Nat.{_-_}
+use lib.ListN.{length}
 use Rattle.tray.proofs.why.rival_of.Statement.{statement}
 use Rattle.tray.proofs.why.rival_of.Tie as tie
 
 abbrev Inv-loop : tie.InvT-loop
-Inv-loop from until left joined x c i₀ i = Unit {0}
+Inv-loop from until left₀ joined x c i₀ left i = length left ≡ length left₀
 
 abbrev μ-loop : tie.MeasureT-loop
-μ-loop from until left joined x c i₀ i = until - i
+μ-loop from until left₀ joined x c i₀ left i = until - i
 
 pub rival-of-spec : {M : Type 1} → statement M
 rival-of-spec =
@@ -17,6 +19,8 @@ rival-of-spec =
     μ-loop
     (λ c. search needs)
     (λ c κs. search needs)
+    (λ c. search needs)
+    (λ c. search needs)
     (λ c. search needs)
     (λ c. search needs)
     (λ c. search needs)

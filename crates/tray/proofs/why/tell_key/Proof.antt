@@ -1,13 +1,15 @@
 use borrow.Author.Needs.{needs}
+use mathlib.Core.Path.{_≡_}
 use Prim.Native.Nat.{_-_}
+use lib.ListN.{length}
 use Rattle.tray.proofs.why.tell_key.Statement.{statement}
 use Rattle.tray.proofs.why.tell_key.Tie as tie
 
 abbrev Inv-loop : tie.InvT-loop
-Inv-loop from left joined x h count i₀ i = Unit {0}
+Inv-loop from left₀ joined x h count i₀ left i = length left ≡ length left₀
 
 abbrev μ-loop : tie.MeasureT-loop
-μ-loop from left joined x h count i₀ i = count - i
+μ-loop from left₀ joined x h count i₀ left i = count - i
 
 pub tell-key-spec : {M : Type 1} → statement M
 tell-key-spec =
@@ -20,7 +22,11 @@ tell-key-spec =
     (λ c κs. search needs)
     (λ c κs. search needs)
     (λ c. search needs)
+    (λ c. search needs)
     (λ c κs. search needs)
+    (λ c. search needs)
+    (λ c κs. search needs)
+    (λ c. search needs)
     (λ c. search needs)
     (λ c. search needs)
     (λ c. search needs)

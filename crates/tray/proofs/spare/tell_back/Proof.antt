@@ -1,0 +1,27 @@
+use borrow.Author.Needs.{needs}
+use mathlib.Core.Path.{_≡_}
+use Prim.Native.Nat.{_-_}
+use lib.ListN.{length}
+use Rattle.tray.proofs.spare.tell_back.Statement.{statement}
+use Rattle.tray.proofs.spare.tell_back.Tie as tie
+
+abbrev Inv-loop : tie.InvT-loop
+Inv-loop from left₀ spare₀ i₀ left spare i = length left ≡ length left₀
+
+abbrev μ-loop : tie.MeasureT-loop
+μ-loop from left₀ spare₀ i₀ left spare i = i - from
+
+pub tell-back-spec : {M : Type 1} → statement M
+tell-back-spec =
+    tie.close
+    (tie.spec
+    Inv-loop
+    μ-loop
+    (λ c κs. search needs)
+    (λ c. search needs)
+    (λ c. search needs)
+    (λ c κs. search needs)
+    (λ c. search needs)
+    (λ c. search needs)
+    (λ c. search needs)
+    (λ c. search needs))
