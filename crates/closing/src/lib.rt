@@ -15,7 +15,9 @@ use grid::alone::Told;
 use month::Fault;
 use month_files::places::books_at;
 use month_files::places::register_at;
+use month_files::ramps::Ramps;
 use month_files::ramps::month_hours;
+use month_files::ramps::read_ramps;
 use month_files::series::Lengths;
 use month_files::series::folder_is_named;
 use month_files::series::read_all;
@@ -25,6 +27,8 @@ use month_files::told::tell_sums;
 use notice::Counted;
 use notice::counted_text;
 use notice::unsettled_text;
+use register::Entry;
+use register::MOST_ENTRIES;
 use share::array::seen;
 use share::limits::MOST_PART;
 use share::limits::PART_PLACE;
@@ -47,11 +51,9 @@ pub mod members;
 pub mod sound;
 
 use calls::list_calls;
-use members::Ramping;
 use members::list_above;
 use members::list_ramping;
 use members::list_series;
-use members::read_ramping_files;
 use sound::sound_register;
 
 // The argument that gives the part.
@@ -244,14 +246,13 @@ fn list_month(
     joined: &[u8],
     series: &[u32],
     lengths: Lengths,
-    ramping: Ramping,
+    ramps: Ramps,
     before: Counted,
 ) {
     let mut c = before;
     let entries = register.entries;
-    c.sharing = list_above(register, joined, series, lengths, ramping);
+    c.sharing = list_above(register, joined, series, lengths, ramps);
     let each = lengths.each;
-    let ramps = ramping.ramps;
     let ramped = ramps.each;
     let s = month::settle(part, entries, register.count, joined, series, each, ramped);
     let fault = s.fault;
@@ -275,6 +276,16 @@ fn files_of(count: usize) -> usize
     0
 }
 
+// The members' ramping files, in a month of so many hours; none, where no book says whose month it is.
+fn ramps_of(entries: [Entry; MOST_ENTRIES], count: usize, hours: u16) -> Ramps
+    requires { ⌜ count ≤ 64 ⌝ }
+{
+    if hours == 0 {
+        return read_ramps(entries, 0, 0, true);
+    }
+    read_ramps(entries, count, hours, true)
+}
+
 // The members' files, then the joined book's calls, then books that add nothing.
 fn list_joined(part: u32, register: Register, joined: &[u8], left: &mut [u8], before: Counted) {
     let mut c = before;
@@ -289,11 +300,10 @@ fn list_joined(part: u32, register: Register, joined: &[u8], left: &mut [u8], be
     let bad = list_series(entries, files, joined, &series, lengths);
     c.series = sum(c.series, sum(lengths.bad, bad));
     let hours = month_hours(joined);
-    let ramping = read_ramping_files(entries, files, hours);
-    let ramps = ramping.ramps;
+    let ramps = ramps_of(entries, files, hours);
     c.ramping = sum(ramps.bad, list_ramping(entries, files, ramps, hours));
     let d = list_calls(books_at(), left, joined, register, c);
-    list_rest(part, register, joined, &series, lengths, ramping, left, d);
+    list_rest(part, register, joined, &series, lengths, ramps, left, d);
 }
 
 // Whether the books could be read again and are still what they were; else that is told in the last line.
@@ -320,14 +330,14 @@ fn list_rest(
     joined: &[u8],
     series: &[u32],
     lengths: Lengths,
-    ramping: Ramping,
+    ramps: Ramps,
     left: &mut [u8],
     before: Counted,
 ) {
     let mut c = before;
     c.spare = tell_spare(books_at(), left);
     if is_current(left, joined) {
-        list_month(part, register, joined, series, lengths, ramping, c);
+        list_month(part, register, joined, series, lengths, ramps, c);
     }
 }
 

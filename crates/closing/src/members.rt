@@ -4,10 +4,9 @@ use month::Ramped;
 use month::members::member_compensation;
 use month_files::places::register_at;
 use month_files::ramps::Ramps;
-use month_files::ramps::no_ramping;
+use month_files::ramps::is_ramped;
 use month_files::ramps::ramped_at;
 use month_files::ramps::ramping_file_of;
-use month_files::ramps::read_ramps;
 use month_files::series::Lengths;
 use month_files::series::Name;
 use month_files::series::entry_at;
@@ -27,12 +26,6 @@ use tally::wrong::tell_series;
 use tray::books::more;
 use tray::books::note_refused;
 use tray::books::note_refused_at;
-
-// What the members' ramping files give, and of which members it is not known, since their files could not be read.
-pub struct Ramping {
-    pub ramps: Ramps,
-    pub unknown: [bool; MOST_ENTRIES],
-}
 
 // That a file of a member is refused, and where.
 fn note_file(name: Name, number: u32, place: usize) {
@@ -104,64 +97,6 @@ pub fn list_series(
     n
 }
 
-// No ramping files so far.
-fn none_ramped() -> Ramping {
-    let none = no_ramping();
-    Ramping {
-        ramps: Ramps {
-            each: [none; MOST_ENTRIES],
-            bad: 0,
-        },
-        unknown: [false; MOST_ENTRIES],
-    }
-}
-
-// Line i's ramping file, which is read by itself.
-fn with_ramping(e: Entry, i: usize, hours: u16, before: Ramping) -> Ramping {
-    let own = read_ramps([e; MOST_ENTRIES], 1, hours, true);
-    let ramps = before.ramps;
-    let mut each = ramps.each;
-    let mut unknown = before.unknown;
-    if i < MOST_ENTRIES {
-        each[i] = ramped_at(own, 0);
-        unknown[i] = own.bad != 0;
-    }
-    Ramping {
-        ramps: Ramps {
-            each,
-            bad: if own.bad != 0 {
-                more(ramps.bad)
-            } else {
-                ramps.bad
-            },
-        },
-        unknown,
-    }
-}
-
-// The members' ramping files, in a month of so many hours; none, where no book says whose month it is.
-pub fn read_ramping_files(entries: [Entry; MOST_ENTRIES], count: usize, hours: u16) -> Ramping {
-    let mut ramping = none_ramped();
-    if hours == 0 {
-        return ramping;
-    }
-    let mut i: usize = 0;
-    while i < count {
-        ramping = with_ramping(entry_at(entries, i), i, hours, ramping);
-        i += 1;
-    }
-    ramping
-}
-
-// Whether what the ramping file of line i's member gives is known.
-fn is_known(ramping: Ramping, i: usize) -> bool {
-    let unknown = ramping.unknown;
-    if i < MOST_ENTRIES {
-        return !unknown[i];
-    }
-    false
-}
-
 // A member's ramping file, and one more where it is refused.
 fn list_ramped(e: Entry, ramped: Ramped, hours: u16, n: usize) -> usize {
     if ramped.number == 0 {
@@ -222,16 +157,15 @@ fn list_known(
     joined: &[u8],
     series: &[u32],
     lengths: Lengths,
-    ramping: Ramping,
+    ramps: Ramps,
     n: usize,
 ) -> usize {
-    if !is_known(ramping, i) {
+    if !is_ramped(ramps, i) {
         return n;
     }
     let entries = register.entries;
     let e = entry_at(entries, i);
     let own = part_of(lengths, i, series);
-    let ramps = ramping.ramps;
     list_high(e, i, register.number, joined, own, ramped_at(ramps, i), n)
 }
 
@@ -241,13 +175,13 @@ pub fn list_above(
     joined: &[u8],
     series: &[u32],
     lengths: Lengths,
-    ramping: Ramping,
+    ramps: Ramps,
 ) -> usize {
     let count = seen(register.count);
     let mut n: usize = 0;
     let mut i: usize = 0;
     while i < count {
-        n = list_known(register, i, joined, series, lengths, ramping, n);
+        n = list_known(register, i, joined, series, lengths, ramps, n);
         i += 1;
     }
     n

@@ -18,9 +18,10 @@ use units::Grains;
 ghost use mathlib.Core.Path.{_≡_};
 ghost use Prim.Native.Nat.{_+_, _<_, _≤_};
 
-// What each member's ramping file gives; how many could not be read, of each of which one line has said why.
+// What each member's ramping file gives; which could not be read, and how many these are: of each one line has said why.
 pub struct Ramps {
     pub each: [Ramped; MOST_ENTRIES],
+    pub unread: [bool; MOST_ENTRIES],
     pub bad: usize,
 }
 
@@ -64,6 +65,7 @@ fn no_ramps() -> Ramps
     let none = no_ramping();
     Ramps {
         each: [none; MOST_ENTRIES],
+        unread: [false; MOST_ENTRIES],
         bad: 0,
     }
 }
@@ -79,6 +81,7 @@ fn read_next(e: Entry, i: usize, hours: u16, goes_on: bool, before: Ramps) -> Ra
         return before;
     }
     let mut each = before.each;
+    let mut unread = before.unread;
     let file = read_ramping(e.member, hours, goes_on);
     let found = file.found;
     match found {
@@ -88,10 +91,15 @@ fn read_next(e: Entry, i: usize, hours: u16, goes_on: bool, before: Ramps) -> Ra
             each[i] = ramped_of(h);
         }
         _ => {
-            return Ramps { each, bad: bad + 1 };
+            unread[i] = true;
+            return Ramps {
+                each,
+                unread,
+                bad: bad + 1,
+            };
         }
     }
-    Ramps { each, bad }
+    Ramps { each, unread, bad }
 }
 
 // The ramping files of the first entries' members, in turn, up to the first that cannot be read, or all of them where the run goes on.
@@ -116,4 +124,13 @@ pub fn ramped_at(ramps: Ramps, i: usize) -> Ramped {
         return each[i];
     }
     no_ramping()
+}
+
+// Whether that is known: its file could be read, or there is none.
+pub fn is_ramped(ramps: Ramps, i: usize) -> bool {
+    let unread = ramps.unread;
+    if i < MOST_ENTRIES {
+        return !unread[i];
+    }
+    false
 }
