@@ -4,7 +4,7 @@ use month::Ramped;
 use month::members::member_compensation;
 use month_files::places::register_at;
 use month_files::ramps::Ramps;
-use month_files::ramps::is_ramped;
+use month_files::ramps::hours_are_known;
 use month_files::ramps::ramped_at;
 use month_files::ramps::ramping_file_of;
 use month_files::series::Lengths;
@@ -160,7 +160,7 @@ fn list_known(
     ramps: Ramps,
     n: usize,
 ) -> usize {
-    if !is_ramped(ramps, i) {
+    if !hours_are_known(ramps, i) {
         return n;
     }
     let entries = register.entries;

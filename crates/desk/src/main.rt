@@ -38,7 +38,7 @@ fn main() {
     run(first(&word, n));
 }
 
-// The commands on books, and those on one member.
+// What needs little stack, in two groups: the commands on books, with help and version; those on one member, and the year.
 fn on_books(command: Command) {
     match command {
         Command::Check => check_book(),
@@ -66,8 +66,8 @@ fn on_members(command: Command) {
     }
 }
 
-// The command that a word is; `--help` is `help`. Since this function calls itself, the compiler gives each function that it calls a frame of its own: a command takes the stack
-// that it needs, and not that of the month and the drawer (tests/program-stack).
+// The command that a word is; `--help` is `help`. That is said by a call of itself for the stack's sake: into a function that calls itself the compiler takes no large frame of another,
+// so that a command takes the stack that it needs, and not that of the month and the drawer (tests/program-stack).
 fn run(word: &[u8]) {
     if 2 < word.len() {
         if is_word(word, b"--help") {

@@ -4,7 +4,7 @@ use mathlib.Core.Bool.{Bool, true, false, cond, not, _&&_, _||_}
 use mathlib.Core.List.{List, [], _∷_, _++_, map, append-assoc}
 use Prim.Native.Nat.{ℕ, suc, _+_, _≤_, _<_}
 use native.Mathlib.Omega.{arith}
-use lib.Dec.{eqb, leb}
+use lib.Dec.{leb}
 use lib.ListN.{length, getD, take, drop, replicate, drop-of-length-le, length-take, length-append}
 use borrow.Author.Tests.{eq-eqb, ne-eqb, not-true, leb-true}
 use Rattle.le.proofs.Tests.{each}
@@ -26,7 +26,7 @@ use Rattle.hour_faults.specs.declared.HourFound.{HourFound}
 use Rattle.hour_faults.specs.declared.judge.Judge.{Judge}
 use Rattle.hour_faults.specs.declared.Finder.{Finder}
 use Rattle.hour_faults.specs.HourFaults.{isSound, rowFault}
-use Rattle.hour_faults.specs.Inner.{judgeFault, judgeRefusing, judgeOf, judgeAll, judgeAfter, blankAfter, firstLeft, foundBy, judgeLeft, isSpoilt, finderIsSettled, foundLeft}
+use Rattle.hour_faults.specs.Inner.{judgeFault, judgeRefusing, judgeOf, judgeAll, judgeAfter, blankAfter, firstLeft, foundBy, judgeLeft, faultIsKnown, finderIsSettled, foundLeft}
 
 -- A fault that was found stays
 
@@ -174,8 +174,8 @@ module _ (f : Finder) (long : length (f .ended) ≡ 8) (on : isSound (f .judge .
       refuses : (j : Judge) → isSound (judgeRefusing j (Columns 8 hourColumns) .wrong) ≡ false
       refuses j = refl
 
-pub found-spoilt : (f : Finder) → length (f .ended) ≡ 8 → isSound (f .judge .wrong) ≡ true → (f .first ≡ 0 → ⊥) → isSpoilt f ≡ true → (rest : List ℕ) → foundLeft f rest ≡ foundLeft f []
-unfolding foundLeft judgeLeft firstLeft isSpoilt
+pub found-spoilt : (f : Finder) → length (f .ended) ≡ 8 → isSound (f .judge .wrong) ≡ true → (f .first ≡ 0 → ⊥) → faultIsKnown f ≡ true → (rest : List ℕ) → foundLeft f rest ≡ foundLeft f []
+unfolding foundLeft judgeLeft firstLeft faultIsKnown
 found-spoilt f long on n h rest =
     let p = each (not (headLeft (f .grid) [])) ((not (blankLeft (f .grid) []) && (f .blank || leb hourColumns (f .grid .at))) ∷ []) h in
     let q = each (not (blankLeft (f .grid) [])) ((f .blank || leb hourColumns (f .grid .at)) ∷ []) (p .1 .0) in
@@ -184,16 +184,16 @@ found-spoilt f long on n h rest =
 
 -- the test, by its returns
 module _ (f : Finder) where
-  pub spoilt-heading : headLeft (f .grid) [] ≡ true → false ≡ isSpoilt f
-  unfolding isSpoilt
+  pub spoilt-heading : headLeft (f .grid) [] ≡ true → false ≡ faultIsKnown f
+  unfolding faultIsKnown
   spoilt-heading h = rw h
 
-  pub spoilt-blank : headLeft (f .grid) [] ≡ false → blankLeft (f .grid) [] ≡ true → false ≡ isSpoilt f
-  unfolding isSpoilt
+  pub spoilt-blank : headLeft (f .grid) [] ≡ false → blankLeft (f .grid) [] ≡ true → false ≡ faultIsKnown f
+  unfolding faultIsKnown
   spoilt-blank h b = rw (h, b)
 
-  pub spoilt-line : headLeft (f .grid) [] ≡ false → blankLeft (f .grid) [] ≡ false → (f .blank || leb hourColumns (f .grid .at)) ≡ isSpoilt f
-  unfolding isSpoilt
+  pub spoilt-line : headLeft (f .grid) [] ≡ false → blankLeft (f .grid) [] ≡ false → (f .blank || leb hourColumns (f .grid .at)) ≡ faultIsKnown f
+  unfolding faultIsKnown
   spoilt-line h b = rw (h, b)
 
   pub unknown-line : f .first ≡ 0 → false ≡ finderIsSettled f
@@ -204,6 +204,6 @@ module _ (f : Finder) where
   unfolding finderIsSettled
   known-fault n h = rw (ne-eqb (f .first) 0 n, h)
 
-  pub by-line : (f .first ≡ 0 → ⊥) → isSound (f .judge .wrong) ≡ true → (t : Bool) → t ≡ isSpoilt f → t ≡ finderIsSettled f
+  pub by-line : (f .first ≡ 0 → ⊥) → isSound (f .judge .wrong) ≡ true → (t : Bool) → t ≡ faultIsKnown f → t ≡ finderIsSettled f
   unfolding finderIsSettled
-  by-line n h t e = e ∙ sym (λ i. not (ne-eqb (f .first) 0 n i) && (not (h i) || isSpoilt f))
+  by-line n h t e = e ∙ sym (λ i. not (ne-eqb (f .first) 0 n i) && (not (h i) || faultIsKnown f))

@@ -84,12 +84,12 @@ unfoldable pub judgeLeft : Finder → List ℕ → Judge
 judgeLeft f rest = judgeAll (f .judge) (rowsLeft asTold (oneIf (f .blank)) (f .grid) (f .ended) rest)
 
 -- the line that is being read has its fault whatever follows: it is no heading and not blank, and a blank line is held back before it, or an eighth cell is begun
-unfoldable pub isSpoilt : Finder → Bool
-isSpoilt f = not (headLeft (f .grid) []) && (not (blankLeft (f .grid) []) && (f .blank || leb hourColumns (f .grid .at)))
+unfoldable pub faultIsKnown : Finder → Bool
+faultIsKnown f = not (headLeft (f .grid) []) && (not (blankLeft (f .grid) []) && (f .blank || leb hourColumns (f .grid .at)))
 
 -- a fault was found, or the line that is being read has it, at a line that is known: no bytes that follow change it
 unfoldable pub finderIsSettled : Finder → Bool
-finderIsSettled f = not (eqb (f .first) 0) && (not (isSound (f .judge .wrong)) || isSpoilt f)
+finderIsSettled f = not (eqb (f .first) 0) && (not (isSound (f .judge .wrong)) || faultIsKnown f)
 
 -- WHAT IS FOUND then
 unfoldable pub foundLeft : Finder → List ℕ → HourFound

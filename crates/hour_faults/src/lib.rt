@@ -22,7 +22,7 @@ ghost use lib.ListN.{getD};
 ghost use Rattle.ramp.specs.Ramping.{mostRampRate};
 ghost use Rattle.hour_faults.specs.HourFaults.{isSound, orElse, columnFault, monthFault, cellsFault, risingFault, fullFault, standardFault, fastFault, moveFault, actionFault, firstHourFault};
 ghost use Rattle.hours.specs.Hours.{monthHours};
-ghost use Rattle.hour_faults.specs.Inner.{blankAfter, firstLeft, foundBy, isSpoilt, finderIsSettled, foundLeft};
+ghost use Rattle.hour_faults.specs.Inner.{blankAfter, firstLeft, foundBy, faultIsKnown, finderIsSettled, foundLeft};
 
 // What is wrong with a line: nothing; it is blank, with another behind it; so many cells, and so many that it should have; a column, counted from 1, that has no number;
 // one whose number is outside its limits, with these; an hour below that of the line before, with that; an hour that has 60 actions before it; a standard rate of an hour
@@ -287,8 +287,8 @@ impl Finder {
 
     // Whether the line that is being read has its fault whatever follows: it is neither a heading nor blank, and a blank line is held back before it, or it has too many cells.
     // Of any other line only its end tells what is wrong with it: before that there may be too few.
-    fn is_spoilt(self) -> bool
-        ensures { λ r. ⌜ r ≡ isSpoilt self ⌝ }
+    fn fault_is_known(self) -> bool
+        ensures { λ r. ⌜ r ≡ faultIsKnown self ⌝ }
     {
         let grid = self.grid;
         if grid.is_heading() {
@@ -313,7 +313,7 @@ impl Finder {
         if !is_sound(wrong) {
             return true;
         }
-        self.is_spoilt()
+        self.fault_is_known()
     }
 
     // The first fault, if the file ends here.

@@ -12,7 +12,7 @@ use borrow.Author.Tests.{leb-true, leb-false, le-leb, lt-leb, eqb-true, ltb-fals
 use Rattle.le.proofs.Tests.{joined, each, holds-or-fails}
 use Rattle.row.specs.Numbers.{digits, value, ceiling, hold, partsOf, notEmpty}
 use Rattle.row.specs.Meaning.{mostColumns}
-use Rattle.row.proofs.Texts.{grows, or-true}
+use Rattle.row.proofs.Texts.{grows}
 use Rattle.grid.specs.declared.cell.Cell.{Cell}
 use Rattle.grid.specs.declared.cell.Cell.the-variants.{Fresh, Bare, Opened, Quoted, Dashed, Closed, Bad}
 use Rattle.grid.specs.declared.Grid.{Grid}
@@ -165,7 +165,7 @@ and-true : (t : Bool) → (t && true) ≡ false → t ≡ false
 and-true true e = e
 and-true false e = refl
 
--- rows that begin with the line that is being read, l of it left, behind so many blank ones
+-- rows that begin with the line that is being read, of which `left` is left, behind so many blank ones
 pub record BeginWith (say : List ℕ → List ℕ) (k : ℕ) (grid : Grid) (ended : List ℕ) (all : List (List ℕ)) : Type 0 where
   pub left : List ℕ
   pub more : List (List ℕ)

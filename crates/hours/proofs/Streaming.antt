@@ -215,7 +215,7 @@ module _ (m : Member) (hours : ℕ) where
         said m hours (text ++ rest) ∙ ap (linesSay m hours) (k .left rest) ∙ no' .stays (map asHourLine (rowsLeft (rowBy hourColumns) (k .held) (r .grid) (r .ended) rest))
         ∙ sym (said m hours text ∙ ap (linesSay m hours) ends-here ∙ no' .stays (endedLines (k .held) (r .grid) (r .ended)))
 
-    -- what the test of a reader that knows no fault of a line that has ended promises
+    -- where no line that has ended has a fault: what the line that is being read decides
     module _ (on : r .sheet .refused ≡ false) (long : length (r .ended) ≡ 8) where
       spoilt-answer : isSpoilt r ≡ true → (rest : List ℕ) → readHours m hours (text ++ rest) ≡ hoursRefused (AtLine (r .sheet .count))
       unfolding done isSpoilt

@@ -77,7 +77,7 @@ unfoldable pub somePast : List ℕ → Bool
 somePast [] = false
 somePast (n ∷ ns) = leb ceiling n || somePast ns
 
--- NO BYTES CAN MEND THE LINE: an eighth cell is begun, or a cell is no number or past every limit
+-- NO BYTES MEND A LINE of which this is so: an eighth cell is begun, or a cell is no number or past every limit. Any other bad line is known at its end
 unfoldable pub isLost : Grid → List ℕ → Bool
 isLost grid ended = leb hourColumns (grid .at) || (somePast (take (grid .at) ended) || isPast (grid .cell))
 

@@ -43,7 +43,7 @@ isSpoilt r = not (headLeft (r .grid) []) && (not (blankLeft (r .grid) []) && (r 
 unfoldable pub readerIsSettled : Reader → Bool
 readerIsSettled r = r .sheet .refused || isSpoilt r
 
--- a test whether to stop behind a text: true at the latest where a line with a fault has ended, and only where no bytes that follow change the answer
+-- a test whether to stop behind a text: true at the latest where the member, or a line that has ended, has a fault, and only where no bytes that follow change the answer
 pub record Stops (m : Member) (hours : ℕ) (text : List ℕ) (test : Bool) : Type 0 where
   pub soon : isFault (readHours m hours (endedPart text) .fault) ≡ true → test ≡ true
   pub late : test ≡ true → Settled m hours text

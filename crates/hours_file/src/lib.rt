@@ -7,7 +7,7 @@ use pay::Member;
 pub mod faulty;
 pub mod given;
 
-// More bytes than any file needs, 16 MiB: 60 actions in each of 744 hours come to some 4. A first line without a digit is a heading whatever its length, so that one without an
+// More bytes than any file needs, 16 MiB: 60 actions in each of 744 hours come to some 2 MB, and 3 where numbers are quoted. A first line without a digit is a heading whatever its length, so that one without an
 // end would be read for ever.
 const MOST_BYTES: u64 = 16_777_216;
 

@@ -126,8 +126,8 @@ pub fn ramped_at(ramps: Ramps, i: usize) -> Ramped {
     no_ramping()
 }
 
-// Whether that is known: its file could be read, or there is none.
-pub fn is_ramped(ramps: Ramps, i: usize) -> bool {
+// Whether what the ramping file of line i's member gives is known: it could be read, or there is none.
+pub fn hours_are_known(ramps: Ramps, i: usize) -> bool {
     let unread = ramps.unread;
     if i < MOST_ENTRIES {
         return !unread[i];

@@ -66,14 +66,14 @@ partValues quarters rate wh grains = quarters ∷ quarters ∷ rate ∷ rate ∷
 abbrev pub partText : ℕ → ℕ → ℤ → ℕ → List ℕ
 partText quarters rate wh grains = filled partForm (partValues quarters rate wh grains)
 
--- what stands below the parts: the month's energy, and what it is paid;
+-- below the parts: the month's energy, and what it is paid
 abbrev pub energyForm : List ℕ
 energyForm = word "[energy wh %i grains %n\n]"
 
 abbrev pub energyText : ℤ → ℕ → List ℕ
 energyText wh energy = filled energyForm (bits wh ∷ bits wh ∷ energy ∷ [])
 
--- behind the hours, what they add; all the grains, in points and in yuan as well
+-- behind the hours: how many, and what they add; then all the grains, in points and in yuan as well
 abbrev pub explainedForm : List ℕ
 explainedForm = word "[ramping hours %n grains %n\n]all grains %n points %p yuan %y\n"
 

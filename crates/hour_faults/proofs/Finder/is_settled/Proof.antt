@@ -23,7 +23,7 @@ returns-3 c =
     let long : length (f .ended) ≡ 8 = search needs in
     let on = sym (c .before .before .is-sound .ensures) ∙ not-false _ (c .before .if2 .left) in
     let known = c .before .before .before .before .if1 .left in
-    (by-line f known on (c .is-spoilt .result) (c .is-spoilt .ensures), λ h. found-spoilt f long on known (sym (c .is-spoilt .ensures) ∙ h))
+    (by-line f known on (c .fault-is-known .result) (c .fault-is-known .ensures), λ h. found-spoilt f long on known (sym (c .fault-is-known .ensures) ∙ h))
 
 pub is-settled-spec : {M : Type 1} → statement M
 is-settled-spec = tie.close (tie.spec returns (λ c κs. search needs) returns-2 (λ c κs. search needs) returns-3)

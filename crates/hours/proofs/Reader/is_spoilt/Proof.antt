@@ -1,4 +1,4 @@
-use mathlib.Core.Path.{_≡_, sym, _∙_}
+use mathlib.Core.Path.{sym, _∙_}
 use borrow.Author.Needs.{needs}
 use Rattle.hours.proofs.Streaming.{spoilt-heading, spoilt-blank, spoilt-line}
 use Rattle.hours.proofs.Reader.is_spoilt.Statement.{statement}
