@@ -234,8 +234,8 @@ fn list_sharing(before: Counted, fault: Fault) -> usize {
 
 // That a sound register has no member, so that the month would be settled of nobody.
 fn list_nobody(register: Register) {
-    if (register.number == 0) & (register.count == 0) {
-        tell_nobody();
+    if register.number == 0 {
+        tell_nobody(register.count);
     }
 }
 

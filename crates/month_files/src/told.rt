@@ -3,6 +3,7 @@ use crate::places::register_at;
 use clerk::load::tell_of;
 use clerk::print;
 use clerk::shelf::note_at;
+use clerk::shelf::put_note_at;
 use hour_faults::HourFound;
 use hour_faults::is_sound;
 use hour_faults::words::hour_fault_text;
@@ -68,9 +69,24 @@ pub fn tell_ramping_file(path: &[u8], hours: u16, number: u32, place: usize) {
     tell_ramping_row(path, hours, place);
 }
 
-// That a register has no member.
-pub fn tell_nobody() {
-    note_at(register_at(), b"has no member, so that nobody is settled");
+// That a register of so many members has none, on a page: how many bytes stand there then.
+pub fn put_nobody(page: &mut [u8], members: usize) -> usize {
+    if members != 0 {
+        return 0;
+    }
+    put_note_at(
+        page,
+        0,
+        register_at(),
+        b"has no member, so that nobody is settled",
+    )
+}
+
+// The same at once.
+pub fn tell_nobody(members: usize) {
+    let mut page = io::large_buffer();
+    let n = put_nobody(&mut page, members);
+    say::write_page(&page, n);
 }
 
 // What is wrong with the sums of all members, in words.

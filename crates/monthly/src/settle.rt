@@ -29,7 +29,7 @@ use month_files::series::file_of;
 use month_files::series::part_of;
 use month_files::series::read_all;
 use month_files::series::room;
-use month_files::told::tell_nobody;
+use month_files::told::put_nobody;
 use month_files::told::tell_ramping_file;
 use month_files::told::tell_sums;
 use posted::posted_text;
@@ -62,24 +62,18 @@ fn post(s: Statement) -> bool {
     save_new(STATEMENT, &out[..n])
 }
 
-fn tell_statement(s: Statement) {
+// The statement of so many members, once its file stands; that they are none is told before it.
+fn tell_statement(members: usize, s: Statement) {
     if !post(s) {
         return;
     }
     let mut page = io::large_buffer();
-    let at = print::put_header(&mut page, 0, s.header, s.calls);
+    let note = put_nobody(&mut page, members);
+    let at = print::put_header(&mut page, note, s.header, s.calls);
     let mut out = io::large_buffer();
     let n = month_text(s, &mut out);
     let end = say::add(&mut page, at, &out[..n]);
     print::finish(&mut page, end);
-}
-
-// The statement of so many members; that they are none is told before it.
-fn tell_settled(members: usize, s: Statement) {
-    if members == 0 {
-        tell_nobody();
-    }
-    tell_statement(s);
 }
 
 // The member's refusal: of its series, with a line before it that says why, of a call, which is shown before, or of its line.
@@ -198,7 +192,7 @@ fn settle_with(
     let s = month::settle(part, entries, register.count, book, series, each, ramped);
     let fault = s.fault;
     if let Fault::NoFault = fault {
-        tell_settled(register.count, s);
+        tell_statement(register.count, s);
         return;
     }
     tell_fault(fault, register, book, series, lengths, ramps);
