@@ -185,7 +185,7 @@ pub fn command_of(word: &[u8]) -> Command {
         }
         k += 1;
     }
-    if is_word(word, b"-h") {
+    if is_word(word, b"--help") | is_word(word, b"-h") {
         return Command::Help;
     }
     Command::Unknown
