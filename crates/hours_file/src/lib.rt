@@ -7,8 +7,8 @@ use pay::Member;
 pub mod faulty;
 pub mod given;
 
-// More bytes than any file needs, 16 MiB: 60 actions in each of 744 hours come to some 2 MB, and 3 where numbers are quoted. A first line without a digit is a heading whatever its length, so that one without an
-// end would be read for ever.
+// More bytes than any file needs, 16 MiB: 60 actions in each of 744 hours come to some 2 MB, and 3 where numbers are quoted. A first line without a digit is a heading whatever its
+// length, so that one without an end would be read for ever.
 const MOST_BYTES: u64 = 16_777_216;
 
 // What became of the file: it was read to its end, or until its fault was known; there is none; its name is a link that leads to no file; it goes on behind the most bytes;
