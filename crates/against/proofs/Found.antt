@@ -11,7 +11,7 @@ use borrow.Author.Tests.{lt-ltb, le-ltb, le-leb, lt-leb, eqb-true}
 use Rattle.call.specs.declared.Call.{Call}
 use Rattle.call.specs.Layout.{recordSize}
 use Rattle.call.specs.Revising.{contested, withdrawn}
-use Rattle.book.specs.Book.{version, mostRecords, placeOf, recordAt}
+use Rattle.book.specs.Book.{mostKeys, placeOf, recordAt}
 use Rattle.field.specs.Record.{hasRecord}
 use Rattle.pay.specs.declared.Member.{Member}
 use Rattle.pay.specs.declared.open.Month.{Month}
@@ -56,17 +56,17 @@ as-clash t x y u v e p q = e ∙ λ k. clashes (p k .participant) (p k) (q k)
 -- Any bytes
 
 module _ (b : List ℕ) (i : ℕ) where
-  pub too-late : mostRecords version ≤ i → i ≡ clashPlace b i
+  pub too-late : mostKeys ≤ i → i ≡ clashPlace b i
   unfolding clashPlace hasRecord
-  too-late h = rw (le-ltb i (mostRecords version) h)
+  too-late h = rw (le-ltb i mostKeys h)
 
-  pub too-short : i < mostRecords version → length b < placeOf i + recordSize → i ≡ clashPlace b i
+  pub too-short : i < mostKeys → length b < placeOf i + recordSize → i ≡ clashPlace b i
   unfolding clashPlace hasRecord
-  too-short h k = rw (lt-ltb i (mostRecords version) h, lt-leb (placeOf i + recordSize) (length b) k)
+  too-short h k = rw (lt-ltb i mostKeys h, lt-leb (placeOf i + recordSize) (length b) k)
 
-  pub there : (r : ℕ) → i < mostRecords version → placeOf i + recordSize ≤ length b → r ≡ clashWith (recordAt b) i → r ≡ clashPlace b i
+  pub there : (r : ℕ) → i < mostKeys → placeOf i + recordSize ≤ length b → r ≡ clashWith (recordAt b) i → r ≡ clashPlace b i
   unfolding clashPlace hasRecord
-  there r h k e = rw (lt-ltb i (mostRecords version) h, le-leb (placeOf i + recordSize) (length b) k) e
+  there r h k e = rw (lt-ltb i mostKeys h, le-leb (placeOf i + recordSize) (length b) k) e
 
 -- A refusal 13
 

@@ -12,7 +12,7 @@ use call::service::BLACK_START;
 use call::service::STANDBY;
 ghost use mathlib.Core.Path.{_≡_};
 ghost use Prim.Native.Nat.{_<_};
-ghost use Rattle.book.specs.Book.{HasRecord, recordAt};
+ghost use Rattle.book.specs.Book.{mostKeys, HasRecord, recordAt};
 ghost use Rattle.score.specs.Refusing.{clashes};
 ghost use Rattle.against.specs.Against.{clashWith, clashPlace};
 
@@ -35,7 +35,7 @@ fn clashes(x: Call, y: Call) -> bool
 
 // The first record before record i that stands against it, or i.
 fn clash_with(b: &[u8], i: usize) -> usize
-    requires { ⌜ i < 512 ⌝ }
+    requires { ⌜ i < mostKeys ⌝ }
     requires { ⌜ HasRecord (now b) i ⌝ }
     ensures { λ r. ⌜ r ≡ clashWith (recordAt (now (b .entry))) i ⌝ }
 {

@@ -13,43 +13,48 @@ use Rattle.le.proofs.Laws.{split}
 use Rattle.call.specs.declared.Call.{Call}
 use Rattle.book.specs.declared.Header.{Header}
 use Rattle.book.specs.declared.Verdict.{Verdict}
-use Rattle.book.specs.Book.{version, mostRecords, headerSize, sizeOf, HasHeader, headerAt, countAt, callsFrom, callsOf, headBytes, recordBytes, bookBytes}
+use Rattle.book.specs.Book.{mostRecords, mostKeys, headerSize, sizeOf, HasHeader, versionAt, headerAt, countAt, callsFrom, callsOf, headBytes, recordBytes, bookBytes}
 use Rattle.book.specs.Check.{refused, accepted, isMarked, isVersioned, isHeaded, headerMinutes, checkRecords, check}
-use Rattle.book.specs.Sound.{Heading, CallsWithin, Sound}
+use Rattle.book.specs.Sound.{Known, Heading, CallsWithin, Sound, SaysSame}
 use Rattle.book.proofs.Turns.{counted}
 use Rattle.book.proofs.Lengths.{length-head, length-book}
-use Rattle.book.proofs.Heads.{month-most, marked-is, is-marked, versioned-is, is-versioned, headed-is, is-headed, header-back, count-back, mark-back, version-back, headed-back, head-again}
+use Rattle.book.proofs.Heads.{month-most, known-most, marked-is, is-marked, versioned-is, is-versioned, headed-is, is-headed, header-back, count-back, mark-back, version-back, versioned-back, headed-back, head-again}
 use Rattle.book.proofs.Records.{calls-back, length-calls, records-accepted, records-sound}
 
--- Reading what was written gives the same header and calls.
-module _ (h : Header) (cs : List Call) (g : Heading h) (few : length cs ≤ (mostRecords version)) where
-  header-of : headerAt (bookBytes version h cs) ≡ h
+-- Reading what was written gives the same version, header and calls.
+module _ (v : ℕ) (h : Header) (cs : List Call) (k : Known v) (g : Heading h) (few : length cs ≤ mostRecords v) where
+  pub version-of : versionAt (bookBytes v h cs) ≡ v
   unfolding bookBytes
-  header-of = header-back h (length cs) (recordBytes cs) g
+  version-of = version-back v h (length cs) (recordBytes cs) k
 
-  count-of : countAt (bookBytes version h cs) ≡ length cs
+  header-of : headerAt (bookBytes v h cs) ≡ h
   unfolding bookBytes
-  count-of = count-back h (length cs) (recordBytes cs) few
+  header-of = header-back v h (length cs) (recordBytes cs) g
 
-  pub reads-back : CallsWithin (headerMinutes h) cs → (headerAt (bookBytes version h cs) ≡ h) × (callsOf (bookBytes version h cs) ≡ cs)
+  count-of : countAt (bookBytes v h cs) ≡ length cs
+  unfolding bookBytes
+  count-of = count-back v h (length cs) (recordBytes cs) k few
+
+  pub reads-back : CallsWithin (headerMinutes h) cs → (headerAt (bookBytes v h cs) ≡ h) × (callsOf (bookBytes v h cs) ≡ cs)
   unfolding callsOf bookBytes
-  reads-back w = (header-of, ap (callsFrom (bookBytes version h cs) 0) count-of ∙ calls-back (headerMinutes h) cs (headBytes version h (length cs)) 0 (month-most h) w (length-head h (length cs)))
+  reads-back w = (header-of, ap (callsFrom (bookBytes v h cs) 0) count-of ∙ calls-back (headerMinutes h) cs (headBytes v h (length cs)) 0 (month-most h) w (length-head v h (length cs)))
 
 -- A sound book is accepted.
 pub sound-accepted : (b : List ℕ) → Sound b → check b ≡ accepted
 unfolding bookBytes
 sound-accepted b s =
+    let v = s .version in
     let h = s .header in
     let cs = s .calls in
     let n = length cs in
     let t = recordBytes cs in
-    let w = headBytes version h n ++ t in
-    let c : countAt w ≡ n = count-back h n t (s .few) in
-    let l : length w ≡ sizeOf n = length-book h cs in
+    let w = headBytes v h n ++ t in
+    let c : countAt w ≡ n = count-back v h n t (s .known) (s .few) in
+    let l : length w ≡ sizeOf n = length-book v h cs in
     ap check (s .bytes)
-    ∙ counted w (omega arith) (is-marked w (mark-back h n t)) (is-versioned w (version-back h n t)) (is-headed w (headed-back h n t (s .heading) (s .few))) (l ∙ ap sizeOf (sym c))
-    ∙ ap₂ (λ (x : Header) (k : ℕ). checkRecords (headerMinutes x) w 0 0 k) (header-back h n t (s .heading)) c
-    ∙ records-accepted (headerMinutes h) 0 cs (headBytes version h n) 0 (month-most h) (s .within) (s .rising) (length-head h n)
+    ∙ counted w (omega arith) (is-marked w (mark-back v h n t)) (is-versioned w (versioned-back v h n t (s .known))) (is-headed w (headed-back v h n t (s .known) (s .heading) (s .few))) (l ∙ ap sizeOf (sym c))
+    ∙ ap₂ (λ (x : Header) (k : ℕ). checkRecords (headerMinutes x) w 0 0 k) (header-back v h n t (s .heading)) c
+    ∙ records-accepted (headerMinutes h) 0 cs (headBytes v h n) 0 (month-most h) (s .within) (s .rising) (length-head v h n)
 
 -- What acceptance says of each test
 passed : (t : Bool) {n : ℕ} {f : Verdict} → 0 < n → cond t (refused n 0) f ≡ accepted → (t ≡ false) × (f ≡ accepted)
@@ -81,8 +86,12 @@ accepted-tests b e =
       records = c .1;
     }
 
--- Accepted bytes are a sound book, and its header and calls are those read from them.
-pub accepted-sound : (b : List ℕ) → IsBytes b → check b ≡ accepted → (s : Sound b) × (s .header ≡ headerAt b) × (s .calls ≡ callsOf b)
+-- no accepted book has more records than any book may have
+pub accepted-few : (b : List ℕ) → check b ≡ accepted → countAt b ≤ mostKeys
+accepted-few b e = let t = accepted-tests b e in omega (arith, headed-is b (t .header) .few, known-most (versionAt b) (versioned-is b (t .version)))
+
+-- Accepted bytes are a sound book, and its version, header and calls are those read from them.
+pub accepted-sound : (b : List ℕ) → IsBytes b → check b ≡ accepted → (s : Sound b) × (s .version ≡ versionAt b) × (s .header ≡ headerAt b) × (s .calls ≡ callsOf b)
 unfolding bookBytes callsOf
 accepted-sound b small e =
     let t = accepted-tests b e in
@@ -90,24 +99,45 @@ accepted-sound b small e =
     let w = headed-is b (t .header) in
     let r = records-sound (headerMinutes (headerAt b)) b small n 0 0 (t .count) (t .records) in
     let len = length-calls b n 0 in
-    let head = head-again b small (marked-is b (t .mark)) (versioned-is b (t .version)) w in
-    let bytes : b ≡ bookBytes version (headerAt b) (callsFrom b 0 n) =
-    split headerSize b 0 (t .long) ∙ ap₂ (λ (x y : List ℕ). x ++ y) (sym head ∙ ap (headBytes version (headerAt b)) (sym len)) (r .2) in
-    (record { header = headerAt b; calls = callsFrom b 0 n; heading = w .heading; few = rw len (w .few); within = r .0; rising = r .1; bytes = bytes }, refl, refl)
+    let head = head-again b small (marked-is b (t .mark)) w in
+    let bytes : b ≡ bookBytes (versionAt b) (headerAt b) (callsFrom b 0 n) =
+    split headerSize b 0 (t .long) ∙ ap₂ (λ (x y : List ℕ). x ++ y) (sym head ∙ ap (headBytes (versionAt b) (headerAt b)) (sym len)) (r .2) in (
+      record {
+        version = versionAt b;
+        header = headerAt b;
+        calls = callsFrom b 0 n;
+        known = versioned-is b (t .version);
+        heading = w .heading;
+        few = rw len (w .few);
+        within = r .0;
+        rising = r .1;
+        bytes = bytes;
+      },
+      refl,
+      refl,
+      refl,
+    )
 
 -- DEMAND 1: bytes are accepted exactly where they are the bytes of a header and a list of calls within the paper's limits, keys rising.
 pub accepted-exactly : (b : List ℕ) → IsBytes b → (check b ≡ accepted) ↔ Sound b
 accepted-exactly b small = (λ e. accepted-sound b small e .0, sound-accepted b)
 
--- A sound book has one header and one list of calls, and no other: those that are read from it.
+-- A sound book has one version, one header and one list of calls, and no other: those that are read from it.
+pub sound-version : (b : List ℕ) (s : Sound b) → versionAt b ≡ s .version
+sound-version b s = ap versionAt (s .bytes) ∙ version-of (s .version) (s .header) (s .calls) (s .known) (s .heading) (s .few)
+
 pub sound-reads : (b : List ℕ) (s : Sound b) → (headerAt b ≡ s .header) × (callsOf b ≡ s .calls)
 sound-reads b s =
-    let r = reads-back (s .header) (s .calls) (s .heading) (s .few) (s .within) in
+    let r = reads-back (s .version) (s .header) (s .calls) (s .known) (s .heading) (s .few) (s .within) in
     (ap headerAt (s .bytes) ∙ r .0, ap callsOf (s .bytes) ∙ r .1)
 
--- DEMAND 2: two sound books of one month and area with equal calls are equal bytes.
-pub one-to-one : (b b′ : List ℕ) → Sound b → Sound b′ → headerAt b ≡ headerAt b′ → callsOf b ≡ callsOf b′ → b ≡ b′
-one-to-one b b′ s s′ e f =
-    let r = sound-reads b s in
-    let r′ = sound-reads b′ s′ in
-    s .bytes ∙ ap₂ (bookBytes version) (sym (r .0) ∙ e ∙ r′ .0) (sym (r .1) ∙ f ∙ r′ .1) ∙ sym (s′ .bytes)
+pub sound-known : (b : List ℕ) → Sound b → Known (versionAt b)
+sound-known b s = rw (sound-version b s) (s .known)
+
+-- the bytes are those of what is read
+pub sound-again : (b : List ℕ) → Sound b → b ≡ bookBytes (versionAt b) (headerAt b) (callsOf b)
+sound-again b s = rw (sound-version b s, sound-reads b s .0, sound-reads b s .1) (s .bytes)
+
+-- DEMAND 2: two sound books of one version, month and area with equal calls are equal bytes.
+pub one-to-one : (b b′ : List ℕ) → Sound b → Sound b′ → versionAt b ≡ versionAt b′ → SaysSame b b′ → b ≡ b′
+one-to-one b b′ s s′ v e = sound-again b s ∙ (λ i. bookBytes (v i) (e .header i) (e .calls i)) ∙ sym (sound-again b′ s′)

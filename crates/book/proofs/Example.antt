@@ -9,8 +9,8 @@ use Rattle.units.specs.Month.{isLeap, daysOf, minutesOf}
 use Rattle.call.specs.declared.Call.{Call}
 use Rattle.call.specs.Limits.{table, limitsOf, limitsAllow, callIsSound}
 use Rattle.call.specs.Layout.{callAt}
-use Rattle.book.specs.Book.{headerAt, countAt, recordAt, callsFrom, callsOf}
-use Rattle.book.specs.Check.{accepted, isMarked, isVersioned, headerIsSound, isHeaded, headerMinutes, isRecord, judge, checkRecords, check}
+use Rattle.book.specs.Book.{mostRecords, headerAt, countAt, recordAt, callsFrom, callsOf}
+use Rattle.book.specs.Check.{accepted, isMarked, isKnown, isVersioned, headerIsSound, isHeaded, headerMinutes, isRecord, judge, checkRecords, check}
 use Rattle.book.specs.Sound.{Sound}
 use Rattle.book.proofs.Exact.{accepted-sound}
 
@@ -35,7 +35,7 @@ is-bytes = bytes-tested bytes refl
 
 is-accepted : check bytes ≡ accepted
 unfolding
-    bytes check checkRecords judge isRecord headerIsSound isHeaded isVersioned isMarked headerMinutes minutesOf daysOf isLeap
+    bytes check checkRecords judge isRecord headerIsSound isHeaded isVersioned isKnown mostRecords isMarked headerMinutes minutesOf daysOf isLeap
     headerAt countAt recordAt callAt leAt callIsSound limitsAllow limitsOf table
 is-accepted = refl
 

@@ -2,7 +2,7 @@
 use mathlib.Core.Path.{_≡_, refl, sym, _∙_, ap}
 use mathlib.Core.Bool.{Bool, true}
 use mathlib.Core.List.{List, [], _∷_, _++_}
-use Prim.Native.Nat.{ℕ, _≤_}
+use Prim.Native.Nat.{ℕ, _<_, _≤_}
 use native.Mathlib.Omega.{arith}
 use lib.Dec.{eqb, leb}
 use lib.ListN.{getD}
@@ -13,15 +13,44 @@ use Rattle.le.proofs.Tests.{each, all}
 use Rattle.units.specs.Month.{monthsPerYear, mostMinutes}
 use Rattle.units.proofs.Laws.{minutes-most}
 use Rattle.book.specs.declared.Header.{Header}
-use Rattle.book.specs.Book.{version, mostRecords, headerSize, mostArea, firstYear, lastYear, versionAt, headerAt, countAt, markBytes, dateBytes, countBytes, headBytes}
-use Rattle.book.specs.Check.{isMarked, isVersioned, headerIsSound, isHeaded, headerMinutes}
-use Rattle.book.specs.Sound.{Heading}
+use Rattle.book.specs.Book.{firstVersion, mostRecords, mostKeys, headerSize, mostArea, firstYear, lastYear, versionAt, headerAt, countAt, markBytes, dateBytes, countBytes, headBytes}
+use Rattle.book.specs.Check.{isMarked, isKnown, isVersioned, headerIsSound, isHeaded, headerMinutes}
+use Rattle.book.specs.Sound.{Known, Heading}
 use Rattle.book.specs.Refusals.{Marked, Versioned, Headed}
 
 -- no month has more minutes than the longest
 pub month-most : (h : Header) → headerMinutes h ≤ mostMinutes
 unfolding headerMinutes
 month-most h = minutes-most (h .year) (h .month)
+
+-- A version that is read
+
+pub known-is : (v : ℕ) → isKnown v ≡ true → Known v
+unfolding isKnown
+known-is v e = eqb-true _ _ e
+
+pub is-known : (v : ℕ) → Known v → isKnown v ≡ true
+unfolding isKnown
+is-known v e = eq-eqb _ _ e
+
+-- no book of it has more records than any book may have, and its number is one of two bytes
+pub known-most : (v : ℕ) → Known v → mostRecords v ≤ mostKeys
+unfolding mostRecords
+known-most v k = omega arith
+
+pub first-known : Known firstVersion
+first-known = refl
+
+-- up to 512 records are a book of the first version, a book of one among them
+pub first-fits : (n : ℕ) → n ≤ 512 → n ≤ mostRecords firstVersion
+unfolding mostRecords
+first-fits n l = l
+
+pub first-some : 1 ≤ mostRecords firstVersion
+first-some = first-fits 1 (omega arith)
+
+known-short : (v : ℕ) → Known v → v < 65536
+known-short v k = omega arith
 
 -- The tests, exactly
 
@@ -61,11 +90,11 @@ module _ (b : List ℕ) where
 
   pub versioned-is : isVersioned b ≡ true → Versioned b
   unfolding isVersioned
-  versioned-is e = eqb-true _ _ e
+  versioned-is e = known-is (versionAt b) e
 
   pub is-versioned : Versioned b → isVersioned b ≡ true
   unfolding isVersioned
-  is-versioned e = eq-eqb _ _ e
+  is-versioned e = is-known (versionAt b) e
 
   abbrev others : List Bool
   others = eqb (leAt b 9 1) 0 ∷ leb (countAt b) (mostRecords (versionAt b)) ∷ eqb (leAt b 12 4) 0 ∷ []
@@ -89,8 +118,8 @@ module _ (b : List ℕ) where
 
 -- What was written is read back
 
-module _ (h : Header) (n : ℕ) (t : List ℕ) where
-  pub header-back : Heading h → headerAt (headBytes version h n ++ t) ≡ h
+module _ (v : ℕ) (h : Header) (n : ℕ) (t : List ℕ) where
+  pub header-back : Heading h → headerAt (headBytes v h n ++ t) ≡ h
   unfolding headerAt headBytes markBytes dateBytes countBytes leAt leBytes
   header-back w =
       λ i. record {
@@ -99,39 +128,41 @@ module _ (h : Header) (n : ℕ) (t : List ℕ) where
         month = back 1 (h .month) [] (omega (arith, w .month .1)) i;
       }
 
-  pub count-back : n ≤ (mostRecords version) → countAt (headBytes version h n ++ t) ≡ n
+  pub count-back : Known v → n ≤ mostRecords v → countAt (headBytes v h n ++ t) ≡ n
   unfolding countAt headBytes markBytes dateBytes countBytes leAt leBytes
-  count-back l = back 2 n [] (omega arith)
+  count-back k l = back 2 n [] (omega (arith, known-most v k))
 
-  pub mark-back : Marked (headBytes version h n ++ t)
+  pub mark-back : Marked (headBytes v h n ++ t)
   unfolding headBytes markBytes dateBytes countBytes leBytes
   mark-back = record { letter-n = refl; letter-w = refl; letter-b = refl }
 
-  pub version-back : Versioned (headBytes version h n ++ t)
+  pub version-back : Known v → versionAt (headBytes v h n ++ t) ≡ v
   unfolding headBytes markBytes dateBytes countBytes leAt leBytes
-  version-back = refl
+  version-back k = back 2 v [] (known-short v k)
 
-  zero-back : leAt (headBytes version h n ++ t) 9 1 ≡ 0
+  pub versioned-back : Known v → Versioned (headBytes v h n ++ t)
+  versioned-back k = rw (version-back k) k
+
+  zero-back : leAt (headBytes v h n ++ t) 9 1 ≡ 0
   unfolding headBytes markBytes dateBytes countBytes leAt leBytes
   zero-back = refl
 
-  zeros-back : leAt (headBytes version h n ++ t) 12 4 ≡ 0
+  zeros-back : leAt (headBytes v h n ++ t) 12 4 ≡ 0
   unfolding headBytes markBytes dateBytes countBytes leAt leBytes
   zeros-back = refl
 
-  pub headed-back : Heading h → n ≤ (mostRecords version) → Headed (headBytes version h n ++ t)
-  headed-back w l =
-      record { heading = rw (header-back w) w; zero = zero-back; few = rw (count-back l) l; zeros = zeros-back }
+  pub headed-back : Known v → Heading h → n ≤ mostRecords v → Headed (headBytes v h n ++ t)
+  headed-back k w l =
+      record { heading = rw (header-back w) w; zero = zero-back; few = rw (version-back k, count-back k l) l; zeros = zeros-back }
 
 -- What was read is written again
 
-pub head-again : (b : List ℕ) → IsBytes b → Marked b → Versioned b → Headed b → headBytes version (headerAt b) (countAt b) ≡ bytesAt b 0 headerSize
+pub head-again : (b : List ℕ) → IsBytes b → Marked b → Headed b → headBytes (versionAt b) (headerAt b) (countAt b) ≡ bytesAt b 0 headerSize
 unfolding headBytes markBytes dateBytes countBytes headerAt countAt bytesAt
-head-again b h m v w =
+head-again b h m w =
     let field : (k o : ℕ) → leBytes k (leAt b o k) ≡ bytesAt b o k = λ k o. again k b o h in
     let letters : _≡_ {A = List ℕ} (78 ∷ 87 ∷ 66 ∷ []) (getD b 0 0 ∷ getD b 1 0 ∷ getD b 2 0 ∷ []) =
     λ i. sym (m .letter-n) i ∷ sym (m .letter-w) i ∷ sym (m .letter-b) i ∷ [] in
-    let old : leBytes 2 version ≡ bytesAt b 4 2 = ap (leBytes 2) (sym v) ∙ field 2 4 in
     let zero : leBytes 1 0 ≡ bytesAt b 9 1 = ap (leBytes 1) (sym (w .zero)) ∙ field 1 9 in
     let zeros : leBytes 4 0 ≡ bytesAt b 12 4 = ap (leBytes 4) (sym (w .zeros)) ∙ field 4 12 in
-    cat (cat (cat letters (field 1 3)) (cat (cat (cat old (field 2 6)) (field 1 8)) zero)) (cat (field 2 10) zeros)
+    cat (cat (cat letters (field 1 3)) (cat (cat (cat (field 2 4) (field 2 6)) (field 1 8)) zero)) (cat (field 2 10) zeros)

@@ -9,17 +9,17 @@ use Rattle.call.specs.declared.Call.{Call}
 use Rattle.call.specs.Layout.{recordSize, callBytes}
 use Rattle.call.proofs.Bytes.{length-call}
 use Rattle.book.specs.declared.Header.{Header}
-use Rattle.book.specs.Book.{version, headerSize, sizeOf, markBytes, dateBytes, countBytes, headBytes, recordBytes, bookBytes}
+use Rattle.book.specs.Book.{headerSize, sizeOf, markBytes, dateBytes, countBytes, headBytes, recordBytes, bookBytes}
 
-pub length-head : (h : Header) (n : ℕ) → length (headBytes version h n) ≡ headerSize
+pub length-head : (v : ℕ) (h : Header) (n : ℕ) → length (headBytes v h n) ≡ headerSize
 unfolding headBytes markBytes dateBytes countBytes leBytes
-length-head h n = refl
+length-head v h n = refl
 
 pub length-records : (cs : List Call) → length (recordBytes cs) ≡ recordSize * length cs
 unfolding recordBytes
 length-records [] = refl
 length-records (c ∷ cs) = length-append (callBytes c) (recordBytes cs) ∙ omega (arith, length-records cs, length-call c)
 
-pub length-book : (h : Header) (cs : List Call) → length (bookBytes version h cs) ≡ sizeOf (length cs)
+pub length-book : (v : ℕ) (h : Header) (cs : List Call) → length (bookBytes v h cs) ≡ sizeOf (length cs)
 unfolding bookBytes
-length-book h cs = length-append (headBytes version h (length cs)) (recordBytes cs) ∙ omega (arith, length-head h (length cs), length-records cs)
+length-book v h cs = length-append (headBytes v h (length cs)) (recordBytes cs) ∙ omega (arith, length-head v h (length cs), length-records cs)

@@ -4,6 +4,7 @@ pub mod Writes
 pub mod Heads
 pub mod Records
 pub mod Exact
+pub mod Same
 pub mod Judged
 pub mod Opening
 pub mod Numbers

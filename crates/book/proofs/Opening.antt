@@ -10,11 +10,11 @@ use Rattle.le.specs.Le.{IsBytes}
 use Rattle.call.specs.declared.Call.{Call}
 use Rattle.book.specs.declared.Opened.{Opened}
 use Rattle.book.specs.declared.Verdict.{Verdict}
-use Rattle.book.specs.Book.{headerAt, countAt, callsOf}
+use Rattle.book.specs.Book.{versionAt, headerAt, countAt, callsOf}
 use Rattle.book.specs.Check.{accepted, check, turnedAway, headerOf}
 use Rattle.book.specs.Sound.{Sound}
 use Rattle.book.proofs.Records.{length-calls}
-use Rattle.book.proofs.Exact.{sound-accepted, accepted-exactly, sound-reads}
+use Rattle.book.proofs.Exact.{sound-accepted, accepted-exactly, sound-version, sound-reads}
 use Rattle.book.proofs.Judged.{zero-accepted}
 
 module _ (b : List ℕ) where
@@ -22,7 +22,7 @@ module _ (b : List ℕ) where
   unfolding headerOf
   told-refused v e z = rw (← e, ne-eqb (v .number) 0 z) refl
 
-  pub told-sound : check b .number ≡ 0 → record { number = 0; place = 0; header = headerAt b; calls = countAt b } ≡ headerOf b
+  pub told-sound : check b .number ≡ 0 → record { number = 0; place = 0; version = versionAt b; header = headerAt b; calls = countAt b } ≡ headerOf b
   unfolding headerOf
   told-sound z = rw (eq-eqb (check b .number) 0 z) refl
 
@@ -40,10 +40,10 @@ module _ (b : List ℕ) where
       let x = accepted-exactly b small in
       (λ z. x .0 (zero-accepted b (sym told-number ∙ z)), λ s. told-number ∙ ap (λ (v : Verdict). v .number) (x .1 s))
 
-  -- and it is the book's own header, and the number of its calls
-  pub told-header : (s : Sound b) → headerOf b ≡ record { number = 0; place = 0; header = s .header; calls = length (s .calls) }
+  -- and it is the book's own version and header, and the number of its calls
+  pub told-header : (s : Sound b) → headerOf b ≡ record { number = 0; place = 0; version = s .version; header = s .header; calls = length (s .calls) }
   unfolding callsOf
   told-header s =
       let r = sound-reads b s in
       let n : countAt b ≡ length (s .calls) = sym (length-calls b (countAt b) 0) ∙ ap (λ (cs : List Call). length cs) (r .1) in
-      sym (told-sound (ap (λ (v : Verdict). v .number) (sound-accepted b s))) ∙ (λ i. record { number = 0; place = 0; header = r .0 i; calls = n i })
+      sym (told-sound (ap (λ (v : Verdict). v .number) (sound-accepted b s))) ∙ (λ i. record { number = 0; place = 0; version = sound-version b s i; header = r .0 i; calls = n i })

@@ -11,12 +11,12 @@ use lib.ListN.{length, getD}
 use borrow.Author.Tests.{eq-eqb, ne-eqb}
 use Rattle.call.specs.declared.Call.{Call}
 use Rattle.call.specs.Key.{callKey}
-use Rattle.book.specs.Book.{version, mostRecords, headerAt, countAt, recordAt, callsFrom, callsOf}
+use Rattle.book.specs.Book.{mostRecords, versionAt, headerAt, countAt, recordAt, callsFrom, callsOf}
 use Rattle.book.specs.Check.{headerMinutes}
 use Rattle.book.specs.Sound.{Heading, CallsWithin, Rises, Sound}
 use Rattle.book.specs.Without.{without, bookWithout}
 use Rattle.book.proofs.Records.{length-calls}
-use Rattle.book.proofs.Exact.{reads-back, sound-reads}
+use Rattle.book.proofs.Exact.{version-of, reads-back, sound-version, sound-reads, sound-known}
 
 -- Lists of calls
 
@@ -74,7 +74,7 @@ noCall = record { participant = 0; service = 0; state = 0; number = 0; revision 
 abbrev pub callIn : List Call → ℕ → Call
 callIn cs i = getD cs i noCall
 
-in-above : (n : ℕ) (cs : List Call) (j : ℕ) → Rises n cs → j < length cs → n ≤ callKey (callIn cs j)
+pub in-above : (n : ℕ) (cs : List Call) (j : ℕ) → Rises n cs → j < length cs → n ≤ callKey (callIn cs j)
 in-above n [] j r l = absurd (not-suc-le-zero l)
 in-above n (c ∷ cs) zero r l = r .0
 in-above n (c ∷ cs) (suc j) r l = let h = in-above (suc (callKey c)) cs j (r .1) (omega arith) in omega (arith, r .0)
@@ -118,8 +118,8 @@ module _ (k : ℕ) (b : List ℕ) (s : Sound b) where
   head : Heading (headerAt b)
   head = rw (sound-reads b s .0) (s .heading)
 
-  few : length (without k (callsOf b)) ≤ mostRecords version
-  few = omega (arith, without-length k (callsOf b), ap length (sound-reads b s .1), s .few)
+  few : length (without k (callsOf b)) ≤ mostRecords (versionAt b)
+  few = rw (sound-version b s) (omega (arith, without-length k (callsOf b), ap length (sound-reads b s .1), s .few))
 
   within : CallsWithin (headerMinutes (headerAt b)) (without k (callsOf b))
   within = without-within k (headerMinutes (headerAt b)) (callsOf b) (rw (sound-reads b s .0, sound-reads b s .1) (s .within))
@@ -132,8 +132,10 @@ module _ (k : ℕ) (b : List ℕ) (s : Sound b) where
   unfolding bookWithout
   without-sound =
       record {
+        version = versionAt b;
         header = headerAt b;
         calls = without k (callsOf b);
+        known = sound-known b s;
         heading = head;
         few = few;
         within = within;
@@ -141,10 +143,15 @@ module _ (k : ℕ) (b : List ℕ) (s : Sound b) where
         bytes = refl;
       }
 
-  -- of the same month and area, and its calls are those of other keys.
+  -- of the same version,
+  pub without-version : versionAt (bookWithout k b) ≡ versionAt b
+  unfolding bookWithout
+  without-version = version-of (versionAt b) (headerAt b) (without k (callsOf b)) (sound-known b s) head few
+
+  -- month and area, and its calls are those of other keys.
   pub without-reads : (headerAt (bookWithout k b) ≡ headerAt b) × (callsOf (bookWithout k b) ≡ without k (callsOf b))
   unfolding bookWithout
-  without-reads = reads-back (headerAt b) (without k (callsOf b)) head few within
+  without-reads = reads-back (versionAt b) (headerAt b) (without k (callsOf b)) (sound-known b s) head few within
 
 -- The records of a sound book that has lost record j: those behind it are one further up.
 pub record RecordsLeft (b b′ : List ℕ) (j : ℕ) : Type 0 where

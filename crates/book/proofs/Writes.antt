@@ -16,7 +16,7 @@ use Rattle.call.specs.Limits.{callIsSound}
 use Rattle.call.specs.Layout.{callBytes, reservedAt}
 use Rattle.call.proofs.Bytes.{Sized, length-call}
 use Rattle.book.specs.declared.Header.{Header}
-use Rattle.book.specs.Book.{version, headerSize, sizeOf, placeOf, recordAt, headBytes, recordBytes, bookBytes}
+use Rattle.book.specs.Book.{firstVersion, headerSize, sizeOf, placeOf, recordAt, headBytes, recordBytes, bookBytes}
 use Rattle.book.specs.Check.{headerIsSound, headerMinutes, isRecord, judge, checkRecords}
 use Rattle.book.specs.Write.{refusedOut, soundCalls, fault, writeFault, writing}
 use Rattle.book.proofs.Lengths.{length-head, length-book}
@@ -30,11 +30,11 @@ module _ (h : Header) (cs : List Call) (out : List ℕ) where
 
   -- no number: the book is stored at the start of the output
   pub writes : (n len : ℕ) (after : List ℕ) → n ≡ writeFault h cs (length out) → n ≡ 0 → len ≡ sizeOf (length cs) → sizeOf (length cs) ≤ length out
-      → Stores out 0 (bookBytes version h cs) after → record { number = 0; place = 0; size = len; out = after } ≡ writing h cs out
+      → Stores out 0 (bookBytes firstVersion h cs) after → record { number = 0; place = 0; size = len; out = after } ≡ writing h cs out
   unfolding writing
   writes n len after e z k room s =
-      let book = bookBytes version h cs in
-      let size = length-book h cs in
+      let book = bookBytes firstVersion h cs in
+      let size = length-book firstVersion h cs in
       let bytes = s .is ∙ sets-eq book out 0 (omega (arith, size)) ∙ ap (λ (j : ℕ). book ++ drop j out) (zero-add (length book)) in
       rw (← e, eq-eqb n 0 z) (λ i. record { number = 0; place = 0; size = (k ∙ sym size) i; out = bytes i })
 
@@ -58,14 +58,14 @@ pub fault-one : (h : Header) (c : Call) (room : ℕ) → fault h (callIsSound (h
 unfolding writeFault soundCalls
 fault-one h c room = rw (and-true (callIsSound (headerMinutes h) c)) refl
 
-pub stores-none : (h : Header) {out after : List ℕ} → Stores out 0 (headBytes version h 0) after → Stores out 0 (bookBytes version h []) after
+pub stores-none : (h : Header) {out after : List ℕ} → Stores out 0 (headBytes firstVersion h 0) after → Stores out 0 (bookBytes firstVersion h []) after
 unfolding bookBytes recordBytes
 stores-none h s = rw append-nil s
 
-pub stores-one : (h : Header) (c : Call) {out mid after : List ℕ} → Stores out 0 (headBytes version h 1) mid → Stores mid headerSize (callBytes c) after
-    → Stores out 0 (bookBytes version h (c ∷ [])) after
+pub stores-one : (h : Header) (c : Call) {out mid after : List ℕ} → Stores out 0 (headBytes firstVersion h 1) mid → Stores mid headerSize (callBytes c) after
+    → Stores out 0 (bookBytes firstVersion h (c ∷ [])) after
 unfolding bookBytes recordBytes
-stores-one h c s t = rw append-nil (then headerSize (omega (arith, length-head h 1)) s t)
+stores-one h c s t = rw append-nil (then headerSize (omega (arith, length-head firstVersion h 1)) s t)
 
 -- A record's one turn, of any key: it passes exactly where the call is sound
 one-turn : (m : ℕ) (b : List ℕ) (c : Call) → recordAt b 0 ≡ c → reservedAt b (placeOf 0) ≡ 0 → eqb (checkRecords m b 0 0 1 .number) 0 ≡ callIsSound m c

@@ -15,13 +15,13 @@ use Rattle.call.specs.declared.Call.{Call}
 use Rattle.call.specs.Limits.{callIsSound}
 use Rattle.call.proofs.Exact.{sound-within, within-sound}
 use Rattle.book.specs.declared.Header.{Header}
-use Rattle.book.specs.Book.{version, mostRecords, sizeOf, headerAt, callsOf, bookBytes}
+use Rattle.book.specs.Book.{firstVersion, mostRecords, sizeOf, versionAt, headerAt, callsOf, bookBytes}
 use Rattle.book.specs.Check.{headerIsSound, headerMinutes}
 use Rattle.book.specs.Sound.{Heading, CallsWithin, Rises, Sound}
 use Rattle.book.specs.Refusals.{WriteRefusal, none, no-header, no-field, no-room}
 use Rattle.book.specs.Write.{refusedOut, wroteOut, soundCalls, fault, writeFault, writing}
-use Rattle.book.proofs.Heads.{month-most, sound-heading, heading-sound}
-use Rattle.book.proofs.Exact.{reads-back}
+use Rattle.book.proofs.Heads.{first-known, month-most, first-some, sound-heading, heading-sound}
+use Rattle.book.proofs.Exact.{version-of, reads-back}
 
 -- call number and revision are numbers of 32 bits, as those of every `Call` of the code are
 abbrev pub Numbered : List Call → Type 0
@@ -72,26 +72,37 @@ module _ (h : Header) (cs : List Call) (numbered : Numbered cs) (room : ℕ) whe
 
 -- What an accepted writing leaves
 module _ (h : Header) (cs : List Call) (out : List ℕ) (ok : writeFault h cs (length out) ≡ 0) where
-  wrote : writing h cs out ≡ wroteOut (bookBytes version h cs) out
+  wrote : writing h cs out ≡ wroteOut (bookBytes firstVersion h cs) out
   unfolding writing
   wrote = simp (eq-eqb _ _ ok)
 
   -- the book stands at the start of the output
-  pub book-written : take (writing h cs out .size) (writing h cs out .out) ≡ bookBytes version h cs
-  book-written = rw wrote (take-append-seam (bookBytes version h cs) (drop (length (bookBytes version h cs)) out))
+  pub book-written : take (writing h cs out .size) (writing h cs out .out) ≡ bookBytes firstVersion h cs
+  book-written = rw wrote (take-append-seam (bookBytes firstVersion h cs) (drop (length (bookBytes firstVersion h cs)) out))
 
   -- and the bytes behind it stay
   pub rest-kept : drop (writing h cs out .size) (writing h cs out .out) ≡ drop (writing h cs out .size) out
-  rest-kept = rw wrote (drop-append-seam (bookBytes version h cs) (drop (length (bookBytes version h cs)) out))
+  rest-kept = rw wrote (drop-append-seam (bookBytes firstVersion h cs) (drop (length (bookBytes firstVersion h cs)) out))
 
-  -- DEMAND 2: what was written is a sound book, and reads back as the same header and calls.
-  pub written-sound : Numbered cs → length cs ≤ (mostRecords version) → Rises 0 cs → Sound (bookBytes version h cs) × (headerAt (bookBytes version h cs) ≡ h) × (callsOf (bookBytes version h cs) ≡ cs)
+  -- DEMAND 2: what was written is a sound book of the first version, and reads back as the same header and calls.
+  abbrev Back : Type 0
+  Back =
+      Sound (bookBytes firstVersion h cs)
+      × (versionAt (bookBytes firstVersion h cs) ≡ firstVersion)
+      × (headerAt (bookBytes firstVersion h cs) ≡ h)
+      × (callsOf (bookBytes firstVersion h cs) ≡ cs)
+
+  pub written-sound : Numbered cs → length cs ≤ mostRecords firstVersion → Rises 0 cs → Back
   written-sound n few r = go (write-refused-exactly h cs n (length out) 0 .0 ok)
     where
-      go : WriteRefusal h cs (length out) 0 → Sound (bookBytes version h cs) × (headerAt (bookBytes version h cs) ≡ h) × (callsOf (bookBytes version h cs) ≡ cs)
+      go : WriteRefusal h cs (length out) 0 → Back
       go (none e g w k) =
-          let b = reads-back h cs g few w in
-          (record { header = h; calls = cs; heading = g; few = few; within = w; rising = r; bytes = refl }, b .0, b .1)
+          let b = reads-back firstVersion h cs first-known g few w in (
+            record { version = firstVersion; header = h; calls = cs; known = first-known; heading = g; few = few; within = w; rising = r; bytes = refl },
+            version-of firstVersion h cs first-known g few,
+            b .0,
+            b .1,
+          )
       go (no-header e g) = absurd (omega arith)
       go (no-field e g w) = absurd (omega arith)
       go (no-room e g w k) = absurd (omega arith)
@@ -102,8 +113,8 @@ unfolding writing
 refused-kept h cs out n = simp (ne-eqb _ _ n)
 
 -- A book of none and a book of one, once accepted, are such books.
-pub none-sound : (h : Header) (out : List ℕ) → writeFault h [] (length out) ≡ 0 → Sound (bookBytes version h [])
-none-sound h out ok = written-sound h [] out ok tt (omega arith) tt .0
+pub none-sound : (h : Header) (out : List ℕ) → writeFault h [] (length out) ≡ 0 → Sound (bookBytes firstVersion h [])
+none-sound h out ok = written-sound h [] out ok tt (omega (arith, first-some)) tt .0
 
-pub one-sound : (h : Header) (c : Call) (out : List ℕ) → c .number < 4294967296 → c .revision < 4294967296 → writeFault h (c ∷ []) (length out) ≡ 0 → Sound (bookBytes version h (c ∷ []))
-one-sound h c out n r ok = written-sound h (c ∷ []) out ok ((n, r), tt) (omega arith) (omega arith, tt) .0
+pub one-sound : (h : Header) (c : Call) (out : List ℕ) → c .number < 4294967296 → c .revision < 4294967296 → writeFault h (c ∷ []) (length out) ≡ 0 → Sound (bookBytes firstVersion h (c ∷ []))
+one-sound h c out n r ok = written-sound h (c ∷ []) out ok ((n, r), tt) first-some (omega arith, tt) .0

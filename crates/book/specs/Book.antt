@@ -7,13 +7,17 @@ use Rattle.call.specs.declared.Call.{Call}
 use Rattle.call.specs.Layout.{recordSize, callAt, callBytes}
 use Rattle.book.specs.declared.Header.{Header}
 
--- the one version there is
-abbrev pub version : ℕ
-version = 1
+-- the version of a book that the writers write
+abbrev pub firstVersion : ℕ
+firstVersion = 1
 
 -- the most records that a book of a version has: 512, and there is no version but the first
-abbrev pub mostRecords : ℕ → ℕ
+unfoldable pub mostRecords : ℕ → ℕ
 mostRecords v = 512
+
+-- the most records that any book has: so many different keys a join gives, and no more
+abbrev pub mostKeys : ℕ
+mostKeys = 512
 
 -- the header is 16 bytes
 abbrev pub headerSize : ℕ

@@ -13,7 +13,7 @@ use Rattle.book.specs.declared.Header.{Header}
 use Rattle.book.specs.declared.Opened.{Opened}
 use Rattle.book.specs.declared.RecordTurn.{RecordTurn}
 use Rattle.book.specs.declared.Verdict.{Verdict}
-use Rattle.book.specs.Book.{version, mostRecords, headerSize, sizeOf, placeOf, mostArea, firstYear, lastYear, versionAt, headerAt, countAt, recordAt}
+use Rattle.book.specs.Book.{firstVersion, mostRecords, headerSize, sizeOf, placeOf, mostArea, firstYear, lastYear, versionAt, headerAt, countAt, recordAt}
 
 -- a refusal gives number and place; accepted, both are 0
 abbrev pub refused : ℕ → ℕ → Verdict
@@ -26,9 +26,12 @@ accepted = refused 0 0
 unfoldable pub isMarked : List ℕ → Bool
 isMarked b = eqb (getD b 0 0) 78 && eqb (getD b 1 0) 87 && eqb (getD b 2 0) 66
 
--- 3: the version
+-- 3: a version that is read
+unfoldable pub isKnown : ℕ → Bool
+isKnown v = eqb v firstVersion
+
 unfoldable pub isVersioned : List ℕ → Bool
-isVersioned b = eqb (versionAt b) version
+isVersioned b = isKnown (versionAt b)
 
 -- 4: area 1 to 99, year 2024 to 2099, month 1 to 12
 unfoldable pub headerIsSound : Header → Bool
@@ -83,8 +86,10 @@ check b =
 
 -- a refusal gives number and place, otherwise zeros
 abbrev pub turnedAway : Verdict → Opened
-turnedAway v = record { number = v .number; place = v .place; header = record { area = 0; year = 0; month = 0 }; calls = 0 }
+turnedAway v = record { number = v .number; place = v .place; version = 0; header = record { area = 0; year = 0; month = 0 }; calls = 0 }
 
--- accepted: whose month the book is of, and how many calls it has
+-- accepted: the version, whose month the book is of, and how many calls it has
 unfoldable pub headerOf : List ℕ → Opened
-headerOf b = cond (eqb (check b .number) 0) (record { number = 0; place = 0; header = headerAt b; calls = countAt b }) (turnedAway (check b))
+headerOf b =
+    cond (eqb (check b .number) 0) (record { number = 0; place = 0; version = versionAt b; header = headerAt b; calls = countAt b })
+    (turnedAway (check b))

@@ -10,9 +10,9 @@ use Rattle.call.specs.Layout.{reservedAt}
 use Rattle.call.specs.Service.{CallWithin}
 use Rattle.book.specs.declared.Header.{Header}
 use Rattle.book.specs.declared.Verdict.{Verdict}
-use Rattle.book.specs.Book.{version, mostRecords, headerSize, sizeOf, placeOf, HasHeader, versionAt, headerAt, countAt, recordAt}
+use Rattle.book.specs.Book.{mostRecords, headerSize, sizeOf, placeOf, HasHeader, versionAt, headerAt, countAt, recordAt}
 use Rattle.book.specs.Check.{refused, accepted, headerMinutes}
-use Rattle.book.specs.Sound.{Heading, CallsWithin}
+use Rattle.book.specs.Sound.{Known, Heading, CallsWithin}
 
 -- the mark "NWB"
 pub record Marked (b : List ℕ) : Type 0 where
@@ -20,9 +20,9 @@ pub record Marked (b : List ℕ) : Type 0 where
   pub letter-w : getD b 1 0 ≡ 87
   pub letter-b : getD b 2 0 ≡ 66
 
--- the version is 1
+-- a version that is read
 abbrev pub Versioned : List ℕ → Type 0
-Versioned b = versionAt b ≡ version
+Versioned b = Known (versionAt b)
 
 -- the other header fields: area, year and month, a zero byte, the count, four zero bytes
 pub record Headed (b : List ℕ) : Type 0 where

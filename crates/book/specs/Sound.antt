@@ -8,8 +8,12 @@ use Rattle.call.specs.Key.{callKey}
 use Rattle.call.specs.Service.{CallWithin}
 use Rattle.book.specs.declared.Header.{Header}
 use Rattle.units.specs.Month.{monthsPerYear}
-use Rattle.book.specs.Book.{version, mostRecords, mostArea, firstYear, lastYear, bookBytes}
+use Rattle.book.specs.Book.{firstVersion, mostRecords, mostArea, firstYear, lastYear, headerAt, callsOf, bookBytes}
 use Rattle.book.specs.Check.{headerMinutes}
+
+-- a version that is read
+abbrev pub Known : ℕ → Type 0
+Known v = v ≡ firstVersion
 
 -- area 1 to 99, year 2024 to 2099, month 1 to 12
 pub record Heading (h : Header) : Type 0 where
@@ -27,11 +31,19 @@ abbrev pub Rises : ℕ → List Call → Type 0
 Rises low [] = Unit {0}
 Rises low (c ∷ cs) = (low ≤ callKey c) × Rises (suc (callKey c)) cs
 
+-- a sound book: the bytes of a version that is read, a header, and calls as many as the version allows
 pub record Sound (b : List ℕ) : Type 0 where
+  pub version : ℕ
   pub header : Header
   pub calls : List Call
+  pub known : Known version
   pub heading : Heading header
   pub few : length calls ≤ mostRecords version
   pub within : CallsWithin (headerMinutes header) calls
   pub rising : Rises 0 calls
   pub bytes : b ≡ bookBytes version header calls
+
+-- two books that say the same: of one month and area, with equal calls; their versions may differ
+pub record SaysSame (b b′ : List ℕ) : Type 0 where
+  pub header : headerAt b ≡ headerAt b′
+  pub calls : callsOf b ≡ callsOf b′

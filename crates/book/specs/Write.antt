@@ -8,7 +8,7 @@ use Rattle.call.specs.declared.Call.{Call}
 use Rattle.call.specs.Limits.{callIsSound}
 use Rattle.book.specs.declared.Header.{Header}
 use Rattle.book.specs.declared.write.Written.{Written}
-use Rattle.book.specs.Book.{version, sizeOf, bookBytes}
+use Rattle.book.specs.Book.{firstVersion, sizeOf, bookBytes}
 use Rattle.book.specs.Check.{headerIsSound, headerMinutes}
 
 -- what writing or joining leaves: a refusal's number and place, or zeros; the book's length; the lent output
@@ -42,7 +42,7 @@ fault h sound size room = cond (not (headerIsSound h)) 4 (cond (not sound) 5 (co
 unfoldable pub writeFault : Header → List Call → ℕ → ℕ
 writeFault h cs room = fault h (soundCalls (headerMinutes h) cs) (sizeOf (length cs)) room
 
--- a book of these calls, none or one, written into an output; 5 has place 0
+-- a book of these calls, none or one, of the first version, written into an output; 5 has place 0
 unfoldable pub writing : Header → List Call → List ℕ → BookOutcome
 writing h cs out =
-    cond (eqb (writeFault h cs (length out)) 0) (wroteOut (bookBytes version h cs) out) (refusedOut (writeFault h cs (length out)) 0 out)
+    cond (eqb (writeFault h cs (length out)) 0) (wroteOut (bookBytes firstVersion h cs) out) (refusedOut (writeFault h cs (length out)) 0 out)

@@ -13,15 +13,15 @@ ghost use Prim.Native.Nat.{_<_, _≤_};
 ghost use lib.ListN.{length};
 ghost use Rattle.book.specs.Book.{mostRecords, sizeOf, placeOf, HasHeader, HasRecord};
 ghost use Rattle.book.specs.Book.{versionAt, headerAt, countAt, recordAt};
-ghost use Rattle.book.specs.Check.{refused, accepted, isMarked, isVersioned, headerIsSound, isHeaded, isRecord, nextAt, turnAt, checkRecords, check, turnedAway, headerOf};
+ghost use Rattle.book.specs.Check.{refused, accepted, isMarked, isKnown, isVersioned, headerIsSound, isHeaded, isRecord, nextAt, turnAt, checkRecords, check, turnedAway, headerOf};
 ghost use Rattle.book.specs.Inner.{wordLimit};
 
 pub mod write;
 
-// The bytes of a header, the one version there is, and the most records that a book of it may have.
+// The bytes of a header, the version that the writers write, and the most records that any book may have.
 pub const HEADER_SIZE: usize = 16;
 
-pub const VERSION: u16 = 1;
+pub const FIRST_VERSION: u16 = 1;
 
 pub const MOST_RECORDS: usize = 512;
 
@@ -74,7 +74,7 @@ pub fn place_of(i: usize) -> usize
     HEADER_SIZE + RECORD_SIZE * i
 }
 
-fn version_at(b: &[u8]) -> u16
+pub fn version_at(b: &[u8]) -> u16
     requires { ⌜ HasHeader (now b) ⌝ }
     ensures { λ r. ⌜ r ≡ versionAt (now (b .entry)) ⌝ }
 {
@@ -114,11 +114,18 @@ fn is_marked(b: &[u8]) -> bool
     (b[0] == b'N') & (b[1] == b'W') & (b[2] == b'B')
 }
 
+// Whether a version is one that is read.
+fn is_known(version: u16) -> bool
+    ensures { λ r. ⌜ r ≡ isKnown version ⌝ }
+{
+    version == FIRST_VERSION
+}
+
 fn is_versioned(b: &[u8]) -> bool
     requires { ⌜ HasHeader (now b) ⌝ }
     ensures { λ r. ⌜ r ≡ isVersioned (now (b .entry)) ⌝ }
 {
-    version_at(b) == VERSION
+    is_known(version_at(b))
 }
 
 impl Header {
@@ -239,10 +246,11 @@ pub fn check(b: &[u8]) -> Verdict
     check_records(b, n, minutes_of(h.year, h.month))
 }
 
-// What any bytes are found to be: a refusal's number and place, otherwise zeros; or a sound book, whose month it is of and how many calls it has.
+// What any bytes are found to be: a refusal's number and place, otherwise zeros; or a sound book, its version, whose month it is of and how many calls it has.
 pub struct Opened {
     pub number: u32,
     pub place: usize,
+    pub version: u16,
     pub header: Header,
     pub calls: usize,
 }
@@ -258,6 +266,7 @@ fn turned_away(v: Verdict) -> Opened
     Opened {
         number: v.number,
         place: v.place,
+        version: 0,
         header,
         calls: 0,
     }
@@ -273,11 +282,13 @@ pub fn header_of(b: &[u8]) -> Opened
     if v.number != 0 {
         return turned_away(v);
     }
+    let version = version_at(b);
     let header = header_at(b);
     let calls = count_at(b);
     Opened {
         number: 0,
         place: 0,
+        version,
         header,
         calls,
     }

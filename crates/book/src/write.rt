@@ -1,7 +1,7 @@
 // Writing a book of none or of one: 4, 5, 9, else the book at the start of the output; bytes behind it stay.
+use crate::FIRST_VERSION;
 use crate::HEADER_SIZE;
 use crate::Header;
-use crate::VERSION;
 use crate::check_records;
 use crate::size_of;
 use call::Call;
@@ -15,7 +15,7 @@ ghost use mathlib.Core.List.{[], _∷_};
 ghost use Rattle.le.specs.Le.{Stores};
 ghost use Rattle.call.specs.Layout.{callBytes};
 ghost use Rattle.call.specs.Limits.{callIsSound};
-ghost use Rattle.book.specs.Book.{version, headerSize, HasHeader, HasRecord, markBytes, dateBytes, countBytes, headBytes};
+ghost use Rattle.book.specs.Book.{headerSize, HasHeader, HasRecord, markBytes, dateBytes, countBytes, headBytes};
 ghost use Rattle.book.specs.Write.{fault, bookOutcome, writing};
 
 // What a writer answers: a refusal's number and place, and zero; or zeros, and the length of the book.
@@ -35,11 +35,11 @@ fn put_mark(out: &mut [u8], h: Header)
     put_u8(out, 3, h.area);
 }
 
-fn put_date(out: &mut [u8], h: Header)
+fn put_date(out: &mut [u8], version: u16, h: Header)
     requires { ⌜ HasHeader (now out) ⌝ }
     ensures { λ _. ⌜ Stores (now (out .entry)) 4 (dateBytes version h) (now (out .exit)) ⌝ }
 {
-    put_u16(out, 4, VERSION);
+    put_u16(out, 4, version);
     put_u16(out, 6, h.year);
     put_u8(out, 8, h.month);
     put_u8(out, 9, 0);
@@ -54,12 +54,12 @@ fn put_count(out: &mut [u8], n: u16)
 }
 
 // The sixteen header bytes.
-pub fn put_header(out: &mut [u8], h: Header, n: u16)
+pub fn put_header(out: &mut [u8], version: u16, h: Header, n: u16)
     requires { ⌜ HasHeader (now out) ⌝ }
     ensures { λ _. ⌜ Stores (now (out .entry)) 0 (headBytes version h n) (now (out .exit)) ⌝ }
 {
     put_mark(out, h);
-    put_date(out, h);
+    put_date(out, version, h);
     put_count(out, n);
 }
 
@@ -98,7 +98,7 @@ pub fn write_none(h: Header, out: &mut [u8]) -> Written
             length: 0,
         };
     }
-    put_header(out, h, 0);
+    put_header(out, FIRST_VERSION, h, 0);
     Written {
         number: 0,
         place: 0,
@@ -131,7 +131,7 @@ pub fn write_one(h: Header, x: Call, out: &mut [u8]) -> Written
             length: 0,
         };
     }
-    put_header(out, h, 1);
+    put_header(out, FIRST_VERSION, h, 1);
     put_first(out, x);
     Written {
         number: 0,

@@ -2,7 +2,7 @@
 use mathlib.Core.Path.{_≡_, refl, sym, _∙_, ap}
 use mathlib.Core.List.{List, [], _++_}
 use Prim.Native.Nat.{ℕ, _+_, _<_, _≤_}
-use native.Mathlib.Nat.{add-zero}
+use native.Mathlib.Nat.{add-assoc, add-zero}
 use native.Mathlib.Omega.{arith}
 use lib.ListN.{length, drop, length-drop}
 use lib.Seq.{drop-drop}
@@ -51,6 +51,25 @@ call-back c t s =
 pub reserved-back : (c : Call) (t : List ℕ) → reservedAt (callBytes c ++ t) 0 ≡ 0
 unfolding callBytes keyBytes timeBytes termBytes leAt leBytes
 reserved-back c t = refl
+
+-- reading anywhere behind a prefix
+pub call-behind : (p s : List ℕ) (o : ℕ) → callAt (p ++ s) (length p + o) ≡ callAt s o
+unfolding callAt
+call-behind p s o =
+    let at : (w k : ℕ) → leAt (p ++ s) (length p + o + k) w ≡ leAt s (o + k) w =
+    λ w k. ap (λ (j : ℕ). leAt (p ++ s) j w) (add-assoc (length p) o k) ∙ leAt-append w p s (o + k) in
+    λ i. record {
+      participant = leAt-append 2 p s o i;
+      service = at 1 2 i;
+      state = at 1 3 i;
+      number = at 4 4 i;
+      revision = at 4 8 i;
+      start = at 2 12 i;
+      length = at 2 14 i;
+      a = toZ w32 (at 4 16 i);
+      b = at 4 20 i;
+      c = at 4 24 i;
+    }
 
 -- reading behind a prefix, and at the front of what lies from a place on
 pub call-append : (p s : List ℕ) → callAt (p ++ s) (length p) ≡ callAt s 0

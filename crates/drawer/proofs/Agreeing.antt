@@ -12,10 +12,9 @@ use Rattle.call.specs.declared.Call.{Call}
 use Rattle.call.specs.Key.{callKey}
 use Rattle.book.specs.declared.Header.{Header}
 use Rattle.book.specs.declared.Verdict.{Verdict}
-use Rattle.book.specs.Book.{version, mostRecords, headerAt, countAt, recordAt, callsFrom, callsOf}
+use Rattle.book.specs.Book.{mostKeys, headerAt, countAt, recordAt, callsFrom, callsOf}
 use Rattle.book.specs.Check.{accepted, headerMinutes}
-use Rattle.book.specs.Sound.{CallsWithin}
-use Rattle.book.proofs.Exact.{sound-accepted, reads-back}
+use Rattle.book.proofs.Exact.{sound-accepted}
 use Rattle.pair.specs.Screening.{sameMonth, screen}
 use Rattle.pair.proofs.Screening.{screen-passes}
 use Rattle.rule.specs.Standing.{sameCall}
@@ -26,12 +25,10 @@ use Rattle.rule.proofs.Keyed.{find-in, in-find}
 use Rattle.rule.proofs.Bounds.{Under, under-anti, Calls, Sounds, tree-sound}
 use Rattle.rule.proofs.Ruling.{rule-least}
 use Rattle.rule.proofs.Orders.{leaves-sound, joined-rule}
-use Rattle.rule.proofs.Whole.{number-of-keys, any-order as list-order}
 use Rattle.join.specs.Joining.{keyCount}
-use Rattle.join.specs.Trees.{Plan, books, written, result, Room, OneMonth, Covers, ruleBook}
-use Rattle.join.proofs.Trees.{same-month, treeOf, covers-over, month-sounds, heading}
-use Rattle.join.proofs.Orders.{calls, any-order}
-use Rattle.join.proofs.Without.{result-sound}
+use Rattle.join.specs.Trees.{Plan, written, result, Room, OneMonth, Covers}
+use Rattle.join.proofs.Trees.{same-month, treeOf, covers-over, month-sounds}
+use Rattle.join.proofs.Orders.{calls, result-reads, result-sound}
 use Rattle.drawer.specs.declared.stale.StaleRecord.{StaleRecord}
 use Rattle.drawer.specs.Stale.{isThis, isStale, isStaleAt, staleAt, staleOf, firstStale, nextStale, NothingListed, EachStands, NoneDiffer}
 use Rattle.drawer.proofs.Telling.{told-in, in-told, none-listed, none-told}
@@ -150,9 +147,9 @@ module _ (h : Header) (bs : List (List ℕ)) (month : OneMonth h bs) where
           below d j = found d j (recordOf (callKey c) d) refl
 
   -- however they are joined
-  module _ (p : Plan) (covers : Covers p bs) (room : Room p) (few : keyCount bs ≤ mostRecords version) where
+  module _ (p : Plan) (covers : Covers p bs) (room : Room p) (few : keyCount bs ≤ mostKeys) where
     pub joined-calls : callsOf (written (result p)) ≡ ruleCalls (map callsOf bs)
-    joined-calls = calls h bs month p covers room few ∙ list-order (headerMinutes h) (treeOf p) (map callsOf bs) (covers-over p bs covers) sounds
+    joined-calls = result-reads h bs month p covers room few .1
 
     pub joined-stands : (k : ℕ) → recordOf k (callsOf (written (result p))) ≡ ruleOver (map callsOf bs) k
     joined-stands k =
@@ -163,23 +160,14 @@ module _ (h : Header) (bs : List (List ℕ)) (month : OneMonth h bs) where
         subst (Calls (headerMinutes h)) (sym (calls h bs month p covers room few))
         (tree-sound (headerMinutes h) (treeOf p) (leaves-sound (headerMinutes h) (treeOf p) (map callsOf bs) (covers-over p bs covers) sounds))
 
-    leaves-month : OneMonth h (books p)
-    leaves-month = record { sound = λ b i. month .sound b (covers .only b i); header = λ b i. month .header b (covers .only b i) }
-
     pub joined-header : headerAt (written (result p)) ≡ h
-    unfolding ruleBook keyCount
-    joined-header =
-        let cs = ruleCalls (map callsOf bs) in
-        let e = list-order (headerMinutes h) (treeOf p) (map callsOf bs) (covers-over p bs covers) sounds in
-        let n = number-of-keys (headerMinutes h) (treeOf p) (map callsOf bs) (covers-over p bs covers) sounds in
-        ap headerAt (any-order h bs month p covers room few .2)
-        ∙ reads-back h cs (heading h p leaves-month) (omega (arith, ap length e, n, few)) (subst (CallsWithin (headerMinutes h)) joined-calls (joined-sound .within)) .0
+    joined-header = result-reads h bs month p covers room few .0
 
     -- none of the books is refused against the joined book, nor it against them
     pub none-refused : (b : List ℕ) → In b bs → (screen b (written (result p)) ≡ accepted) × (screen (written (result p)) b ≡ accepted)
     none-refused b i =
         let own = sound-accepted b (month .sound b i) in
-        let all = sound-accepted (written (result p)) (result-sound h bs month p covers few room) in (
+        let all = sound-accepted (written (result p)) (result-sound h bs month p covers room few) in (
           sym (screen-passes b (written (result p)) own all (ap₂ sameMonth (month .header b i) joined-header ∙ same-month h)),
           sym (screen-passes (written (result p)) b all own (ap₂ sameMonth joined-header (month .header b i) ∙ same-month h)),
         )

@@ -12,7 +12,7 @@ use Rattle.call.specs.Key.{callKey}
 use Rattle.call.specs.Revising.{callContested}
 use Rattle.call.specs.Service.{CallWithin}
 use Rattle.book.specs.declared.Header.{Header}
-use Rattle.book.specs.Book.{version, mostRecords, callsOf}
+use Rattle.book.specs.Book.{mostKeys, callsOf}
 use Rattle.book.specs.Check.{headerMinutes}
 use Rattle.rule.specs.Standing.{isContested, isWithdrawn}
 use Rattle.rule.specs.Keys.{recordOf}
@@ -66,7 +66,7 @@ module _ {m : ℕ} (r c : Call) (wr : CallWithin m r) (wc : CallWithin m c) (dif
       go false false e f (inr (inr d)) = by-contest f (d ∙ here-rank c (no c f) .1)
 
 -- A record of one of the books that is listed: for its key stands another record, in the joined book, and the reason that is told is one of the three.
-pub always-why : (h : Header) (bs : List (List ℕ)) (month : OneMonth h bs) (p : Plan) → Covers p bs → Room p → keyCount bs ≤ mostRecords version
+pub always-why : (h : Header) (bs : List (List ℕ)) (month : OneMonth h bs) (p : Plan) → Covers p bs → Room p → keyCount bs ≤ mostKeys
     → (b : List ℕ) → In b bs → (c : Call) → In c (callsOf b) → isStale (callsOf (written (result p))) c ≡ true
     → (r : Call) × (recordOf (callKey c) (callsOf (written (result p))) ≡ some r) × Reason r c (whyOf (recordOf (callKey c) (callsOf (written (result p)))) c)
 unfolding whyOf

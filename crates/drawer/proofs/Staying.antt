@@ -10,9 +10,10 @@ use native.Mathlib.Omega.{arith}
 use Rattle.call.specs.declared.Call.{Call}
 use Rattle.call.specs.Key.{callKey}
 use Rattle.book.specs.declared.Header.{Header}
-use Rattle.book.specs.Book.{version, mostRecords, headerAt, callsOf, bookBytes}
+use Rattle.book.specs.Book.{mostKeys, versionAt, headerAt, callsOf}
 use Rattle.book.specs.Check.{accepted, headerMinutes}
-use Rattle.book.proofs.Exact.{sound-accepted}
+use Rattle.book.specs.Sound.{SaysSame}
+use Rattle.book.proofs.Exact.{sound-accepted, one-to-one}
 use Rattle.rule.specs.Standing.{sameCall, standing}
 use Rattle.rule.specs.Keys.{recordOf}
 use Rattle.rule.specs.Whole.{all, ruleOver, ruleCalls, Tree, leaf, node, leaves}
@@ -23,11 +24,11 @@ use Rattle.rule.proofs.Ruling.{rule-least}
 use Rattle.rule.proofs.Orders.{Over}
 use Rattle.rule.proofs.Without.{rule-find, rule-rises}
 use Rattle.join.specs.Joining.{keyCount}
-use Rattle.join.specs.Trees.{Plan, book, join, books, written, result, Room, OneMonth, Covers, ruleBook}
+use Rattle.join.specs.Trees.{Plan, book, join, books, written, result, Room, OneMonth, Covers, versionOver}
 use Rattle.join.specs.Nothing.{AddsNothing}
 use Rattle.join.proofs.Trees.{same-month, month-sounds}
-use Rattle.join.proofs.Orders.{any-order}
-use Rattle.join.proofs.Without.{result-sound, keys-of}
+use Rattle.join.proofs.Orders.{result-reads, result-sound, one-version}
+use Rattle.join.proofs.Without.{keys-of}
 use Rattle.join.proofs.Nothing.{rule-same}
 use Rattle.pair.specs.Screening.{passes, sameMonth, screen}
 use Rattle.pair.proofs.Screening.{screen-passes}
@@ -185,12 +186,26 @@ module _ (h : Header) (bs : List (List ℕ)) (month : OneMonth h bs) where
       ext-find 0 0 (ruleCalls (map callsOf (staying [] bs))) (ruleCalls (map callsOf bs)) (rule-rises (map callsOf (staying [] bs))) (rule-rises (map callsOf bs))
       (λ k. rule-find (map callsOf (staying [] bs)) k ∙ stays-rule h [] bs month k ∙ sym (rule-find (map callsOf bs) k))
 
-  -- and so are the bytes, however those that stay are joined, and however all are.
-  pub bytes-same : keyCount bs ≤ mostRecords version → (p q : Plan) → Covers p bs → Covers q (staying [] bs) → Room p → Room q → written (result q) ≡ written (result p)
-  unfolding ruleBook
-  bytes-same few p q c d r s =
-      any-order h (staying [] bs) stay-month q d s (omega (arith, few, keys-of (staying [] bs) bs (stays-in h [] bs))) .2 ∙ ap (bookBytes version h) calls-same
-      ∙ sym (any-order h bs month p c r few .2)
+  module _ (few : keyCount bs ≤ mostKeys) (p q : Plan) (c : Covers p bs) (d : Covers q (staying [] bs)) (r : Room p) (s : Room q) where
+    few-stay : keyCount (staying [] bs) ≤ mostKeys
+    few-stay = omega (arith, few, keys-of (staying [] bs) bs (stays-in h [] bs))
+
+    -- and so are the month, the area and the calls, however those that stay are joined, and however all are;
+    pub says-same : SaysSame (written (result q)) (written (result p))
+    says-same =
+        let x = result-reads h (staying [] bs) stay-month q d s few-stay in
+        let y = result-reads h bs month p c r few in
+        record { header = x .0 ∙ sym (y .0); calls = x .1 ∙ calls-same ∙ sym (y .1) }
+
+    -- the bytes exactly where the version over the whole list is the same.
+    pub bytes-same : (written (result q) ≡ written (result p)) ↔ (versionOver (staying [] bs) ≡ versionOver bs)
+    bytes-same =
+        let v = one-version h (staying [] bs) stay-month q d s few-stay in
+        let w = one-version h bs month p c r few in (
+          λ e. sym v ∙ ap versionAt e ∙ w,
+          λ e.
+              one-to-one _ _ (result-sound h (staying [] bs) stay-month q d s few-stay) (result-sound h bs month p c r few) (v ∙ e ∙ sym w) says-same,
+        )
 
 -- One book always stays.
 pub one-stays : (b : List ℕ) (bs : List (List ℕ)) → staying [] (b ∷ bs) ≡ [] → ⊥
@@ -206,7 +221,7 @@ one-stays b bs = go (staying (b ∷ []) bs)
         either false e = let z : _≡_ {A = ℕ} 0 1 = cc in omega arith
 
 -- Over bytes: a book adds nothing to the joined book of others, in whatever order they came together, exactly where it adds nothing to them.
-pub adds-exactly : (h : Header) (b : List ℕ) (others : List (List ℕ)) → OneMonth h (b ∷ others) → keyCount others ≤ mostRecords version
+pub adds-exactly : (h : Header) (b : List ℕ) (others : List (List ℕ)) → OneMonth h (b ∷ others) → keyCount others ≤ mostKeys
     → (q : Plan) → Covers q others → Room q → (addsNothing (written (result q)) b ≡ true) ↔ AddsNothing others b
 unfolding addsNothing
 adds-exactly h b others month few q covers room = (
@@ -231,7 +246,7 @@ adds-exactly h b others month few q covers room = (
 
     screened : screen joined b ≡ accepted
     screened =
-        sym (screen-passes joined b (sound-accepted joined (result-sound h others rest q covers few room)) (sound-accepted b (month .sound b (here refl)))
+        sym (screen-passes joined b (sound-accepted joined (result-sound h others rest q covers room few)) (sound-accepted b (month .sound b (here refl)))
         (ap₂ sameMonth (joined-header h others rest q covers room few) (month .header b (here refl)) ∙ same-month h))
 
     passed : (passes (screen joined b) && all (isCovered (callsOf joined)) (callsOf b)) ≡ true → all (isCovered (callsOf joined)) (callsOf b) ≡ true
@@ -254,7 +269,7 @@ together false true f g = g refl
 together false false f g = refl
 
 -- So the operation, over the joined book of others in whatever order they came together, answers whether a book is spare among them.
-pub spare-exactly : (h : Header) (b : List ℕ) (others : List (List ℕ)) → OneMonth h (b ∷ others) → keyCount others ≤ mostRecords version
+pub spare-exactly : (h : Header) (b : List ℕ) (others : List (List ℕ)) → OneMonth h (b ∷ others) → keyCount others ≤ mostKeys
     → (q : Plan) → Covers q others → Room q → addsNothing (written (result q)) b ≡ isSpare others b
 unfolding isSpare
 spare-exactly h b [] month few q covers room = let l = some-book q in absurd (in-nil (covers .only (l .0) (l .1)))

@@ -18,9 +18,10 @@ use Rattle.call.specs.Service.{CallWithin}
 use Rattle.call.specs.Layout.{callAt, keyBytes, timeBytes, termBytes, callBytes}
 use Rattle.call.proofs.Exact.{sound-within}
 use Rattle.book.specs.declared.Header.{Header}
-use Rattle.book.specs.Book.{version, headerAt, countAt, recordAt, callsFrom, callsOf, markBytes, dateBytes, countBytes, headBytes, recordBytes, bookBytes}
+use Rattle.book.specs.Book.{firstVersion, headerAt, countAt, recordAt, callsFrom, callsOf, markBytes, dateBytes, countBytes, headBytes, recordBytes, bookBytes}
 use Rattle.book.specs.Check.{headerMinutes}
-use Rattle.book.specs.Sound.{Heading, CallsWithin, Sound}
+use Rattle.book.specs.Sound.{Heading, CallsWithin, Sound, SaysSame}
+use Rattle.book.proofs.Heads.{first-known, first-fits}
 use Rattle.book.proofs.Exact.{sound-accepted, reads-back}
 use Rattle.book.proofs.Records.{length-calls}
 use Rattle.rule.specs.Standing.{sameCall, decide, given, standing}
@@ -50,7 +51,7 @@ use Rattle.drawer.specs.Refused.{againstAt, firstAgainst, isRefusedAt, r
 use Rattle.drawer.specs.Nothing.{standsAgainst, isCovered, isSpare, orStays, staying}
 use Rattle.drawer.proofs.Agreeing.{joined-calls, nothing-listed}
 use Rattle.drawer.proofs.Scored.{first-is-score, accepted-exactly}
-use Rattle.drawer.proofs.Staying.{bytes-same}
+use Rattle.drawer.proofs.Staying.{says-same}
 
 -- The three books, joined: the stop is withdrawn
 
@@ -127,9 +128,9 @@ unfolding staying orStays three
 office-stays = rw (spare-listed, office-unlisted, plant-listed) refl
 
 -- it by itself is the book of all three
-pub office-alone : written (result (leaf head-office)) ≡ written (result left)
+pub office-alone : SaysSame (written (result (leaf head-office))) (written (result left))
 unfolding books
-office-alone = bytes-same march three one-month few left (leaf head-office) left-covers covers left-room tt
+office-alone = says-same march three one-month few left (leaf head-office) left-covers covers left-room tt
   where
     covers : Covers (leaf head-office) (staying [] three)
     covers =
@@ -158,7 +159,7 @@ calls =
     ∷ []
 
 pub book : List ℕ
-book = bookBytes version february calls
+book = bookBytes firstVersion february calls
 
 -- member 7, coal of 300,000 kW
 pub seven : Member
@@ -192,11 +193,11 @@ heads = record { area = (lit≤ tt, lit≤ tt); year = (lit≤ tt, lit≤ tt); m
 is-sound : Sound book
 unfolding book calls call
 is-sound =
-    record { header = february; calls = calls; heading = heads; few = lit≤ tt; within = within; rising = (lit≤ tt, (lit≤ tt, (lit≤ tt, (lit≤ tt, tt)))); bytes = refl }
+    record { version = firstVersion; header = february; calls = calls; known = first-known; heading = heads; few = first-fits _ (lit≤ tt); within = within; rising = (lit≤ tt, (lit≤ tt, (lit≤ tt, (lit≤ tt, tt)))); bytes = refl }
 
 quarters : quartersOf (headerAt book .year) (headerAt book .month) ≡ 2688
 unfolding book calls february quartersOf daysOf isLeap
-quarters = ap (λ (h : Header). quartersOf (h .year) (h .month)) (reads-back february calls heads (lit≤ tt) within .0)
+quarters = ap (λ (h : Header). quartersOf (h .year) (h .month)) (reads-back firstVersion february calls first-known heads (first-fits _ (lit≤ tt)) within .0)
 
 -- and the first of them is the score's refusal, whatever the outputs are
 pub seven-refused : (series : List ℕ) → length series ≡ 2688 → ValuesWithin series 2688 → scoring seven book series ≡ scoreRefused 12 1

@@ -1,6 +1,7 @@
 // The table of the book's rules: each kind of case, what the book's crates do held against what the case's line says.
 use crate::numbers::Numbers;
 use crate::tally::Tally;
+use book::FIRST_VERSION;
 use book::Header;
 use book::Opened;
 use book::Verdict;
@@ -84,7 +85,7 @@ fn none_written(h: Header, number: u64) -> bool {
 
 fn none_checked(h: Header, number: u64) -> bool {
     let mut raw = [0u8; 16];
-    put_header(&mut raw, h, 0);
+    put_header(&mut raw, FIRST_VERSION, h, 0);
     is(book::check(&raw), number, 0) & is_told(header_of(&raw), number, h, 0)
 }
 
@@ -145,7 +146,7 @@ fn first_call_is(b: &[u8], x: Call) -> bool {
 
 fn one_checked(h: Header, x: Call, number: u64) -> bool {
     let mut raw = [0u8; 48];
-    put_header(&mut raw, h, 1);
+    put_header(&mut raw, FIRST_VERSION, h, 1);
     put_call(&mut raw, 16, x);
     let told = is_told(header_of(&raw), number, h, 1);
     is(book::check(&raw), number, 0) & told & first_call_is(&raw, x)
@@ -207,7 +208,7 @@ fn fill(b: &mut [u8], n: u16) {
 // A book of n records, sound up to 512 of them, with zeros behind it.
 fn stops(n: u16) -> [u8; 16432] {
     let mut b = [0u8; 16432];
-    put_header(&mut b, january(), n);
+    put_header(&mut b, FIRST_VERSION, january(), n);
     fill(&mut b, n);
     b
 }

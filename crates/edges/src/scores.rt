@@ -5,6 +5,7 @@ use crate::books::call_from;
 use crate::books::january;
 use crate::numbers::Numbers;
 use crate::tally::Tally;
+use book::FIRST_VERSION;
 use book::size_of;
 use book::write::put_header;
 use call::layout::put_call;
@@ -25,7 +26,7 @@ fn member_in(numbers: Numbers) -> Member {
 
 fn book_in(numbers: Numbers) -> [u8; 80] {
     let mut b = [0u8; 80];
-    put_header(&mut b, january(), numbers.half(5));
+    put_header(&mut b, FIRST_VERSION, january(), numbers.half(5));
     put_call(&mut b, 16, call_from(numbers, 6));
     put_call(&mut b, 48, call_from(numbers, 16));
     b

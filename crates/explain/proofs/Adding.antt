@@ -7,7 +7,7 @@ use native.Mathlib.Nat.{zero-add, add-zero}
 use native.Mathlib.Omega.{arith}
 use lib.IntN.{ℤ, pos, _+ℤ_, +ℤ-assoc, +ℤ-idl, +ℤ-idr}
 use lib.ListN.{length, replicate}
-use Rattle.book.specs.Book.{version, mostRecords, recordAt}
+use Rattle.book.specs.Book.{mostKeys, recordAt}
 use Rattle.pay.specs.declared.Member.{Member}
 use Rattle.pay.specs.Sum.{total, totalZ}
 use Rattle.pay.proofs.Sums.{total-none, total0-suc, totalZ-none, totalZ-suc}
@@ -41,12 +41,12 @@ blank-wh (suc n) = +ℤ-idl (partsWh (replicate n blankPart)) ∙ blank-wh n
 
 pub filled-grains : (ps : List CallPart) → partsGrains (filledUp ps) ≡ partsGrains ps
 unfolding filledUp
-filled-grains ps = let n = mostRecords version - length ps in omega (arith, grains-append ps (replicate n blankPart), blank-grains n)
+filled-grains ps = let n = mostKeys - length ps in omega (arith, grains-append ps (replicate n blankPart), blank-grains n)
 
 pub filled-wh : (ps : List CallPart) → partsWh (filledUp ps) ≡ partsWh ps
 unfolding filledUp
 filled-wh ps =
-    let n = mostRecords version - length ps in
+    let n = mostKeys - length ps in
     wh-append ps (replicate n blankPart) ∙ ap (λ (z : ℤ). partsWh ps +ℤ z) (blank-wh n) ∙ +ℤ-idr (partsWh ps)
 
 module _ (m : Member) (b series : List ℕ) where

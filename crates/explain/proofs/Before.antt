@@ -9,7 +9,7 @@ use native.Mathlib.Omega.{arith}
 use lib.ListN.{length, set, replicate, length-append}
 use lib.Seq.{append-snoc, set-append-seam}
 use Rattle.call.specs.declared.Call.{Call}
-use Rattle.book.specs.Book.{countAt, recordAt, callsFrom, callsOf}
+use Rattle.book.specs.Book.{mostKeys, countAt, recordAt, callsFrom, callsOf}
 use Rattle.pay.specs.declared.Member.{Member}
 use Rattle.score.specs.Scoring.{isOwnLive, whOf, whAt}
 use Rattle.explain.specs.declared.CallPart.{CallPart}
@@ -88,13 +88,13 @@ module _ (m : Member) (b series : List ℕ) where
   turn-no i h = rw h refl
 
   module _ (i : ℕ) (t : PartTurn) (e : t ≡ partTurn m b series i) where
-    pub turn-parts : (parts : List CallPart) (count : ℕ) → parts ≡ filledUp (before i) → count ≡ length (before i) → i < 512 → set parts count (t .part) ≡ filledUp (before (i + 1))
+    pub turn-parts : (parts : List CallPart) (count : ℕ) → parts ≡ filledUp (before i) → count ≡ length (before i) → i < mostKeys → set parts count (t .part) ≡ filledUp (before (i + 1))
     unfolding filledUp
     turn-parts parts count p c l = rw (p, c, add-one) (go (isOwnLive m (recordAt b i)) refl)
       where
         go : (o : Bool) → isOwnLive m (recordAt b i) ≡ o → set (filledUp (before i)) (length (before i)) (t .part) ≡ filledUp (before (suc i))
-        go true h = rw (e, turn-yes i h, before-own i h) (put-next 512 (before i) blankPart (callPart m series i (recordAt b i)) (omega (arith, before-few i)))
-        go false h = rw (e, turn-no i h, before-other i h) (put-same 512 (before i) blankPart (omega (arith, before-few i)))
+        go true h = rw (e, turn-yes i h, before-own i h) (put-next mostKeys (before i) blankPart (callPart m series i (recordAt b i)) (omega (arith, before-few i)))
+        go false h = rw (e, turn-no i h, before-other i h) (put-same mostKeys (before i) blankPart (omega (arith, before-few i)))
 
     pub turn-count : (count : ℕ) → count ≡ length (before i) → count + t .count ≡ length (before (i + 1))
     turn-count count c = rw (c, add-one) (go (isOwnLive m (recordAt b i)) refl)

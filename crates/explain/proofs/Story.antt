@@ -17,9 +17,10 @@ use Rattle.call.specs.Service.{CallWithin}
 use Rattle.call.proofs.Exact.{sound-within}
 use Rattle.book.specs.declared.Header.{Header}
 use Rattle.book.specs.declared.Verdict.{Verdict}
-use Rattle.book.specs.Book.{version, headerAt, countAt, recordAt, callsOf, markBytes, dateBytes, countBytes, headBytes, recordBytes, bookBytes}
+use Rattle.book.specs.Book.{firstVersion, headerAt, countAt, recordAt, callsOf, markBytes, dateBytes, countBytes, headBytes, recordBytes, bookBytes}
 use Rattle.book.specs.Check.{headerMinutes}
 use Rattle.book.specs.Sound.{Heading, CallsWithin, Sound}
+use Rattle.book.proofs.Heads.{first-known, first-fits}
 use Rattle.book.proofs.Exact.{sound-accepted, reads-back}
 use Rattle.book.proofs.Records.{length-calls}
 use Rattle.le.specs.Le.{leAt, leBytes}
@@ -87,16 +88,16 @@ within = (
 )
 
 pub book : List ℕ
-book = bookBytes version february calls
+book = bookBytes firstVersion february calls
 
 is-sound : Sound book
 unfolding book calls call
 is-sound =
-    record { header = february; calls = calls; heading = heads; few = lit≤ tt; within = within; rising = (lit≤ tt, (lit≤ tt, (lit≤ tt, (lit≤ tt, (lit≤ tt, tt))))); bytes = refl }
+    record { version = firstVersion; header = february; calls = calls; known = first-known; heading = heads; few = first-fits _ (lit≤ tt); within = within; rising = (lit≤ tt, (lit≤ tt, (lit≤ tt, (lit≤ tt, (lit≤ tt, tt))))); bytes = refl }
 
 reads : (headerAt book ≡ february) × (callsOf book ≡ calls)
 unfolding book calls
-reads = reads-back february calls heads (lit≤ tt) within
+reads = reads-back firstVersion february calls first-known heads (first-fits _ (lit≤ tt)) within
 
 five : countAt book ≡ 5
 unfolding callsOf calls

@@ -8,7 +8,7 @@ use lib.ListN.{getD, length, replicate}
 use Rattle.units.specs.declared.Grains.{Grains}
 use Rattle.units.specs.Money.{grainsPlus}
 use Rattle.call.specs.declared.Call.{Call}
-use Rattle.book.specs.Book.{version, mostRecords, countAt, recordAt, callsOf}
+use Rattle.book.specs.Book.{mostKeys, countAt, recordAt, callsOf}
 use Rattle.pay.specs.declared.Member.{Member}
 use Rattle.pay.specs.Sum.{totalZ}
 use Rattle.pay.specs.Rate.{rateOf}
@@ -51,7 +51,7 @@ blankPart = record { place = 0; rate = 0; wh = record { 0 = pos 0 }; grains = re
 
 -- there is room for as many parts as a book has records: behind the parts it is blank
 unfoldable pub filledUp : List CallPart → List CallPart
-filledUp parts = parts ++ replicate (mostRecords version - length parts) blankPart
+filledUp parts = parts ++ replicate (mostKeys - length parts) blankPart
 
 -- the month's Wh, summed with their sign
 unfoldable pub monthWh : Member → List ℕ → ℤ

@@ -6,7 +6,7 @@ ghost use Prim.Native.Nat.{ℕ, _*_, _<_, _≤_};
 ghost use lib.ListN.{length};
 ghost use lib.Signed.{mag};
 ghost use Rattle.call.specs.Limits.{callIsSound};
-ghost use Rattle.book.specs.Book.{HasRecord, sizeOf};
+ghost use Rattle.book.specs.Book.{mostKeys, HasRecord, sizeOf};
 ghost use Rattle.pay.specs.Live.{liveWh};
 ghost use Rattle.pay.specs.Inner.{mostWh};
 ghost use Rattle.score.specs.Scoring.{isOwnLive};
@@ -116,7 +116,7 @@ pub struct PartsFound {
 pub fn parts_before(member: Member, b: &[u8], n: usize, series: &[u32]) -> PartsFound
     requires { ⌜ Small member (now series) ⌝ }
     requires { ⌜ sizeOf n ≤ length (now b) ⌝ }
-    requires { ⌜ n ≤ 512 ⌝ }
+    requires { ⌜ n ≤ mostKeys ⌝ }
     requires { ⌜ ((i : ℕ) → i < n → RecordIsSound (now b) (now series) i) ⌝ }
     ensures { λ r. ⌜ Finds member (now (b .entry)) (now (series .entry)) n r ⌝ }
 {

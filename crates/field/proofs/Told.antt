@@ -16,8 +16,9 @@ use Rattle.call.specs.Limits.{callIsSound}
 use Rattle.call.specs.Layout.{recordSize, reservedAt}
 use Rattle.book.specs.declared.Header.{Header}
 use Rattle.book.specs.declared.Verdict.{Verdict}
-use Rattle.book.specs.Book.{version, mostRecords, sizeOf, placeOf, headerAt, recordAt}
+use Rattle.book.specs.Book.{mostKeys, versionAt, sizeOf, placeOf, headerAt, recordAt}
 use Rattle.book.specs.Check.{refused, headerIsSound, headerMinutes, check}
+use Rattle.book.proofs.Heads.{known-most}
 use Rattle.book.specs.Refusals.{Refusal, none, under-16, no-mark, no-version, no-header, no-count, no-field, no-rise}
 use Rattle.book.specs.Write.{soundCalls, writeFault}
 use Rattle.book.proofs.Numbers.{refused-exactly}
@@ -33,22 +34,22 @@ use Rattle.field.proofs.Named.{named-exactly, none-exactly}
 -- The record of a book
 
 module _ (b : List ℕ) (i : ℕ) where
-  pub no-late : mostRecords version ≤ i → noRecord ≡ badRecord b i
+  pub no-late : mostKeys ≤ i → noRecord ≡ badRecord b i
   unfolding badRecord hasRecord
-  no-late h = rw (le-ltb i (mostRecords version) h)
+  no-late h = rw (le-ltb i mostKeys h)
 
-  pub no-short : i < mostRecords version → length b < placeOf i + recordSize → noRecord ≡ badRecord b i
+  pub no-short : i < mostKeys → length b < placeOf i + recordSize → noRecord ≡ badRecord b i
   unfolding badRecord hasRecord
-  no-short h k = rw (lt-ltb i (mostRecords version) h, lt-leb (placeOf i + recordSize) (length b) k)
+  no-short h k = rw (lt-ltb i mostKeys h, lt-leb (placeOf i + recordSize) (length b) k)
 
   abbrev told : BadRecord
   told = record { call = recordAt b i; field = badField (headerMinutes (headerAt b)) (recordAt b i) (reservedAt b (placeOf i)) }
 
-  pub there : i < mostRecords version → placeOf i + recordSize ≤ length b → told ≡ badRecord b i
+  pub there : i < mostKeys → placeOf i + recordSize ≤ length b → told ≡ badRecord b i
   unfolding badRecord hasRecord
-  there h k = rw (lt-ltb i (mostRecords version) h, le-leb (placeOf i + recordSize) (length b) k)
+  there h k = rw (lt-ltb i mostKeys h, le-leb (placeOf i + recordSize) (length b) k)
 
-  pub as-told : (h : Header) (x : Call) (f : Field) (m n at : ℕ) → i < mostRecords version → placeOf i + recordSize ≤ length b
+  pub as-told : (h : Header) (x : Call) (f : Field) (m n at : ℕ) → i < mostKeys → placeOf i + recordSize ≤ length b
       → h ≡ headerAt b → m ≡ minutesOf (h .year) (h .month) → x ≡ recordAt b i → at ≡ placeOf i → n ≡ reservedAt b at → f ≡ badField m x n
       → _≡_ {A = BadRecord} (record { call = x; field = f }) (badRecord b i)
   unfolding headerMinutes
@@ -79,7 +80,7 @@ told-of-5 b i small e = go (refused-exactly b small (refused 5 i) .0 e)
     go (no-rise j e f l s g n) = absurd (omega (arith, number e))
     go (no-field j e f l s n) =
         let same : j ≡ i = sym (ap (λ (v : Verdict). v .place) e) in
-        let early : i < mostRecords version = omega (arith, f .header .few) in
+        let early : i < mostKeys = omega (arith, f .header .few, known-most (versionAt b) (f .version)) in
         let whole : placeOf i + recordSize ≤ length b = omega (arith, f .count) in
         let is = sym (there b i early whole) in
         let m = headerMinutes (headerAt b) in

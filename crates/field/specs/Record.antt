@@ -6,7 +6,7 @@ use lib.Dec.{ltb, leb}
 use lib.IntN.{pos}
 use lib.ListN.{length}
 use Rattle.call.specs.Layout.{recordSize, reservedAt}
-use Rattle.book.specs.Book.{version, mostRecords, placeOf, headerAt, recordAt}
+use Rattle.book.specs.Book.{mostKeys, placeOf, headerAt, recordAt}
 use Rattle.book.specs.Check.{headerMinutes}
 use Rattle.field.specs.declared.BadRecord.{BadRecord}
 use Rattle.field.specs.declared.Field.the-variants.{NoField}
@@ -14,7 +14,7 @@ use Rattle.field.specs.Field.{badField}
 
 -- the bytes have record i, and a book may
 unfoldable pub hasRecord : List ℕ → ℕ → Bool
-hasRecord b i = ltb i (mostRecords version) && leb (placeOf i + recordSize) (length b)
+hasRecord b i = ltb i mostKeys && leb (placeOf i + recordSize) (length b)
 
 -- zeros, and no field
 abbrev pub noRecord : BadRecord

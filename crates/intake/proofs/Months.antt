@@ -10,9 +10,9 @@ use lib.IntN.{ℤ, pos, natAbs, _+ℤ_, +ℤ-idl}
 use lib.ListN.{length, getD, take, replicate}
 use Rattle.le.proofs.Tests.{all}
 use Rattle.units.specs.Money.{grainsToFen}
-use Rattle.book.specs.Book.{version, mostRecords, headerAt, countAt}
+use Rattle.book.specs.Book.{mostKeys, headerAt, countAt}
 use Rattle.book.specs.Check.{accepted, check, headerIsSound}
-use Rattle.book.proofs.Exact.{accepted-tests}
+use Rattle.book.proofs.Exact.{accepted-tests, accepted-few}
 use Rattle.book.proofs.Heads.{headed-is}
 use Rattle.share.specs.Sharing.{mostStatus, mostCompensation, mostPart}
 use Rattle.share.proofs.Promises as S
@@ -118,7 +118,7 @@ unfolding headIsWithin headerIsSound
 head-yes b part e k =
     let h = headed-is b (accepted-tests b e .header) in
     let a = h .heading in
-    all (headerIsSound (headerAt b)) (leb (countAt b) (mostRecords version) ∷ leb part mostPart ∷ []) (
+    all (headerIsSound (headerAt b)) (leb (countAt b) mostKeys ∷ leb part mostPart ∷ []) (
       all (leb 1 (headerAt b .area)) (headerTests (headerAt b)) (
         le-leb 1 (headerAt b .area) (a .area .0),
         (
@@ -129,7 +129,7 @@ head-yes b part e k =
           ),
         ),
       ),
-      (le-leb (countAt b) 512 (h .few), (le-leb part 10000 k, tt)),
+      (le-leb (countAt b) mostKeys (accepted-few b e), (le-leb part 10000 k, tt)),
     )
 
 module _ (g : MonthGiven) (hours : HoursOfMonth g) (none : settling g .fault ≡ NoFault) where

@@ -13,7 +13,7 @@ use Rattle.le.proofs.Tests.{each, all}
 use Rattle.units.specs.Money.{grainsToFen}
 use Rattle.units.specs.Month.{monthsPerYear}
 use Rattle.book.specs.declared.Header.{Header}
-use Rattle.book.specs.Book.{version, mostRecords, mostArea, firstYear, lastYear}
+use Rattle.book.specs.Book.{mostKeys, mostArea, firstYear, lastYear}
 use Rattle.book.specs.Check.{headerIsSound}
 use Rattle.share.specs.Sharing.{mostNumber, mostStatus, mostEnergy, mostCompensation, mostAssessment, mostPart}
 use Rattle.month.specs.declared.Row.{Row}
@@ -114,7 +114,7 @@ headerTests h = leb (h .area) mostArea ∷ leb firstYear (h .year) ∷ leb (h .y
 date-sound : (h : Header) (calls part : ℕ) → headIsWithin h calls part ≡ true → dateIsSound (h .year) (h .month) ≡ true
 unfolding headIsWithin headerIsSound dateIsSound
 date-sound h calls part k =
-    let e = each (headerIsSound h) (leb calls (mostRecords version) ∷ leb part mostPart ∷ []) k .0 in
+    let e = each (headerIsSound h) (leb calls mostKeys ∷ leb part mostPart ∷ []) k .0 in
     let d = each (leb 1 (h .area)) (headerTests h) e .1 .1 in
     all (leb firstYear (h .year)) (leb (h .year) lastYear ∷ leb 1 (h .month) ∷ leb (h .month) monthsPerYear ∷ []) d
 

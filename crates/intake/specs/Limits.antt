@@ -7,7 +7,7 @@ use lib.IntN.{ℤ, natAbs}
 use lib.ListN.{take}
 use Rattle.units.specs.Money.{grainsToFen}
 use Rattle.book.specs.declared.Header.{Header}
-use Rattle.book.specs.Book.{version, mostRecords}
+use Rattle.book.specs.Book.{mostKeys}
 use Rattle.book.specs.Check.{headerIsSound}
 use Rattle.share.specs.Sharing.{mostEnergy, mostCompensation, mostPart, numbersAreSound}
 use Rattle.month.specs.declared.Row.{Row}
@@ -16,7 +16,7 @@ use Rattle.year.specs.Year.{mostEitherWay, isWithin}
 
 -- the first line: area 1 to 99, year and month in their ranges, no more calls than a book has, a part of at most 10,000
 unfoldable pub headIsWithin : Header → ℕ → ℕ → Bool
-headIsWithin h calls part = headerIsSound h && leb calls (mostRecords version) && leb part mostPart
+headIsWithin h calls part = headerIsSound h && leb calls mostKeys && leb part mostPart
 
 -- the hours of 31 days: no month has more
 abbrev pub mostHours : ℕ

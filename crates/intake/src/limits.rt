@@ -1,7 +1,6 @@
 // The lines of a statement's text held to their limits.
 use book::Header;
-use book::VERSION;
-use book::most_records;
+use book::MOST_RECORDS;
 use month::Row;
 use month::Statement;
 use register::MOST_ENTRIES;
@@ -29,7 +28,7 @@ const MOST_EITHER_WAY: u64 = 200_000_000_000;
 fn head_is_within(h: Header, calls: usize, part: u32) -> bool
     ensures { λ r. ⌜ r ≡ headIsWithin h calls part ⌝ }
 {
-    h.is_sound() & (calls <= most_records(VERSION)) & (part <= MOST_PART)
+    h.is_sound() & (calls <= MOST_RECORDS) & (part <= MOST_PART)
 }
 
 // Whether a member's line is within the limits behind the number `before`.

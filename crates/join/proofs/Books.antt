@@ -1,21 +1,17 @@
 -- What a check that accepts says of each record's bytes and of the keys. Assumes nothing.
 use mathlib.Core.Path.{_≡_, sym, _∙_, ap}
-use mathlib.Core.List.{List, [], _∷_}
+use mathlib.Core.List.{List}
 use Prim.Native.Nat.{ℕ, zero, suc, _+_, _<_, _≤_}
 use native.Mathlib.Nat.{zero-add}
 use native.Mathlib.Omega.{arith}
-use lib.Dec.{eqb, leb}
 use lib.ListN.{length}
-use borrow.Author.Tests.{leb-true}
-use Rattle.le.specs.Le.{leAt}
-use Rattle.le.proofs.Tests.{each}
 use Rattle.call.specs.Key.{callKey}
 use Rattle.call.specs.Layout.{reservedAt}
-use Rattle.book.specs.Book.{version, mostRecords, sizeOf, headerAt, countAt, recordAt, callsFrom, callsOf}
-use Rattle.book.specs.Check.{accepted, headerIsSound, isHeaded, headerMinutes, judge, checkRecords}
+use Rattle.book.specs.Book.{mostKeys, sizeOf, headerAt, countAt, recordAt, callsFrom, callsOf}
+use Rattle.book.specs.Check.{accepted, headerMinutes, judge, checkRecords}
 use Rattle.book.specs.Sound.{Rises}
 use Rattle.book.proofs.Records.{judge-zero, went-on}
-use Rattle.book.proofs.Exact.{accepted-tests}
+use Rattle.book.proofs.Exact.{accepted-tests, accepted-few}
 use Rattle.pair.specs.Screening.{IsAccepted}
 use Rattle.join.specs.Steps.{RecordLies}
 
@@ -42,11 +38,8 @@ module _ (b : List ℕ) (e : IsAccepted b) where
   pub long : 16 ≤ length b
   long = accepted-tests b e .long
 
-  pub few : countAt b ≤ mostRecords version
-  unfolding isHeaded
-  few =
-      let t = each (headerIsSound (headerAt b)) (eqb (leAt b 9 1) 0 ∷ leb (countAt b) (mostRecords version) ∷ eqb (leAt b 12 4) 0 ∷ []) (accepted-tests b e .header) in
-      leb-true _ _ (t .1 .1 .0)
+  pub few : countAt b ≤ mostKeys
+  few = accepted-few b e
 
   pub size : length b ≡ sizeOf (countAt b)
   size = accepted-tests b e .count

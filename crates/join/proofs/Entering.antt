@@ -18,12 +18,13 @@ use Rattle.call.specs.Service.{CallWithin}
 use Rattle.call.proofs.Keys.{key-same}
 use Rattle.book.specs.declared.Header.{Header}
 use Rattle.book.specs.declared.Verdict.{Verdict}
-use Rattle.book.specs.Book.{version, mostRecords, sizeOf, headerAt, countAt, callsOf, bookBytes}
+use Rattle.book.specs.Book.{firstVersion, mostRecords, mostKeys, sizeOf, versionAt, headerAt, countAt, callsOf, bookBytes}
 use Rattle.book.specs.Check.{refused, headerMinutes}
 use Rattle.book.specs.Sound.{Heading, Sound}
 use Rattle.book.specs.Refusals.{WriteRefusal, none as nothing-wrong, no-header, no-field, no-room}
 use Rattle.book.specs.Write.{BookOutcome, writeFault, writing}
-use Rattle.book.proofs.Exact.{reads-back, sound-reads}
+use Rattle.book.proofs.Heads.{first-known, known-most, first-some}
+use Rattle.book.proofs.Exact.{reads-back, sound-reads, sound-known, sound-again}
 use Rattle.book.proofs.Records.{length-calls}
 use Rattle.book.proofs.Writing.{Numbered, write-refused-exactly, book-written}
 use Rattle.rule.specs.Standing.{isWithdrawn, decide, given, standing}
@@ -39,7 +40,7 @@ use Rattle.rule.proofs.Lattice.{Stood, second, first, equal, clash, stood, own-
 use Rattle.join.specs.Joining.{JoinOutcome, joinRefused, joining}
 use Rattle.join.specs.Changing.{joinWritten, changing, recordAfter, Fits, had, new, Changeable, withdrawnRevision}
 use Rattle.join.specs.Trees.{written}
-use Rattle.join.proofs.Trees.{sound-calls, sound-bytes, book-sound, book-joined, book-refused, book-short}
+use Rattle.join.proofs.Trees.{sound-calls, sound-few, book-sound, book-joined, book-refused, book-short}
 use Rattle.join.proofs.Accepted.{record-joined, joined-sound, header-joined}
 use Rattle.join.proofs.Exact.{join-kept}
 
@@ -111,7 +112,7 @@ module _ (a : List ℕ) (one : BookOutcome) (out : List ℕ) where
 -- a sound book, a call whose number and revision are numbers of 32 bits, a page, an output
 module _ (a : List ℕ) (sound : Sound a) (w : Call) (numbered : Numbered (w ∷ [])) (page out : List ℕ) where
   one : List ℕ
-  one = bookBytes version (headerAt a) (w ∷ [])
+  one = bookBytes firstVersion (headerAt a) (w ∷ [])
 
   fault : ℕ
   fault = writeFault (headerAt a) (w ∷ []) (length page)
@@ -172,9 +173,12 @@ module _ (a : List ℕ) (sound : Sound a) (w : Call) (numbered : Numbered (w ∷
   unfolding keys callsOf
   keys-new e = join-length (callsOf a) (w ∷ []) ∙ count-new (callsOf a) w (sound-calls a sound .rises) e ∙ ap suc (length-calls a (countAt a) 0)
 
-  few-calls : countAt a ≤ mostRecords version
+  few : length (callsOf a) ≤ mostRecords (versionAt a)
+  few = sound-few a sound
+
+  few-calls : countAt a ≤ mostKeys
   unfolding callsOf
-  few-calls = omega (arith, sound .few, ap length (sound-reads a sound .1), length-calls a (countAt a) 0)
+  few-calls = omega (arith, few, known-most (versionAt a) (sound-known a sound), length-calls a (countAt a) 0)
 
   -- the two books
   module _ (within : CallWithin (headerMinutes (headerAt a)) w) where
@@ -183,32 +187,29 @@ module _ (a : List ℕ) (sound : Sound a) (w : Call) (numbered : Numbered (w ∷
 
     one-sound : Sound one
     unfolding one
-    one-sound = book-sound (headerAt a) (w ∷ []) heads (lit≤ tt) one-calls
+    one-sound = book-sound firstVersion (headerAt a) (w ∷ []) first-known heads first-some one-calls
 
     one-reads : callsOf one ≡ w ∷ []
     unfolding one
-    one-reads = reads-back (headerAt a) (w ∷ []) heads (lit≤ tt) (within, tt) .1
-
-    few : length (callsOf a) ≤ mostRecords version
-    few = omega (arith, sound .few, ap length (sound-reads a sound .1))
+    one-reads = reads-back firstVersion (headerAt a) (w ∷ []) first-known heads first-some (within, tt) .1
 
     -- the join is accepted where its calls are few enough and the output has room for them
-    joins-where : keys ≤ mostRecords version → sizeOf keys ≤ length out → joining a one out .number ≡ 0
+    joins-where : keys ≤ mostKeys → sizeOf keys ≤ length out → joining a one out .number ≡ 0
     unfolding one keys
     joins-where f r =
-        ap (λ (b : List ℕ). joining b one out .number) (sound-bytes a sound)
-        ∙ ap (λ (o : JoinOutcome). o .number) (book-joined (headerAt a) heads (callsOf a) (w ∷ []) few (lit≤ tt) (sound-calls a sound) one-calls out f r)
+        ap (λ (b : List ℕ). joining b one out .number) (sound-again a sound)
+        ∙ ap (λ (o : JoinOutcome). o .number) (book-joined (headerAt a) heads (versionAt a) firstVersion (sound-known a sound) first-known (callsOf a) (w ∷ []) few first-some (sound-calls a sound) one-calls out f r)
 
-    where-joins : joining a one out .number ≡ 0 → (keys ≤ mostRecords version) × (sizeOf keys ≤ length out)
+    where-joins : joining a one out .number ≡ 0 → (keys ≤ mostKeys) × (sizeOf keys ≤ length out)
     unfolding one keys
-    where-joins z = go (decLe keys (mostRecords version)) (decLe (sizeOf keys) (length out))
+    where-joins z = go (decLe keys mostKeys) (decLe (sizeOf keys) (length out))
       where
-        is-zero : {v : Verdict} → joining (bookBytes version (headerAt a) (callsOf a)) one out ≡ joinRefused v out → v .number ≡ 0
-        is-zero e = ap (λ (o : JoinOutcome). o .number) (sym e) ∙ ap (λ (b : List ℕ). joining b one out .number) (sym (sound-bytes a sound)) ∙ z
+        is-zero : {v : Verdict} → joining (bookBytes (versionAt a) (headerAt a) (callsOf a)) one out ≡ joinRefused v out → v .number ≡ 0
+        is-zero e = ap (λ (o : JoinOutcome). o .number) (sym e) ∙ ap (λ (b : List ℕ). joining b one out .number) (sym (sound-again a sound)) ∙ z
 
-        go : Dec (keys ≤ mostRecords version) → Dec (sizeOf keys ≤ length out) → (keys ≤ mostRecords version) × (sizeOf keys ≤ length out)
-        go (no f) r = absurd (omega (arith, is-zero (book-refused (headerAt a) heads (callsOf a) (w ∷ []) few (lit≤ tt) (sound-calls a sound) one-calls out (omega arith))))
-        go (yes f) (no r) = absurd (omega (arith, is-zero (book-short (headerAt a) heads (callsOf a) (w ∷ []) few (lit≤ tt) (sound-calls a sound) one-calls out f (omega arith))))
+        go : Dec (keys ≤ mostKeys) → Dec (sizeOf keys ≤ length out) → (keys ≤ mostKeys) × (sizeOf keys ≤ length out)
+        go (no f) r = absurd (omega (arith, is-zero (book-refused (headerAt a) heads (versionAt a) firstVersion (sound-known a sound) first-known (callsOf a) (w ∷ []) few first-some (sound-calls a sound) one-calls out (omega arith))))
+        go (yes f) (no r) = absurd (omega (arith, is-zero (book-short (headerAt a) heads (versionAt a) firstVersion (sound-known a sound) first-known (callsOf a) (w ∷ []) few first-some (sound-calls a sound) one-calls out f (omega arith))))
         go (yes f) (yes r) = (f, r)
 
   -- the record of a key, in the changed book
@@ -312,11 +313,11 @@ module _ (a : List ℕ) (sound : Sound a) (w : Call) (numbered : Numbered (w ∷
                 stood-is x e (higher-stands x w (x-within x e) within (key x e) f t)
                 ∙ ap some (rw (e, f) refl)
 
-  -- a change is accepted exactly where the call is within the limits, the page holds it, the key is the book's or one of at most 512, and the output has room
+  -- a change is accepted exactly where the call is within the limits, the page holds it, the key is the book's or one of as many as a book may have, and the output has room
   pub change-accepted : (changing a w page out .number ≡ 0) ↔ Changeable a w page out
   change-accepted = (to, from)
     where
-      fits : (o : Option Call) → recordOf (callKey w) (callsOf a) ≡ o → (keys ≤ mostRecords version) × (sizeOf keys ≤ length out) → Fits a w out
+      fits : (o : Option Call) → recordOf (callKey w) (callsOf a) ≡ o → (keys ≤ mostKeys) × (sizeOf keys ≤ length out) → Fits a w out
       fits none e f = let k = keys-new e in let m = f .0 in let r = f .1 in new e (omega arith) (omega arith)
       fits (some x) e f =
           let n : recordOf (callKey w) (callsOf a) ≢ none = λ d. let y : _≡_ {A = ℕ} 0 1 = cc in omega arith in
@@ -330,7 +331,7 @@ module _ (a : List ℕ) (sound : Sound a) (w : Call) (numbered : Numbered (w ∷
             fits = fits (recordOf (callKey w) (callsOf a)) refl (where-joins (within z) (joins z));
           }
 
-      room : Fits a w out → (keys ≤ mostRecords version) × (sizeOf keys ≤ length out)
+      room : Fits a w out → (keys ≤ mostKeys) × (sizeOf keys ≤ length out)
       room (had n r) = let k = keys-had n in let m = few-calls in (omega arith, omega arith)
       room (new e l r) = let k = keys-new e in (omega arith, omega arith)
 

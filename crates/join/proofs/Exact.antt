@@ -11,7 +11,7 @@ use Rattle.le.specs.Le.{IsBytes}
 use Rattle.le.proofs.Tests.{fails, refuted}
 use Rattle.book.specs.declared.Header.{Header}
 use Rattle.book.specs.declared.Verdict.{Verdict}
-use Rattle.book.specs.Book.{version, mostRecords, sizeOf, headerAt}
+use Rattle.book.specs.Book.{mostKeys, sizeOf, headerAt}
 use Rattle.book.specs.Check.{accepted, check}
 use Rattle.book.proofs.Exact.{accepted-exactly, sound-accepted}
 use Rattle.book.proofs.Numbers.{refused-exactly}
@@ -93,7 +93,7 @@ module _ (a b out : List ℕ) (small-a : IsBytes a) (small-b : IsBytes b) where
           }
 
       together : check a ≡ accepted → check b ≡ accepted → (t : Bool) → sameMonth (headerAt a) (headerAt b) ≡ t
-          → Dec (n ≤ mostRecords version) → Dec (sizeOf n ≤ length out) → (o : JoinOutcome) × JoinVerdict a b out o
+          → Dec (n ≤ mostKeys) → Dec (sizeOf n ≤ length out) → (o : JoinOutcome) × JoinVerdict a b out o
       together p q false m f r = (_, seven (accepted-exactly a small-a .0 p) (accepted-exactly b small-b .0 q) (differ (headerAt a) (headerAt b) m) refl)
       together p q true m (no f) r = (_, eight (alike p q m) (omega arith) refl)
       together p q true m (yes f) (no r) = (_, nine (alike p q m) f (omega arith) refl)
@@ -106,7 +106,7 @@ module _ (a b out : List ℕ) (small-a : IsBytes a) (small-b : IsBytes b) where
       go (inr p) q = (_, first-refused (check a) (refused-exactly a small-a (check a) .0 refl) (bad (check a) (check a) refl (p .0)) refl)
       go (inl p) (inr q) =
           (_, second-refused (check b) (accepted-exactly a small-a .0 p) (refused-exactly b small-b (check b) .0 refl) (bad (check b) (check b) refl (q .0)) refl)
-      go (inl p) (inl q) = together p q (sameMonth (headerAt a) (headerAt b)) refl (decLe n (mostRecords version)) (decLe (sizeOf n) (length out))
+      go (inl p) (inl q) = together p q (sameMonth (headerAt a) (headerAt b)) refl (decLe n mostKeys) (decLe (sizeOf n) (length out))
 
   -- Each refusal of a join, with its place, and the joined book come out exactly under their row's condition.
   pub join-exact : (o : JoinOutcome) → (joining a b out ≡ o) ↔ JoinVerdict a b out o

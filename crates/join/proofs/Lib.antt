@@ -3,6 +3,7 @@ pub mod Steps
 pub mod Books
 pub mod Copies
 pub mod Writes
+pub mod Versions
 pub mod Trees
 pub mod Orders
 pub mod Accepted

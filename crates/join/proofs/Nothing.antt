@@ -1,5 +1,5 @@
--- A book that adds nothing to the others can be left out, where another is left, and so can one entry of a book: the bytes are the same. Assumes nothing.
-use mathlib.Core.Path.{_≡_, refl, sym, _∙_, ap, subst}
+-- A book that adds nothing to the others can be left out, where another is left, and so can one entry of a book: the month, the area and the calls are the same. Assumes nothing.
+use mathlib.Core.Path.{_≡_, refl, sym, _∙_, ap, ap₂, subst}
 use mathlib.Core.Bool.{true, false}
 use mathlib.Core.Logic.{inl, inr, ⊎-elim, _↔_}
 use mathlib.Core.List.{List, _∷_, map, Memᴰ·map, List·Memᴰ as In, List·Memᴰ·head as here, List·Memᴰ·tail as there, List·Memᴰ·cases-cons as in-cons}
@@ -13,10 +13,12 @@ use Rattle.call.specs.declared.Call.{Call}
 use Rattle.call.specs.Key.{callKey}
 use Rattle.call.specs.Service.{CallWithin}
 use Rattle.book.specs.declared.Header.{Header}
-use Rattle.book.specs.Book.{version, mostRecords, headerAt, callsOf, bookBytes}
+use Rattle.book.specs.Book.{mostKeys, versionAt, headerAt, callsOf, bookBytes}
 use Rattle.book.specs.Check.{headerMinutes}
+use Rattle.book.specs.Sound.{Sound, SaysSame}
 use Rattle.book.specs.Without.{without, bookWithout}
-use Rattle.book.proofs.Without.{without-within, without-rises, without-sound, without-reads}
+use Rattle.book.proofs.Exact.{one-to-one}
+use Rattle.book.proofs.Without.{without-within, without-rises, without-sound, without-version, without-reads}
 use Rattle.rule.specs.Keys.{recordOf}
 use Rattle.rule.specs.Standing.{isWithdrawn, decide, given, standing}
 use Rattle.rule.specs.Whole.{ruleOver, ruleCalls, Tree, treeJoined}
@@ -28,10 +30,11 @@ use Rattle.rule.proofs.Orders.{Over, leaves-sound, joined-rule}
 use Rattle.rule.proofs.Whole.{any-order as list-order, number-of-keys}
 use Rattle.rule.proofs.Without.{find-other, find-gone}
 use Rattle.join.specs.Joining.{keyCount}
-use Rattle.join.specs.Trees.{Plan, written, result, Room, OneMonth, Covers, ruleBook}
+use Rattle.join.specs.Trees.{Plan, written, result, Room, OneMonth, Covers, versionOver, ruleBook}
 use Rattle.join.specs.Nothing.{AddsNothing}
 use Rattle.join.proofs.Trees.{treeOf, covers-over, month-sounds}
-use Rattle.join.proofs.Orders.{calls, any-order}
+use Rattle.join.proofs.Orders.{calls, any-order, result-reads, result-sound, one-version}
+use Rattle.join.proofs.Versions.{head-version}
 use Rattle.join.proofs.Without.{keys-of}
 
 -- a record that is above another of its key stands against it
@@ -132,26 +135,43 @@ module _ (h : Header) (b : List ℕ) (bs : List (List ℕ)) (month : OneMonth h 
       sym (number-of-keys (headerMinutes h) (treeOf p) (map callsOf (b ∷ bs)) (covers-over p (b ∷ bs) c) (month-sounds h (b ∷ bs) month)) ∙ ap length trees-same
       ∙ number-of-keys (headerMinutes h) (treeOf q) (map callsOf bs) (covers-over q bs d) (month-sounds h bs others-month)
 
-  -- and every tree over all of them gives the bytes of every tree over the others.
-  pub left-out : keyCount bs ≤ mostRecords version → Room p → Room q → written (result p) ≡ written (result q)
-  unfolding ruleBook
-  left-out few r s =
-      any-order h (b ∷ bs) month p c r (omega (arith, no-key-more)) .2 ∙ ap (bookBytes version h) rule-calls ∙ sym (any-order h bs others-month q d s few .2)
+  module _ (few : keyCount bs ≤ mostKeys) (r : Room p) (s : Room q) where
+    few-all : keyCount (b ∷ bs) ≤ mostKeys
+    few-all = omega (arith, no-key-more)
+
+    pub left-out-sound : Sound (written (result p)) × Sound (written (result q))
+    left-out-sound = (result-sound h (b ∷ bs) month p c r few-all, result-sound h bs others-month q d s few)
+
+    -- and every tree over all of them gives the month, the area and the calls of every tree over the others;
+    pub left-out : SaysSame (written (result p)) (written (result q))
+    left-out =
+        let x = result-reads h (b ∷ bs) month p c r few-all in
+        let y = result-reads h bs others-month q d s few in
+        record { header = x .0 ∙ sym (y .0); calls = x .1 ∙ rule-calls ∙ sym (y .1) }
+
+    -- its bytes exactly where the version over the whole list is the same.
+    pub left-out-bytes : (written (result p) ≡ written (result q)) ↔ (versionOver (b ∷ bs) ≡ versionOver bs)
+    left-out-bytes =
+        let v = one-version h (b ∷ bs) month p c r few-all in
+        let w = one-version h bs others-month q d s few in (
+          λ e. sym v ∙ ap versionAt e ∙ w,
+          λ e. one-to-one _ _ (left-out-sound .0) (left-out-sound .1) (v ∙ e ∙ sym w) left-out,
+        )
 
 -- It is left out so exactly where it adds nothing.
-pub left-out-exactly : (h : Header) (b : List ℕ) (bs : List (List ℕ)) → OneMonth h (b ∷ bs) → keyCount (b ∷ bs) ≤ mostRecords version
-    → (p q : Plan) → Covers p (b ∷ bs) → Covers q bs → Room p → Room q → (written (result p) ≡ written (result q)) ↔ AddsNothing bs b
+pub left-out-exactly : (h : Header) (b : List ℕ) (bs : List (List ℕ)) → OneMonth h (b ∷ bs) → keyCount (b ∷ bs) ≤ mostKeys
+    → (p q : Plan) → Covers p (b ∷ bs) → Covers q bs → Room p → Room q → SaysSame (written (result p)) (written (result q)) ↔ AddsNothing bs b
 left-out-exactly h b bs month few p q c d r s = (from, λ nothing. left-out h b bs month nothing p q c d less r s)
   where
     others : OneMonth h bs
     others = record { sound = λ e i. month .sound e (there i); header = λ e i. month .header e (there i) }
 
-    less : keyCount bs ≤ mostRecords version
+    less : keyCount bs ≤ mostKeys
     less = omega (arith, keys-of bs (b ∷ bs) (λ e i. there i))
 
-    from : written (result p) ≡ written (result q) → AddsNothing bs b
+    from : SaysSame (written (result p)) (written (result q)) → AddsNothing bs b
     from e =
-        let same = sym (calls h (b ∷ bs) month p c r few) ∙ ap callsOf e ∙ calls h bs others q d s less in
+        let same = sym (calls h (b ∷ bs) month p c r few) ∙ e .calls ∙ calls h bs others q d s less in
         record {
           stands =
               stands-of (headerMinutes h) (callsOf b) (map callsOf bs) (month-sounds h (b ∷ bs) month) (treeOf p) (treeOf q)
@@ -252,11 +272,14 @@ module _ (h : Header) (b : List ℕ) (bs : List (List ℕ)) (month : OneMonth h 
         sym (number-of-keys (headerMinutes h) (treeOf p) (map callsOf (b ∷ bs)) (covers-over p (b ∷ bs) cp) sounds) ∙ ap length entry-same
         ∙ number-of-keys (headerMinutes h) (treeOf q) (map callsOf (less ∷ bs)) (covers-over q (less ∷ bs) cq) (month-sounds h (less ∷ bs) less-month)
 
+    entry-version : versionOver (b ∷ bs) ≡ versionOver (less ∷ bs)
+    entry-version = head-version b less bs (sym (without-version (callKey c) b (month .sound b (here refl)))) entry-keys
+
     -- adds nothing: the books with it and without it give the same bytes, however they are joined.
-    pub entry-out : keyCount (b ∷ bs) ≤ mostRecords version → Room p → Room q → written (result p) ≡ written (result q)
+    pub entry-out : keyCount (b ∷ bs) ≤ mostKeys → Room p → Room q → written (result p) ≡ written (result q)
     unfolding ruleBook
     entry-out few r s =
-        any-order h (b ∷ bs) month p cp r few .2 ∙ ap (bookBytes version h) entry-calls
+        any-order h (b ∷ bs) month p cp r few .2 ∙ ap₂ (λ (v : ℕ) (cs : List Call). bookBytes v h cs) entry-version entry-calls
         ∙ sym (any-order h (less ∷ bs) less-month q cq s (omega (arith, entry-keys)) .2)
 
 -- A withdrawn record stands against every entry of the call that is live or contested, whatever their revisions.

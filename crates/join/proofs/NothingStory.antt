@@ -7,7 +7,8 @@ use Prim.Native.Nat.{ℕ, _≤_}
 use native.Mathlib.Omega.{arith}
 use Rattle.call.specs.declared.Call.{Call}
 use Rattle.call.specs.Key.{callKey}
-use Rattle.book.specs.Book.{version, mostRecords, callsOf}
+use Rattle.book.specs.Book.{mostKeys, callsOf}
+use Rattle.book.specs.Sound.{SaysSame}
 use Rattle.book.specs.Without.{without, bookWithout}
 use Rattle.book.proofs.Without.{without-hit, without-reads}
 use Rattle.rule.specs.Standing.{sameCall, decide, given, standing}
@@ -83,12 +84,12 @@ pub without-spare-covers : Covers without-spare two
 unfolding without-spare books two
 without-spare-covers = record { all = λ b i. i; only = λ b i. i }
 
-pub few : keyCount two ≤ mostRecords version
+pub few : keyCount two ≤ mostKeys
 unfolding two
 few = omega (arith, plant-and-office)
 
 -- with the spare terminal or without it: the same book
-pub spare-left-out : written (result left) ≡ written (result without-spare)
+pub spare-left-out : SaysSame (written (result left)) (written (result without-spare))
 spare-left-out = left-out march spare two spare-month spare-adds-nothing left without-spare left-covers-spare without-spare-covers few left-room without-spare-room
 
 -- The spare terminal's book without the early entry
@@ -116,7 +117,7 @@ pub with-emptied-covers : Covers with-emptied (emptied ∷ two)
 unfolding with-emptied books
 with-emptied-covers = record { all = behind emptied; only = before emptied }
 
-pub few-first : keyCount (spare ∷ two) ≤ mostRecords version
+pub few-first : keyCount (spare ∷ two) ≤ mostKeys
 few-first = omega (arith, no-key-more march spare two spare-month spare-adds-nothing left without-spare left-covers-spare without-spare-covers, few)
 
 pub early-there : In early (callsOf spare)

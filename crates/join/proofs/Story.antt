@@ -18,9 +18,10 @@ use Rattle.call.specs.Revising.{callWithdrawn}
 use Rattle.call.specs.Service.{CallWithin}
 use Rattle.call.proofs.Exact.{sound-within}
 use Rattle.book.specs.declared.Header.{Header}
-use Rattle.book.specs.Book.{version, mostRecords, headerAt, countAt, callsOf, bookBytes}
+use Rattle.book.specs.Book.{firstVersion, mostKeys, headerAt, countAt, callsOf, bookBytes}
 use Rattle.book.specs.Check.{headerMinutes}
 use Rattle.book.specs.Sound.{Heading, Sound}
+use Rattle.book.proofs.Heads.{first-known, first-some}
 use Rattle.book.proofs.Exact.{reads-back}
 use Rattle.book.proofs.Records.{length-calls}
 use Rattle.rule.specs.Standing.{isWithdrawn}
@@ -71,16 +72,16 @@ march-heads = record { area = (lit≤ tt, lit≤ tt); year = (lit≤ tt, lit≤ 
 
 -- a book of one record is sound, and reads back
 unfoldable pub one : Call → List ℕ
-one c = bookBytes version march (c ∷ [])
+one c = bookBytes firstVersion march (c ∷ [])
 
 module _ (c : Call) (w : CallWithin (headerMinutes march) c) where
   pub one-sound : Sound (one c)
   unfolding one
-  one-sound = book-sound march (c ∷ []) march-heads (lit≤ tt) (record { within = (w, tt); rises = (omega arith, tt) })
+  one-sound = book-sound firstVersion march (c ∷ []) first-known march-heads first-some (record { within = (w, tt); rises = (omega arith, tt) })
 
   pub one-reads : (headerAt (one c) ≡ march) × (callsOf (one c) ≡ c ∷ [])
   unfolding one
-  one-reads = reads-back march (c ∷ []) march-heads (lit≤ tt) (w, tt)
+  one-reads = reads-back firstVersion march (c ∷ []) first-known march-heads first-some (w, tt)
 
 unfoldable pub plant : List ℕ
 plant = one entered
@@ -167,7 +168,7 @@ pub right-covers : Covers right three
 unfolding right books three
 right-covers = record { all = λ b i. i; only = λ b i. i }
 
-pub few : keyCount three ≤ mostRecords version
+pub few : keyCount three ≤ mostKeys
 unfolding three
 few = omega (arith, all-three)
 

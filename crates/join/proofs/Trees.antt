@@ -11,10 +11,11 @@ use lib.Seq.{take-length, take-append-seam}
 use borrow.Author.Tests.{eq-eqb, ne-eqb}
 use Rattle.call.specs.declared.Call.{Call}
 use Rattle.book.specs.declared.Header.{Header}
-use Rattle.book.specs.Book.{version, mostRecords, sizeOf, headerAt, callsOf, bookBytes}
+use Rattle.book.specs.Book.{mostRecords, mostKeys, sizeOf, versionAt, headerAt, callsOf, bookBytes}
 use Rattle.book.specs.Check.{refused, accepted, headerMinutes}
-use Rattle.book.specs.Sound.{Heading, Sound}
-use Rattle.book.proofs.Exact.{sound-accepted, reads-back, sound-reads}
+use Rattle.book.specs.Sound.{Known, Heading, Sound}
+use Rattle.book.proofs.Heads.{known-most}
+use Rattle.book.proofs.Exact.{sound-accepted, version-of, reads-back, sound-version, sound-reads, sound-known, sound-again}
 use Rattle.rule.specs.Joined.{joinCalls}
 use Rattle.rule.specs.Whole.{Tree, leaf, node, leaves, treeJoined}
 use Rattle.rule.proofs.Merging.{join-long}
@@ -22,11 +23,12 @@ use Rattle.rule.proofs.Bounds.{Calls, Sounds, tree-sound}
 use Rattle.rule.proofs.Orders.{Over}
 use Rattle.rule.proofs.Whole.{number-of-keys}
 use Rattle.pair.specs.Screening.{sameMonth, screen}
-use Rattle.join.specs.Joining.{JoinOutcome, joinRefused, joinWrote, keyCount, keysOfBoth, joinedOf, joining}
+use Rattle.join.specs.Joining.{JoinOutcome, joinRefused, joinWrote, keyCount, keysOfBoth, joinedOf, pairVersion, joining}
 use Rattle.join.specs.Trees.{Plan, book, join, books, written, joinBoth, result, AllAccepted, Room, OneMonth, Covers}
 use Rattle.pair.proofs.Screening.{screen-passes}
 use Rattle.join.proofs.WaysOut.{over-many, over-short, refuse-over, joins-both}
 use Rattle.join.proofs.Steps.{joined-length}
+use Rattle.join.proofs.Versions.{pair-known, pair-most, treeVersion}
 
 -- Sound books
 
@@ -35,11 +37,12 @@ sound-calls b s =
     let r = sound-reads b s in
     rw (r .0, r .1) (record { within = s .within; rises = s .rising })
 
-pub sound-bytes : (b : List ℕ) → Sound b → b ≡ bookBytes version (headerAt b) (callsOf b)
-sound-bytes b s = let r = sound-reads b s in s .bytes ∙ ap₂ (bookBytes version) (sym (r .0)) (sym (r .1))
+pub sound-few : (b : List ℕ) → Sound b → length (callsOf b) ≤ mostRecords (versionAt b)
+sound-few b s = rw (sound-version b s, sound-reads b s .1) (s .few)
 
-pub book-sound : (h : Header) (cs : List Call) → Heading h → length cs ≤ mostRecords version → Calls (headerMinutes h) cs → Sound (bookBytes version h cs)
-book-sound h cs g f c = record { header = h; calls = cs; heading = g; few = f; within = c .within; rising = c .rises; bytes = refl }
+pub book-sound : (v : ℕ) (h : Header) (cs : List Call) → Known v → Heading h → length cs ≤ mostRecords v → Calls (headerMinutes h) cs → Sound (bookBytes v h cs)
+book-sound v h cs k g f c =
+    record { version = v; header = h; calls = cs; known = k; heading = g; few = f; within = c .within; rising = c .rises; bytes = refl }
 
 pub same-month : (h : Header) → sameMonth h h ≡ true
 unfolding sameMonth
@@ -47,37 +50,42 @@ same-month h = simp (eq-eqb (h .year) (h .year) refl, eq-eqb (h .month) (h .mont
 
 -- The join of two sound books of one month and area
 
-module _ (h : Header) (g : Heading h) (xs ys : List Call) (fx : length xs ≤ mostRecords version) (fy : length ys ≤ mostRecords version)
+module _ (h : Header) (g : Heading h) (v w : ℕ) (kv : Known v) (kw : Known w) (xs ys : List Call) (fx : length xs ≤ mostRecords v) (fy : length ys ≤ mostRecords w)
     (cx : Calls (headerMinutes h) xs) (cy : Calls (headerMinutes h) ys) (out : List ℕ) where
-  none-refused : screen (bookBytes version h xs) (bookBytes version h ys) ≡ accepted
+  abbrev one : List ℕ
+  one = bookBytes v h xs
+
+  abbrev two : List ℕ
+  two = bookBytes w h ys
+
+  none-refused : screen one two ≡ accepted
   none-refused =
-      sym (screen-passes (bookBytes version h xs) (bookBytes version h ys) (sound-accepted _ (book-sound h xs g fx cx)) (sound-accepted _ (book-sound h ys g fy cy))
-      (ap₂ sameMonth (reads-back h xs g fx (cx .within) .0) (reads-back h ys g fy (cy .within) .0) ∙ same-month h))
+      sym (screen-passes one two (sound-accepted _ (book-sound v h xs kv g fx cx)) (sound-accepted _ (book-sound w h ys kw g fy cy))
+      (ap₂ sameMonth (reads-back v h xs kv g fx (cx .within) .0) (reads-back w h ys kw g fy (cy .within) .0) ∙ same-month h))
 
-  calls-joined : joinedOf (bookBytes version h xs) (bookBytes version h ys) ≡ joinCalls xs ys
+  calls-joined : joinedOf one two ≡ joinCalls xs ys
   unfolding joinedOf
-  calls-joined = ap₂ joinCalls (reads-back h xs g fx (cx .within) .1) (reads-back h ys g fy (cy .within) .1)
+  calls-joined = ap₂ joinCalls (reads-back v h xs kv g fx (cx .within) .1) (reads-back w h ys kw g fy (cy .within) .1)
 
-  keys-joined : keysOfBoth (bookBytes version h xs) (bookBytes version h ys) ≡ length (joinCalls xs ys)
-  keys-joined = sym (joined-length (bookBytes version h xs) (bookBytes version h ys)) ∙ ap length calls-joined
+  keys-joined : keysOfBoth one two ≡ length (joinCalls xs ys)
+  keys-joined = sym (joined-length one two) ∙ ap length calls-joined
 
-  pub book-joined : length (joinCalls xs ys) ≤ mostRecords version → sizeOf (length (joinCalls xs ys)) ≤ length out
-      → joining (bookBytes version h xs) (bookBytes version h ys) out ≡ joinWrote (bookBytes version h (joinCalls xs ys)) out
+  version-joined : pairVersion (versionAt one) (versionAt two) (keysOfBoth one two) ≡ pairVersion v w (length (joinCalls xs ys))
+  version-joined = λ i. pairVersion (version-of v h xs kv g fx i) (version-of w h ys kw g fy i) (keys-joined i)
+
+  pub book-joined : length (joinCalls xs ys) ≤ mostKeys → sizeOf (length (joinCalls xs ys)) ≤ length out
+      → joining one two out ≡ joinWrote (bookBytes (pairVersion v w (length (joinCalls xs ys))) h (joinCalls xs ys)) out
   book-joined f r =
-      sym (joins-both (bookBytes version h xs) (bookBytes version h ys) out none-refused (omega (arith, keys-joined)) (omega (arith, keys-joined)))
-      ∙ ap₂ (λ (k : Header) (zs : List Call). joinWrote (bookBytes version k zs) out) (reads-back h xs g fx (cx .within) .0) calls-joined
+      sym (joins-both one two out none-refused (omega (arith, keys-joined)) (omega (arith, keys-joined)))
+      ∙ (λ i. joinWrote (bookBytes (version-joined i) (reads-back v h xs kv g fx (cx .within) .0 i) (calls-joined i)) out)
 
-  pub book-refused : mostRecords version < length (joinCalls xs ys)
-      → joining (bookBytes version h xs) (bookBytes version h ys) out ≡ joinRefused (refused 8 0) out
-  book-refused f =
-      sym (refuse-over (bookBytes version h xs) (bookBytes version h ys) out none-refused _
-      (over-many (keysOfBoth (bookBytes version h xs) (bookBytes version h ys)) (length out) (omega (arith, keys-joined))) (λ z. omega arith))
+  pub book-refused : mostKeys < length (joinCalls xs ys) → joining one two out ≡ joinRefused (refused 8 0) out
+  book-refused f = sym (refuse-over one two out none-refused _ (over-many (keysOfBoth one two) (length out) (omega (arith, keys-joined))) (λ z. omega arith))
 
-  pub book-short : length (joinCalls xs ys) ≤ mostRecords version → length out < sizeOf (length (joinCalls xs ys))
-      → joining (bookBytes version h xs) (bookBytes version h ys) out ≡ joinRefused (refused 9 0) out
+  pub book-short : length (joinCalls xs ys) ≤ mostKeys → length out < sizeOf (length (joinCalls xs ys)) → joining one two out ≡ joinRefused (refused 9 0) out
   book-short f r =
-      sym (refuse-over (bookBytes version h xs) (bookBytes version h ys) out none-refused _
-      (over-short (keysOfBoth (bookBytes version h xs) (bookBytes version h ys)) (length out) (omega (arith, keys-joined)) (omega (arith, keys-joined))) (λ z. omega arith))
+      sym (refuse-over one two out none-refused _
+      (over-short (keysOfBoth one two) (length out) (omega (arith, keys-joined)) (omega (arith, keys-joined))) (λ z. omega arith))
 
 -- The tree over lists of calls
 
@@ -137,17 +145,31 @@ module _ (h : Header) where
   unfolding keyCount
   key-count p o = number-of-keys (headerMinutes h) (treeOf p) (map callsOf (books p)) (covers-over p (books p) (own p)) (month-sounds (books p) o)
 
+  -- its version is one that is read, and allows as many records as it has
+  pub tree-known : (p : Plan) → OneMonth h (books p) → Known (treeVersion p)
+  unfolding books treeVersion
+  tree-known (book b) o = sound-known b (o .sound b (here refl))
+  tree-known (join l r out) o = pair-known (treeVersion l) (treeVersion r) (keyCount (books l ++ books r))
+
+  pub tree-few : (p : Plan) → OneMonth h (books p) → length (treeJoined (treeOf p)) ≤ mostKeys → length (treeJoined (treeOf p)) ≤ mostRecords (treeVersion p)
+  unfolding books treeVersion treeOf treeJoined
+  tree-few (book b) o f = sound-few b (o .sound b (here refl))
+  tree-few (join l r out) o f =
+      let e = key-count (join l r out) o in
+      let most = pair-most (treeVersion l) (treeVersion r) (keyCount (books l ++ books r)) (omega arith) in
+      omega (arith, e, most)
+
   -- what a tree gives: the book of its calls, or a refusal 8
   pub record Gives (p : Plan) : Type 0 where
-    pub few : length (treeJoined (treeOf p)) ≤ mostRecords version → AllAccepted p × (result p .number ≡ 0) × (written (result p) ≡ bookBytes version h (treeJoined (treeOf p)))
-    pub many : mostRecords version < length (treeJoined (treeOf p)) → result p .number ≡ 8
+    pub few : length (treeJoined (treeOf p)) ≤ mostKeys → AllAccepted p × (result p .number ≡ 0) × (written (result p) ≡ bookBytes (treeVersion p) h (treeJoined (treeOf p)))
+    pub many : mostKeys < length (treeJoined (treeOf p)) → result p .number ≡ 8
 
   gives-book : (b : List ℕ) → Sound b → headerAt b ≡ h → Gives (book b)
-  unfolding result treeOf treeJoined
+  unfolding books result treeOf treeJoined treeVersion
   gives-book b s e =
       record {
-        few = λ f. (tt, refl, take-length b ∙ sound-bytes b s ∙ ap (λ (k : Header). bookBytes version k (callsOf b)) e);
-        many = λ f. absurd (omega (arith, s .few, ap length (sound-reads b s .1)));
+        few = λ f. (tt, refl, take-length b ∙ sound-again b s ∙ ap (λ (k : Header). bookBytes (versionAt b) k (callsOf b)) e);
+        many = λ f. absurd (omega (arith, sound-few b s, known-most (versionAt b) (sound-known b s)));
       }
 
   -- a join of two outcomes, each a book of this month and area
@@ -164,9 +186,9 @@ module _ (h : Header) where
   right-refused l r out p q = rw (eq-eqb (l .number) 0 p, ne-eqb (r .number) 0 (λ e. omega arith)) q
 
   gives-join : (l r : Plan) (out : List ℕ) → OneMonth h (books (join l r out)) → Gives l → Gives r
-      → (keyCount (books (join l r out)) ≤ mostRecords version → sizeOf (keyCount (books (join l r out))) ≤ length out) → Gives (join l r out)
-  unfolding result treeOf treeJoined
-  gives-join l r out o gl gr room = go (decLe (length xs) (mostRecords version)) (decLe (length ys) (mostRecords version))
+      → (keyCount (books (join l r out)) ≤ mostKeys → sizeOf (keyCount (books (join l r out))) ≤ length out) → Gives (join l r out)
+  unfolding books result treeOf treeJoined treeVersion
+  gives-join l r out o gl gr room = go (decLe (length xs) mostKeys) (decLe (length ys) mostKeys)
     where
       xs : List Call
       xs = treeJoined (treeOf l)
@@ -186,10 +208,22 @@ module _ (h : Header) where
       cy : Calls (headerMinutes h) ys
       cy = tree-calls r (right-month l r out o)
 
+      kl : Known (treeVersion l)
+      kl = tree-known l (left-month l r out o)
+
+      kr : Known (treeVersion r)
+      kr = tree-known r (right-month l r out o)
+
+      fx : length xs ≤ mostKeys → length xs ≤ mostRecords (treeVersion l)
+      fx = tree-few l (left-month l r out o)
+
+      fy : length ys ≤ mostKeys → length ys ≤ mostRecords (treeVersion r)
+      fy = tree-few r (right-month l r out o)
+
       long : (length xs ≤ length (joinCalls xs ys)) × (length ys ≤ length (joinCalls xs ys))
       long = join-long 0 xs ys (cx .rises) (cy .rises)
 
-      go : Dec (length xs ≤ mostRecords version) → Dec (length ys ≤ mostRecords version) → Gives (join l r out)
+      go : Dec (length xs ≤ mostKeys) → Dec (length ys ≤ mostKeys) → Gives (join l r out)
       go (no p) q =
           record {
             few = λ f. absurd (omega (arith, long));
@@ -203,17 +237,18 @@ module _ (h : Header) where
       go (yes p) (yes q) =
           let a = gl .few p in
           let b = gr .few q in
-          let at : joining (written (result l)) (written (result r)) out ≡ joining (bookBytes version h xs) (bookBytes version h ys) out =
+          let at : joining (written (result l)) (written (result r)) out ≡ joining (bookBytes (treeVersion l) h xs) (bookBytes (treeVersion r) h ys) out =
           ap₂ (λ (x y : List ℕ). joining x y out) (a .2) (b .2) in
           let two = both-accepted (result l) (result r) out (a .1) (b .1) in
           record {
             few = λ f.
-                let e = at ∙ book-joined h g xs ys p q cx cy out f (omega (arith, count, room (omega (arith, count)))) in (
+                let e = at ∙ book-joined h g (treeVersion l) (treeVersion r) kl kr xs ys (fx p) (fy q) cx cy out f (omega (arith, count, room (omega (arith, count))))
+                ∙ ap (λ (n : ℕ). joinWrote (bookBytes (pairVersion (treeVersion l) (treeVersion r) n) h (joinCalls xs ys)) out) count in (
                   (a .0, b .0, ap (λ (x : JoinOutcome). x .number) e),
                   ap (λ (x : JoinOutcome). x .number) (two ∙ e),
-                  ap written (two ∙ e) ∙ take-append-seam (bookBytes version h (joinCalls xs ys)) _,
+                  ap written (two ∙ e) ∙ take-append-seam (bookBytes (treeVersion (join l r out)) h (joinCalls xs ys)) _,
                 );
-            many = λ f. ap (λ (x : JoinOutcome). x .number) (two ∙ at ∙ book-refused h g xs ys p q cx cy out f);
+            many = λ f. ap (λ (x : JoinOutcome). x .number) (two ∙ at ∙ book-refused h g (treeVersion l) (treeVersion r) kl kr xs ys (fx p) (fy q) cx cy out f);
           }
 
   pub gives : (p : Plan) → OneMonth h (books p) → Room p → Gives p
@@ -226,13 +261,13 @@ module _ (h : Header) where
 
   -- a tree is through, with the book of its calls, or stops in 8 or 9
   pub data Ends (p : Plan) : Type 0 where
-    through : length (treeJoined (treeOf p)) ≤ mostRecords version → result p .number ≡ 0 → written (result p) ≡ bookBytes version h (treeJoined (treeOf p)) → Ends p
+    through : length (treeJoined (treeOf p)) ≤ mostKeys → result p .number ≡ 0 → written (result p) ≡ bookBytes (treeVersion p) h (treeJoined (treeOf p)) → Ends p
     stops : (result p .number ≡ 8) ⊎ (result p .number ≡ 9) → Ends p
 
   ends-book : (b : List ℕ) → Sound b → headerAt b ≡ h → Ends (book b)
-  unfolding treeOf treeJoined
+  unfolding treeOf treeJoined treeVersion
   ends-book b s e =
-      let f : length (callsOf b) ≤ mostRecords version = omega (arith, s .few, ap length (sound-reads b s .1)) in
+      let f : length (callsOf b) ≤ mostKeys = omega (arith, sound-few b s, known-most (versionAt b) (sound-known b s)) in
       let g = gives-book b s e .few f in
       through f (g .1) (g .2)
 
@@ -251,10 +286,10 @@ module _ (h : Header) where
   right-stops l r out z (inr p) = rw (eq-eqb (l .number) 0 z, ne-eqb (r .number) 0 (λ e. omega arith)) (inr p)
 
   ends-join : (l r : Plan) (out : List ℕ) → OneMonth h (books (join l r out)) → Ends l → Ends r → Ends (join l r out)
-  unfolding result treeOf treeJoined
+  unfolding books result treeOf treeJoined treeVersion
   ends-join l r out o (stops s) er = stops (left-stops (result l) (result r) out s)
   ends-join l r out o (through fx a u) (stops s) = stops (right-stops (result l) (result r) out a s)
-  ends-join l r out o (through fx a u) (through fy b v) = go (decLe (length zs) (mostRecords version)) (decLe (sizeOf (length zs)) (length out))
+  ends-join l r out o (through fx a u) (through fy b v) = go (decLe (length zs) mostKeys) (decLe (sizeOf (length zs)) (length out))
     where
       xs : List Call
       xs = treeJoined (treeOf l)
@@ -274,15 +309,31 @@ module _ (h : Header) where
       cy : Calls (headerMinutes h) ys
       cy = tree-calls r (right-month l r out o)
 
-      at : joinBoth (result l) (result r) out ≡ joining (bookBytes version h xs) (bookBytes version h ys) out
+      kl : Known (treeVersion l)
+      kl = tree-known l (left-month l r out o)
+
+      kr : Known (treeVersion r)
+      kr = tree-known r (right-month l r out o)
+
+      few-l : length xs ≤ mostRecords (treeVersion l)
+      few-l = tree-few l (left-month l r out o) fx
+
+      few-r : length ys ≤ mostRecords (treeVersion r)
+      few-r = tree-few r (right-month l r out o) fy
+
+      count : length zs ≡ keyCount (books (join l r out))
+      count = key-count (join l r out) o
+
+      at : joinBoth (result l) (result r) out ≡ joining (bookBytes (treeVersion l) h xs) (bookBytes (treeVersion r) h ys) out
       at = both-accepted (result l) (result r) out a b ∙ ap₂ (λ (x y : List ℕ). joining x y out) u v
 
-      go : Dec (length zs ≤ mostRecords version) → Dec (sizeOf (length zs) ≤ length out) → Ends (join l r out)
-      go (no f) w = stops (inl (ap (λ (x : JoinOutcome). x .number) (at ∙ book-refused h g xs ys fx fy cx cy out (omega arith))))
-      go (yes f) (no w) = stops (inr (ap (λ (x : JoinOutcome). x .number) (at ∙ book-short h g xs ys fx fy cx cy out f (omega arith))))
+      go : Dec (length zs ≤ mostKeys) → Dec (sizeOf (length zs) ≤ length out) → Ends (join l r out)
+      go (no f) w = stops (inl (ap (λ (x : JoinOutcome). x .number) (at ∙ book-refused h g (treeVersion l) (treeVersion r) kl kr xs ys few-l few-r cx cy out (omega arith))))
+      go (yes f) (no w) = stops (inr (ap (λ (x : JoinOutcome). x .number) (at ∙ book-short h g (treeVersion l) (treeVersion r) kl kr xs ys few-l few-r cx cy out f (omega arith))))
       go (yes f) (yes w) =
-          let e = at ∙ book-joined h g xs ys fx fy cx cy out f w in
-          through f (ap (λ (x : JoinOutcome). x .number) e) (ap written e ∙ take-append-seam (bookBytes version h zs) _)
+          let e = at ∙ book-joined h g (treeVersion l) (treeVersion r) kl kr xs ys few-l few-r cx cy out f w
+          ∙ ap (λ (n : ℕ). joinWrote (bookBytes (pairVersion (treeVersion l) (treeVersion r) n) h zs) out) count in
+          through f (ap (λ (x : JoinOutcome). x .number) e) (ap written e ∙ take-append-seam (bookBytes (treeVersion (join l r out)) h zs) _)
 
   pub ends : (p : Plan) → OneMonth h (books p) → Ends p
   unfolding books

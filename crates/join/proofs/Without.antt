@@ -10,23 +10,18 @@ use Rattle.call.specs.declared.Call.{Call}
 use Rattle.call.specs.Key.{callKey}
 use Rattle.call.specs.Revising.{withdrawn}
 use Rattle.book.specs.declared.Header.{Header}
-use Rattle.book.specs.Book.{version, mostRecords, headerAt, countAt, recordAt, callsOf, bookBytes}
-use Rattle.book.specs.Check.{headerMinutes}
-use Rattle.book.specs.Sound.{Heading, Sound}
+use Rattle.book.specs.Book.{mostKeys, headerAt, countAt, recordAt, callsOf}
+use Rattle.book.specs.Sound.{Sound, SaysSame}
 use Rattle.book.specs.Without.{without, bookWithout}
-use Rattle.book.proofs.Exact.{reads-back}
 use Rattle.book.proofs.Without.{without-sound, without-reads, call-place}
 use Rattle.rule.specs.Keys.{differentKeys}
 use Rattle.rule.specs.Standing.{isWithdrawn}
 use Rattle.rule.specs.Whole.{ruleCalls}
-use Rattle.rule.proofs.Bounds.{Calls}
-use Rattle.rule.proofs.Whole.{any-order as list-order, number-of-keys}
 use Rattle.rule.proofs.Without.{rule-without, fewer-keys, more-books}
 use Rattle.join.specs.Joining.{keyCount}
-use Rattle.join.specs.Trees.{Plan, book, join, books, written, result, Room, OneMonth, Covers, ruleBook}
+use Rattle.join.specs.Trees.{Plan, book, join, books, written, result, Room, OneMonth, Covers}
 use Rattle.join.specs.Without.{planWithout}
-use Rattle.join.proofs.Trees.{book-sound, treeOf, covers-over, month-sounds, heading, tree-calls}
-use Rattle.join.proofs.Orders.{any-order, stays-withdrawn}
+use Rattle.join.proofs.Orders.{result-reads, result-sound, stays-withdrawn}
 
 module _ (h : Header) (bs : List (List ℕ)) (month : OneMonth h bs) (k : ℕ) where
   -- The books without that key are sound books of the same month and area,
@@ -53,36 +48,14 @@ module _ (h : Header) (bs : List (List ℕ)) (month : OneMonth h bs) (k : ℕ) w
   unfolding keyCount
   without-few = omega (arith, ap (λ (cs : List (List Call)). length (differentKeys cs)) calls-without, fewer-keys k (map callsOf bs))
 
-  rule-book : ruleBook h (map (bookWithout k) bs) ≡ bookBytes version h (without k (ruleCalls (map callsOf bs)))
-  unfolding ruleBook
-  rule-book = ap (λ (cs : List (List Call)). bookBytes version h (ruleCalls cs)) calls-without ∙ ap (bookBytes version h) (rule-without k (map callsOf bs))
+  -- the rule over them gives the calls of other keys
+  rule-calls : ruleCalls (map callsOf (map (bookWithout k) bs)) ≡ without k (ruleCalls (map callsOf bs))
+  rule-calls = ap ruleCalls calls-without ∙ rule-without k (map callsOf bs)
 
 -- A tree that covers the books, their keys not too many
-module _ (h : Header) (bs : List (List ℕ)) (month : OneMonth h bs) (p : Plan) (covers : Covers p bs) (few : keyCount bs ≤ mostRecords version) where
-  ruled : Heading h × (length (ruleCalls (map callsOf bs)) ≤ mostRecords version) × Calls (headerMinutes h) (ruleCalls (map callsOf bs))
-  unfolding keyCount
-  ruled =
-      let o = covers-over p bs covers in
-      let s = month-sounds h bs month in
-      let e = list-order (headerMinutes h) (treeOf p) (map callsOf bs) o s in
-      let n = number-of-keys (headerMinutes h) (treeOf p) (map callsOf bs) o s in
-      let leaves : OneMonth h (books p) = record { sound = λ b i. month .sound b (covers .only b i); header = λ b i. month .header b (covers .only b i) } in
-      (heading h p leaves, omega (arith, ap length e), rw e at (tree-calls h p leaves))
-
-  -- the rule's book without a key
-  book-without : (k : ℕ) → bookWithout k (ruleBook h bs) ≡ bookBytes version h (without k (ruleCalls (map callsOf bs)))
-  unfolding bookWithout ruleBook
-  book-without k =
-      let r = reads-back h (ruleCalls (map callsOf bs)) (ruled .0) (ruled .1) (ruled .2 .within) in
-      ap₂ (λ (g : Header) (cs : List Call). bookBytes version g (without k cs)) (r .0) (r .1)
-
+module _ (h : Header) (bs : List (List ℕ)) (month : OneMonth h bs) (p : Plan) (covers : Covers p bs) (few : keyCount bs ≤ mostKeys) where
   module _ (room : Room p) where
-    -- It gives a sound book,
-    pub result-sound : Sound (written (result p))
-    unfolding ruleBook
-    result-sound = rw (any-order h bs month p covers room few .2) (book-sound h (ruleCalls (map callsOf bs)) (ruled .0) (ruled .1) (ruled .2))
-
-    -- in which a call that is withdrawn in any of the books is a withdrawn record.
+    -- A call that is withdrawn in any of the books is a withdrawn record of the result.
     pub withdrawn-place : (b : List ℕ) → In b bs → (w : Call) → In w (callsOf b) → isWithdrawn w ≡ true
         → (j : ℕ) × (j < countAt (written (result p))) × (callKey (recordAt (written (result p)) j) ≡ callKey w) × (recordAt (written (result p)) j .state ≡ withdrawn)
     withdrawn-place b i w l t =
@@ -90,13 +63,18 @@ module _ (h : Header) (bs : List (List ℕ)) (month : OneMonth h bs) (p : Plan) 
         let f = call-place (written (result p)) (r .0) (r .1) in
         (f .0, f .1, ap callKey (f .2) ∙ r .2, ap (λ (c : Call). c .state) (f .2) ∙ eqb-true _ _ (r .3))
 
--- Any tree over the books without a key gives the bytes of any tree over the books, without that key.
-pub taken-out : (h : Header) (bs : List (List ℕ)) → OneMonth h bs → keyCount bs ≤ mostRecords version → (k : ℕ)
-    → (p q : Plan) → Covers p bs → Covers q (map (bookWithout k) bs) → Room p → Room q → written (result q) ≡ bookWithout k (written (result p))
+-- Any tree over the books without a key gives the month, the area and the calls of any tree over the books, without that key.
+pub taken-out : (h : Header) (bs : List (List ℕ)) → OneMonth h bs → keyCount bs ≤ mostKeys → (k : ℕ)
+    → (p q : Plan) → Covers p bs → Covers q (map (bookWithout k) bs) → Room p → Room q → SaysSame (written (result q)) (bookWithout k (written (result p)))
 taken-out h bs month few k p q c d r s =
     let less = without-few h bs month k in
-    any-order h (map (bookWithout k) bs) (without-month h bs month k) q d s (omega arith) .2 ∙ rule-book h bs month k
-    ∙ sym (ap (bookWithout k) (any-order h bs month p c r few .2) ∙ book-without h bs month p c few k)
+    let x = result-reads h bs month p c r few in
+    let y = result-reads h (map (bookWithout k) bs) (without-month h bs month k) q d s (omega arith) in
+    let w = without-reads k (written (result p)) (result-sound h bs month p c r few) in
+    record {
+      header = y .0 ∙ sym (w .0 ∙ x .0);
+      calls = y .1 ∙ rule-calls h bs month k ∙ sym (w .1 ∙ ap (without k) (x .1));
+    }
 
 -- The same tree over the books without a key
 
@@ -120,7 +98,7 @@ part-month h bs cs f o = record { sound = λ b i. o .sound b (f b i); header = �
 
 module _ (h : Header) (k : ℕ) where
   -- has room where the tree has,
-  pub room-without : (p : Plan) → OneMonth h (books p) → keyCount (books p) ≤ mostRecords version → Room p → Room (planWithout k p)
+  pub room-without : (p : Plan) → OneMonth h (books p) → keyCount (books p) ≤ mostKeys → Room p → Room (planWithout k p)
   unfolding books planWithout
   room-without (book b) o few r = tt
   room-without (join l r out) o few s =
@@ -134,8 +112,8 @@ module _ (h : Header) (k : ℕ) where
         λ f. omega (arith, s .2 few),
       )
 
-  -- and gives the same bytes without that key.
-  pub same-tree : (p : Plan) → OneMonth h (books p) → keyCount (books p) ≤ mostRecords version → Room p → written (result (planWithout k p)) ≡ bookWithout k (written (result p))
+  -- and gives the same month, area and calls without that key.
+  pub same-tree : (p : Plan) → OneMonth h (books p) → keyCount (books p) ≤ mostKeys → Room p → SaysSame (written (result (planWithout k p))) (bookWithout k (written (result p)))
   same-tree p o few r =
       let e = books-without k p in
       taken-out h (books p) o few k p (planWithout k p) (record { all = λ b i. i; only = λ b i. i })

@@ -15,10 +15,11 @@ use Rattle.call.specs.Revising.{withdrawn, callWithdrawn}
 use Rattle.call.specs.Service.{CallWithin}
 use Rattle.call.proofs.Exact.{sound-within}
 use Rattle.book.specs.declared.Header.{Header}
-use Rattle.book.specs.Book.{version, mostRecords, headerAt, countAt, recordAt, callsOf, bookBytes}
+use Rattle.book.specs.Book.{firstVersion, mostRecords, mostKeys, headerAt, countAt, recordAt, callsOf, bookBytes}
 use Rattle.book.specs.Check.{headerMinutes}
-use Rattle.book.specs.Sound.{Heading, Sound}
+use Rattle.book.specs.Sound.{Heading, Sound, SaysSame}
 use Rattle.book.specs.Without.{bookWithout}
+use Rattle.book.proofs.Heads.{first-known, first-some}
 use Rattle.book.proofs.Exact.{reads-back}
 use Rattle.rule.specs.Keys.{put, putAll, differentKeys}
 use Rattle.rule.proofs.Bounds.{Calls}
@@ -67,18 +68,22 @@ unfolding gone first
 office-calls = record { within = (gone-within, tt); rises = (lit≤ tt, tt) }
 
 plants : List ℕ
-plants = bookBytes version march (first ∷ second ∷ [])
+plants = bookBytes firstVersion march (first ∷ second ∷ [])
 
 office : List ℕ
-office = bookBytes version march (gone ∷ [])
+office = bookBytes firstVersion march (gone ∷ [])
+
+two-fit : 2 ≤ mostRecords firstVersion
+unfolding mostRecords
+two-fit = lit≤ tt
 
 plants-read : (headerAt plants ≡ march) × (callsOf plants ≡ first ∷ second ∷ [])
 unfolding plants
-plants-read = reads-back march (first ∷ second ∷ []) march-heads (lit≤ tt) (plants-calls .within)
+plants-read = reads-back firstVersion march (first ∷ second ∷ []) first-known march-heads two-fit (plants-calls .within)
 
 office-read : (headerAt office ≡ march) × (callsOf office ≡ gone ∷ [])
 unfolding office
-office-read = reads-back march (gone ∷ []) march-heads (lit≤ tt) (office-calls .within)
+office-read = reads-back firstVersion march (gone ∷ []) first-known march-heads first-some (office-calls .within)
 
 -- both joined, into an output of 80 bytes
 output : List ℕ
@@ -101,8 +106,8 @@ one-month = rw both-books (record { sound = sound; header = header })
   where
     sound : (b : List ℕ) → In b (plants ∷ office ∷ []) → Sound b
     sound b i =
-        ⊎-elim (λ (e : b ≡ plants). rw e (book-sound march (first ∷ second ∷ []) march-heads (lit≤ tt) plants-calls))
-        (λ j. ⊎-elim (λ (e : b ≡ office). rw e (book-sound march (gone ∷ []) march-heads (lit≤ tt) office-calls)) (λ l. absurd (in-nil l)) (in-cons j)) (in-cons i)
+        ⊎-elim (λ (e : b ≡ plants). rw e (book-sound firstVersion march (first ∷ second ∷ []) first-known march-heads two-fit plants-calls))
+        (λ j. ⊎-elim (λ (e : b ≡ office). rw e (book-sound firstVersion march (gone ∷ []) first-known march-heads first-some office-calls)) (λ l. absurd (in-nil l)) (in-cons j)) (in-cons i)
 
     header : (b : List ℕ) → In b (plants ∷ office ∷ []) → headerAt b ≡ march
     header b i =
@@ -112,7 +117,7 @@ two-keys : keyCount (books both) ≡ 2
 unfolding keyCount differentKeys putAll put first second gone
 two-keys = rw (both-books, plants-read .1, office-read .1) refl
 
-pub few : keyCount (books both) ≤ mostRecords version
+pub few : keyCount (books both) ≤ mostKeys
 few = omega (arith, two-keys)
 
 pub room : Room both
@@ -127,5 +132,5 @@ stop-gone =
     (rw both-books (there (here refl))) gone (rw (office-read .1) (here refl)) refl
 
 -- and the two books without it give the joined book without it
-pub stop-taken-out : written (result (planWithout (callKey gone) both)) ≡ bookWithout (callKey gone) (written (result both))
+pub stop-taken-out : SaysSame (written (result (planWithout (callKey gone) both))) (bookWithout (callKey gone) (written (result both)))
 stop-taken-out = same-tree march (callKey gone) both one-month few room

@@ -11,9 +11,9 @@ use Rattle.le.specs.Le.{Stores}
 use Rattle.le.proofs.Laws.{whole}
 use Rattle.call.specs.declared.Call.{Call}
 use Rattle.book.specs.declared.Header.{Header}
-use Rattle.book.specs.Book.{version, sizeOf, headBytes, recordBytes, bookBytes}
+use Rattle.book.specs.Book.{sizeOf, headBytes, recordBytes, bookBytes}
 use Rattle.book.proofs.Lengths.{length-head, length-records, length-book}
-use Rattle.join.specs.Joining.{joinWrote}
+use Rattle.join.specs.Joining.{joinOutcome, joinWrote}
 
 -- bytes stored behind a front, and then the front, are stored as one run
 front-last : (xs ys l : List ℕ) → length xs + length ys ≤ length l → sets (sets l (length xs) ys) 0 xs ≡ sets l 0 (xs ++ ys)
@@ -30,26 +30,26 @@ front-last xs ys l h =
     ∙ sym (sets-eq (xs ++ ys) l 0 (omega (arith, length-append xs ys)))
 
 -- the records in the part of the output behind the header, and then a header with their number, are a book
-pub stores-book : (h : Header) (cs : List Call) (n : ℕ) (out part after : List ℕ) → n ≡ length cs → sizeOf (length cs) ≤ length out
-    → Stores (midOf 16 (length out - 16) out) 0 (recordBytes cs) part → Stores (putMid 16 (length out - 16) out part) 0 (headBytes version h n) after
-    → Stores out 0 (bookBytes version h cs) after
+pub stores-book : (v : ℕ) (h : Header) (cs : List Call) (n : ℕ) (out part after : List ℕ) → n ≡ length cs → sizeOf (length cs) ≤ length out
+    → Stores (midOf 16 (length out - 16) out) 0 (recordBytes cs) part → Stores (putMid 16 (length out - 16) out part) 0 (headBytes v h n) after
+    → Stores out 0 (bookBytes v h cs) after
 unfolding bookBytes
-stores-book h cs n out part after e room s t =
-    let head = headBytes version h (length cs) in
+stores-book v h cs n out part after e room s t =
+    let head = headBytes v h (length cs) in
     let mid = putMid 16 (length out - 16) out part in
     let behind : Stores out 16 (recordBytes cs) mid = whole 16 (length out - 16) 0 out (recordBytes cs) part (omega (arith, length-records cs)) s in
-    let long : length head ≡ 16 = length-head h (length cs) in
+    let long : length head ≡ 16 = length-head v h (length cs) in
     record {
       is =
-          t .is ∙ ap (λ (k : ℕ). sets mid 0 (headBytes version h k)) e
+          t .is ∙ ap (λ (k : ℕ). sets mid 0 (headBytes v h k)) e
           ∙ ap (λ (l : List ℕ). sets l 0 head) (behind .is ∙ ap (λ (k : ℕ). sets out k (recordBytes cs)) (sym long))
           ∙ front-last head (recordBytes cs) out (omega (arith, length-records cs));
     }
 
-pub as-written : (h : Header) (cs : List Call) (n : ℕ) (out after : List ℕ) → n ≡ length cs → sizeOf n ≤ length out → Stores out 0 (bookBytes version h cs) after
-    → record { number = 0; place = 0; size = sizeOf n; out = after } ≡ joinWrote (bookBytes version h cs) out
-as-written h cs n out after e room s =
-    let size = length-book h cs in
-    let bytes : after ≡ bookBytes version h cs ++ drop (length (bookBytes version h cs)) out =
-    s .is ∙ sets-eq (bookBytes version h cs) out 0 (omega (arith, size)) ∙ ap (λ (j : ℕ). bookBytes version h cs ++ drop j out) (zero-add (length (bookBytes version h cs))) in
-    λ i. record { number = 0; place = 0; size = (ap sizeOf e ∙ sym size) i; out = bytes i }
+pub as-written : (v : ℕ) (h : Header) (cs : List Call) (n : ℕ) (out after : List ℕ) → n ≡ length cs → sizeOf n ≤ length out → Stores out 0 (bookBytes v h cs) after
+    → joinOutcome (record { number = 0; place = 0; length = sizeOf n }) after ≡ joinWrote (bookBytes v h cs) out
+as-written v h cs n out after e room s =
+    let size = length-book v h cs in
+    let bytes : after ≡ bookBytes v h cs ++ drop (length (bookBytes v h cs)) out =
+    s .is ∙ sets-eq (bookBytes v h cs) out 0 (omega (arith, size)) ∙ ap (λ (j : ℕ). bookBytes v h cs ++ drop j out) (zero-add (length (bookBytes v h cs))) in
+    λ i. joinOutcome (record { number = 0; place = 0; length = (ap sizeOf e ∙ sym size) i }) (bytes i)

@@ -10,7 +10,7 @@ use lib.ListN.{length, take}
 use Rattle.call.specs.declared.Call.{Call}
 use Rattle.call.specs.Key.{callKey}
 use Rattle.call.specs.Service.{CallWithin}
-use Rattle.book.specs.Book.{version, mostRecords, sizeOf, headerAt, countAt, callsOf}
+use Rattle.book.specs.Book.{mostKeys, sizeOf, headerAt, countAt, callsOf}
 use Rattle.book.specs.Check.{refused, headerMinutes}
 use Rattle.book.specs.Write.{BookOutcome, writing}
 use Rattle.rule.specs.Standing.{isWithdrawn}
@@ -30,10 +30,10 @@ changing book w page out = joinWritten book (writing (headerAt book) (w ∷ []) 
 abbrev pub recordAfter : List ℕ → Call → List ℕ → List ℕ → ℕ → Option Call
 recordAfter book w page out k = recordOf k (callsOf (written (changing book w page out)))
 
--- the key is one of the book's, or the book has fewer than 512 calls, and the output has room for the calls that there are then
+-- the key is one of the book's, or the book has fewer calls than any book may have, and the output has room for the calls that there are then
 pub data Fits (book : List ℕ) (w : Call) (out : List ℕ) : Type 0 where
   had : recordOf (callKey w) (callsOf book) ≢ none → sizeOf (countAt book) ≤ length out → Fits book w out
-  new : recordOf (callKey w) (callsOf book) ≡ none → countAt book < mostRecords version → sizeOf (suc (countAt book)) ≤ length out → Fits book w out
+  new : recordOf (callKey w) (callsOf book) ≡ none → countAt book < mostKeys → sizeOf (suc (countAt book)) ≤ length out → Fits book w out
 
 -- what a change asks: a call within the limits of the month, a page for a book of one, and that it fits
 pub record Changeable (book : List ℕ) (w : Call) (page out : List ℕ) : Type 0 where

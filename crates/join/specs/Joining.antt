@@ -1,12 +1,12 @@
 -- Joining two books of bytes: the first book's refusals, the second's, 7, 8, 9, else the joined book. Assumes nothing.
-use mathlib.Core.Bool.{cond, not}
+use mathlib.Core.Bool.{cond}
 use mathlib.Core.List.{List, [], _∷_, _++_, map}
 use Prim.Native.Nat.{ℕ}
 use lib.Dec.{ltb}
 use lib.ListN.{length, drop}
 use Rattle.call.specs.declared.Call.{Call}
 use Rattle.book.specs.declared.Verdict.{Verdict}
-use Rattle.book.specs.Book.{version, mostRecords, sizeOf, headerAt, callsOf, bookBytes}
+use Rattle.book.specs.Book.{firstVersion, mostKeys, sizeOf, versionAt, headerAt, callsOf, bookBytes}
 use Rattle.book.specs.Check.{refused, accepted}
 use Rattle.rule.specs.Keys.{differentKeys}
 use Rattle.rule.specs.Joined.{joinCalls}
@@ -32,6 +32,10 @@ joinRefused v out = record { number = v .number; place = v .place; size = 0; out
 abbrev pub joinWrote : List ℕ → List ℕ → JoinOutcome
 joinWrote book out = record { number = 0; place = 0; size = length book; out = book ++ drop (length book) out }
 
+-- a lone book, which nothing was joined with
+abbrev pub lone : List ℕ → JoinOutcome
+lone book = record { number = 0; place = 0; size = length book; out = book }
+
 -- how many different keys books have
 unfoldable pub keyCount : List (List ℕ) → ℕ
 keyCount bs = length (differentKeys (map callsOf bs))
@@ -40,25 +44,34 @@ keyCount bs = length (differentKeys (map callsOf bs))
 abbrev pub keysOfBoth : List ℕ → List ℕ → ℕ
 keysOfBoth first second = keyCount (first ∷ second ∷ [])
 
--- 8: more than 512 keys; 9: an output too short for so many records
+-- 8: more keys than any book has; 9: an output too short for so many records
 unfoldable pub overflow : ℕ → ℕ → Verdict
 overflow keys room =
-    cond (ltb (mostRecords version) keys) (refused 8 0)
+    cond (ltb mostKeys keys) (refused 8 0)
     (cond (ltb room (sizeOf keys)) (refused 9 0)
     accepted)
-
--- first book, second book, 7, then 8, 9
-unfoldable pub joinFault : List ℕ → List ℕ → ℕ → Verdict
-joinFault first second room =
-    cond (not (passes (screen first second))) (screen first second)
-    (overflow (keysOfBoth first second) room)
 
 -- the calls of the joined book
 unfoldable pub joinedOf : List ℕ → List ℕ → List Call
 joinedOf first second = joinCalls (callsOf first) (callsOf second)
 
--- the joined book stands at the start of the output, and the bytes after it stay; a refusal changes nothing
+-- the version of what books of two versions give together, with so many keys: the first, and there is no other
+unfoldable pub pairVersion : ℕ → ℕ → ℕ → ℕ
+pairVersion v w keys = firstVersion
+
+abbrev pub joinedVersion : List ℕ → List ℕ → ℕ
+joinedVersion first second = pairVersion (versionAt first) (versionAt second) (keysOfBoth first second)
+
+-- the joined book
+abbrev pub joinedBook : List ℕ → List ℕ → List ℕ
+joinedBook first second = bookBytes (joinedVersion first second) (headerAt first) (joinedOf first second)
+
+-- two sound books of one month and area: 8, 9, or the joined book at the start of the output, and the bytes after it stay; a refusal changes nothing
+unfoldable pub joinSound : List ℕ → List ℕ → List ℕ → JoinOutcome
+joinSound first second out =
+    cond (passes (overflow (keysOfBoth first second) (length out))) (joinWrote (joinedBook first second) out)
+    (joinRefused (overflow (keysOfBoth first second) (length out)) out)
+
+-- any two books: the first book's refusal, the second's, 7, or what they give
 unfoldable pub joining : List ℕ → List ℕ → List ℕ → JoinOutcome
-joining first second out =
-    cond (passes (joinFault first second (length out))) (joinWrote (bookBytes version (headerAt first) (joinedOf first second)) out)
-    (joinRefused (joinFault first second (length out)) out)
+joining first second out = cond (passes (screen first second)) (joinSound first second out) (joinRefused (screen first second) out)

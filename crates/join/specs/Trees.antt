@@ -6,10 +6,10 @@ use Prim.Native.Nat.{ℕ, _≤_}
 use lib.Dec.{eqb}
 use lib.ListN.{length, take}
 use Rattle.book.specs.declared.Header.{Header}
-use Rattle.book.specs.Book.{version, mostRecords, sizeOf, headerAt, callsOf, bookBytes}
+use Rattle.book.specs.Book.{firstVersion, mostKeys, sizeOf, headerAt, callsOf, bookBytes}
 use Rattle.book.specs.Sound.{Sound}
 use Rattle.rule.specs.Whole.{ruleCalls}
-use Rattle.join.specs.Joining.{JoinOutcome, keyCount, joining}
+use Rattle.join.specs.Joining.{JoinOutcome, lone, keyCount, joining}
 
 -- a lone book, or the join of what two trees give, into an output that is lent to it
 pub data Plan : Type 0 where
@@ -31,7 +31,7 @@ joinBoth l r out = cond (eqb (l .number) 0) (cond (eqb (r .number) 0) (joining (
 
 -- what a tree gives: each node is the outcome of a join
 unfoldable pub result : Plan → JoinOutcome
-result (book b) = record { number = 0; place = 0; size = length b; out = b }
+result (book b) = lone b
 result (join l r out) = joinBoth (result l) (result r) out
 
 -- every join of a tree is accepted
@@ -42,7 +42,7 @@ AllAccepted (join l r out) = AllAccepted l × AllAccepted r × (joining (written
 -- each output holds the result, where its keys are not too many
 abbrev pub Room : Plan → Type 0
 Room (book b) = Unit {0}
-Room (join l r out) = Room l × Room r × (keyCount (books l ++ books r) ≤ mostRecords version → sizeOf (keyCount (books l ++ books r)) ≤ length out)
+Room (join l r out) = Room l × Room r × (keyCount (books l ++ books r) ≤ mostKeys → sizeOf (keyCount (books l ++ books r)) ≤ length out)
 
 -- sound books of one month and area
 pub record OneMonth (h : Header) (bs : List (List ℕ)) : Type 0 where
@@ -54,6 +54,10 @@ pub record Covers (p : Plan) (bs : List (List ℕ)) : Type 0 where
   pub all : (b : List ℕ) → In b bs → In b (books p)
   pub only : (b : List ℕ) → In b (books p) → In b bs
 
+-- the version over a whole list of books: the first, and there is no other
+unfoldable pub versionOver : List (List ℕ) → ℕ
+versionOver bs = firstVersion
+
 -- the book that the rule over the whole list gives
 unfoldable pub ruleBook : Header → List (List ℕ) → List ℕ
-ruleBook h bs = bookBytes version h (ruleCalls (map callsOf bs))
+ruleBook h bs = bookBytes (versionOver bs) h (ruleCalls (map callsOf bs))

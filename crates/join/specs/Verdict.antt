@@ -6,11 +6,11 @@ use Prim.Native.Nat.{ℕ, _+_, _≤_, _<_}
 use lib.ListN.{length}
 use Rattle.book.specs.declared.Header.{Header}
 use Rattle.book.specs.declared.Verdict.{Verdict}
-use Rattle.book.specs.Book.{version, mostRecords, sizeOf, headerAt, bookBytes}
+use Rattle.book.specs.Book.{mostKeys, sizeOf, headerAt}
 use Rattle.book.specs.Check.{refused, accepted}
 use Rattle.book.specs.Sound.{Sound}
 use Rattle.book.specs.Refusals.{Refusal}
-use Rattle.join.specs.Joining.{JoinOutcome, joinRefused, joinWrote, keysOfBoth, joinedOf}
+use Rattle.join.specs.Joining.{JoinOutcome, joinRefused, joinWrote, keysOfBoth, joinedBook}
 
 -- year, month or area differ
 abbrev pub Differ : Header → Header → Type 0
@@ -30,8 +30,8 @@ pub data JoinVerdict (first second out : List ℕ) (o : JoinOutcome) : Type 0 wh
   second-refused : (v : Verdict) → Sound first → Refusal second v → v ≢ accepted
       → o ≡ joinRefused (refused (v .number + 20) (v .place)) out → JoinVerdict first second out o
   seven : Sound first → Sound second → Differ (headerAt first) (headerAt second) → o ≡ joinRefused (refused 7 0) out → JoinVerdict first second out o
-  eight : Alike first second → mostRecords version < keysOfBoth first second → o ≡ joinRefused (refused 8 0) out → JoinVerdict first second out o
-  nine : Alike first second → keysOfBoth first second ≤ mostRecords version → length out < sizeOf (keysOfBoth first second)
+  eight : Alike first second → mostKeys < keysOfBoth first second → o ≡ joinRefused (refused 8 0) out → JoinVerdict first second out o
+  nine : Alike first second → keysOfBoth first second ≤ mostKeys → length out < sizeOf (keysOfBoth first second)
       → o ≡ joinRefused (refused 9 0) out → JoinVerdict first second out o
-  joined : Alike first second → keysOfBoth first second ≤ mostRecords version → sizeOf (keysOfBoth first second) ≤ length out
-      → o ≡ joinWrote (bookBytes version (headerAt first) (joinedOf first second)) out → JoinVerdict first second out o
+  joined : Alike first second → keysOfBoth first second ≤ mostKeys → sizeOf (keysOfBoth first second) ≤ length out
+      → o ≡ joinWrote (joinedBook first second) out → JoinVerdict first second out o

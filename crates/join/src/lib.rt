@@ -1,4 +1,5 @@
 // Joining two books: straight from two books of bytes into a third.
+use book::FIRST_VERSION;
 use book::HEADER_SIZE;
 use book::MOST_RECORDS;
 use book::Verdict;
@@ -6,6 +7,7 @@ use book::count_at;
 use book::header_at;
 use book::refused;
 use book::size_of;
+use book::version_at;
 use book::write::put_header;
 use call::RECORD_SIZE;
 use call::layout::call_at;
@@ -22,10 +24,10 @@ ghost use Prim.Native.Nat.{ℕ, _+_, _*_, _-_, _≤_};
 ghost use lib.ListN.{length};
 ghost use Rattle.le.specs.Le.{Stores};
 ghost use Rattle.call.specs.Layout.{recordSize, callAt, callBytes};
-ghost use Rattle.book.specs.Book.{version, mostRecords, sizeOf, headerAt, countAt, recordBytes, bookBytes};
+ghost use Rattle.book.specs.Book.{mostKeys, sizeOf, countAt, recordBytes};
 ghost use Rattle.rule.specs.Standing.{given};
 ghost use Rattle.pair.specs.Screening.{IsAccepted};
-ghost use Rattle.join.specs.Joining.{joinOutcome, joinRefused, keysOfBoth, overflow, joinedOf, joining};
+ghost use Rattle.join.specs.Joining.{joinOutcome, joinRefused, keysOfBoth, overflow, joinedOf, pairVersion, joinedBook, joinSound, joining};
 ghost use Rattle.join.specs.Steps.{leftOf, RecordLies, Spells, wordBytes, KeyCounted, KeyPut, Merged};
 
 // A refusal's number and place, or zeros, and the length of the joined book.
@@ -268,21 +270,27 @@ fn put_records(first: &[u8], second: &[u8], out: &mut [u8]) -> usize
     put_rest(second, j, out, k)
 }
 
+// The version of what books of two versions give together, with so many keys.
+fn pair_version(first: u16, second: u16, keys: usize) -> u16
+    ensures { λ r. ⌜ r ≡ pairVersion first second keys ⌝ }
+{
+    FIRST_VERSION
+}
+
 // The joined book: its records, and then the header, which has their number. The part of the output behind the header is lent
 // to the writer of the records. Answers with their number.
 fn put_book(first: &[u8], second: &[u8], out: &mut [u8]) -> usize
     requires { ⌜ IsAccepted (now first) ⌝ }
     requires { ⌜ IsAccepted (now second) ⌝ }
-    requires { ⌜ keysOfBoth (now first) (now second) ≤ mostRecords version ⌝ }
+    requires { ⌜ keysOfBoth (now first) (now second) ≤ mostKeys ⌝ }
     requires { ⌜ sizeOf (keysOfBoth (now first) (now second)) ≤ length (now out) ⌝ }
     ensures { λ r. ⌜ (r ≡ keysOfBoth (now (first .entry)) (now (second .entry)))
-        × Stores (now (out .entry)) 0
-        (bookBytes version (headerAt (now (first .entry))) (joinedOf (now (first .entry)) (now (second .entry))))
-        (now (out .exit)) ⌝ }
+        × Stores (now (out .entry)) 0 (joinedBook (now (first .entry)) (now (second .entry))) (now (out .exit)) ⌝ }
 {
     let keys = put_records(first, second, &mut out[HEADER_SIZE..]);
+    let version = pair_version(version_at(first), version_at(second), keys);
     let count = keys as u16;
-    put_header(out, header_at(first), count);
+    put_header(out, version, header_at(first), count);
     keys
 }
 
@@ -320,14 +328,12 @@ fn join_refused(v: Verdict) -> Joined
     }
 }
 
-// Two books joined into the output: refused by number and place, or the joined book at its start.
-pub fn join(first: &[u8], second: &[u8], out: &mut [u8]) -> Joined
-    ensures { λ r. ⌜ joinOutcome r (now (out .exit)) ≡ joining (now (first .entry)) (now (second .entry)) (now (out .entry)) ⌝ }
+// Two books that were found sound and of one month and area, joined into the output: 8, 9, or the joined book at its start.
+pub fn join_sound(first: &[u8], second: &[u8], out: &mut [u8]) -> Joined
+    requires { ⌜ IsAccepted (now first) ⌝ }
+    requires { ⌜ IsAccepted (now second) ⌝ }
+    ensures { λ r. ⌜ joinOutcome r (now (out .exit)) ≡ joinSound (now (first .entry)) (now (second .entry)) (now (out .entry)) ⌝ }
 {
-    let v = screen(first, second);
-    if v.number != 0 {
-        return join_refused(v);
-    }
     let w = overflow(first, second, out.len());
     if w.number != 0 {
         return join_refused(w);
@@ -339,4 +345,15 @@ pub fn join(first: &[u8], second: &[u8], out: &mut [u8]) -> Joined
         place: 0,
         length: size,
     }
+}
+
+// Any two books joined into the output: refused by number and place, or the joined book at its start.
+pub fn join(first: &[u8], second: &[u8], out: &mut [u8]) -> Joined
+    ensures { λ r. ⌜ joinOutcome r (now (out .exit)) ≡ joining (now (first .entry)) (now (second .entry)) (now (out .entry)) ⌝ }
+{
+    let v = screen(first, second);
+    if v.number != 0 {
+        return join_refused(v);
+    }
+    join_sound(first, second, out)
 }

@@ -7,8 +7,8 @@ use Rattle.le.specs.Le.{leAt}
 use Rattle.units.specs.Month.{isLeap, daysOf, minutesOf}
 use Rattle.call.specs.Limits.{table, limitsOf, limitsAllow, callIsSound}
 use Rattle.call.specs.Layout.{callAt}
-use Rattle.book.specs.Book.{headerAt, countAt, recordAt, callsFrom, callsOf}
-use Rattle.book.specs.Check.{isMarked, isVersioned, headerIsSound, isHeaded, headerMinutes, isRecord, judge, checkRecords, check}
+use Rattle.book.specs.Book.{mostRecords, headerAt, countAt, recordAt, callsFrom, callsOf}
+use Rattle.book.specs.Check.{isMarked, isKnown, isVersioned, headerIsSound, isHeaded, headerMinutes, isRecord, judge, checkRecords, check}
 use Rattle.rule.specs.Standing.{decide}
 use Rattle.pair.specs.Screening.{bothSound, sameMonth, screen}
 use Rattle.lookup.specs.declared.Place.the-variants.{Nowhere, InFirst, InSecond}
@@ -31,7 +31,7 @@ second =
 -- record 1 of the second book, record 0 of the first, neither
 pub places : (which first second 7 1001 ≡ InSecond 1) × (which first second 2 5 ≡ InFirst 0) × (which first second 7 1002 ≡ Nowhere)
 unfolding
-    first second screen bothSound sameMonth check checkRecords judge isRecord headerIsSound isHeaded isVersioned isMarked headerMinutes minutesOf daysOf isLeap
+    first second screen bothSound sameMonth check checkRecords judge isRecord headerIsSound isHeaded isVersioned isKnown mostRecords isMarked headerMinutes minutesOf daysOf isLeap
     headerAt countAt recordAt callAt leAt callIsSound limitsAllow limitsOf table
     which choose standsAt indexOf indexFrom callsOf callsFrom decide
 places = (refl, refl, refl)

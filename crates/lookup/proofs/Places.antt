@@ -1,10 +1,10 @@
 -- Where a key's record lies. Assumes nothing.
-use mathlib.Core.Path.{_≡_, refl, sym, _∙_, ap₂, subst}
+use mathlib.Core.Path.{_≡_, refl, sym, _∙_, ap, ap₂, subst}
 use mathlib.Core.List.{List, [], _∷_}
 use mathlib.Core.Option.{none, some}
 use Prim.Native.Nat.{ℕ, zero, suc, _+_, _-_, _<_, _≤_}
 use native.Mathlib.Decide.{ℕ-discrete}
-use native.Mathlib.Nat.{zero-add, sub-zero}
+use native.Mathlib.Nat.{zero-add, sub-zero, not-suc-le-zero}
 use native.Mathlib.Omega.{arith}
 use base.Fml.{GName}
 use lib.ListN.{length, take, drop}
@@ -18,6 +18,9 @@ use Rattle.call.specs.Layout.{recordSize}
 use Rattle.book.specs.Inner.{wordLimit}
 use Rattle.book.specs.declared.Verdict.{Verdict}
 use Rattle.book.specs.Book.{placeOf, countAt, recordAt, callsFrom, callsOf}
+use Rattle.book.specs.Sound.{Rises}
+use Rattle.book.proofs.Records.{length-calls}
+use Rattle.book.proofs.Without.{callIn, in-above, in-calls}
 use Rattle.rule.specs.declared.Decision.{Decision}
 use Rattle.rule.specs.declared.Decision.the-variants.{First, Second, Struck}
 use Rattle.rule.specs.Standing.{decide}
@@ -25,13 +28,13 @@ use Rattle.rule.specs.Keys.{recordOf}
 use Rattle.rule.proofs.Keyed.{find-hit, find-miss}
 use Rattle.pair.specs.Screening.{IsAccepted, screen}
 use Rattle.pair.proofs.Screening.{passed-screen}
-use Rattle.join.proofs.Books.{few, size}
+use Rattle.join.proofs.Books.{few, size, keys-rise}
 use Rattle.lookup.specs.declared.Index.{Index}
 use Rattle.lookup.specs.declared.Index.the-variants.{Missing, At}
 use Rattle.lookup.specs.declared.Place.{Place}
 use Rattle.lookup.specs.declared.Place.the-variants.{Nowhere, InFirst, InSecond}
 use Rattle.lookup.specs.Lookup.{indexFrom, indexOf, standsAt, choose, which, Lies, LiesAt}
-use Rattle.lookup.specs.Inner.{HasIndex}
+use Rattle.lookup.specs.Inner.{HasIndex, Parts}
 
 -- The search of a book, from record i of n on
 
@@ -58,6 +61,85 @@ at-miss b k i n l e =
 pub at-start : (b : List ℕ) (k n : ℕ) → n ≡ countAt b → leftAt b k 0 n ≡ indexOf k b
 unfolding leftAt indexOf callsOf
 at-start b k n e = rw (sub-zero n, e) refl
+
+-- Keys rise, so that a book can be searched by halving
+
+rises-at : (n : ℕ) (cs : List Call) (i j : ℕ) → Rises n cs → i < j → j < length cs → callKey (callIn cs i) < callKey (callIn cs j)
+rises-at n [] i j r l h = absurd (not-suc-le-zero h)
+rises-at n (c ∷ cs) i zero r l h = absurd (not-suc-le-zero l)
+rises-at n (c ∷ cs) zero (suc j) r l h = in-above (suc (callKey c)) cs j (r .1) (omega arith)
+rises-at n (c ∷ cs) (suc i) (suc j) r l h = rises-at (suc (callKey c)) cs i j (r .1) (omega arith) (omega arith)
+
+key-rises : (b : List ℕ) → IsAccepted b → (i j : ℕ) → i < j → j < countAt b → callKey (recordAt b i) < callKey (recordAt b j)
+unfolding callsOf
+key-rises b e i j l h =
+    let at : (m : ℕ) → m < countAt b → callIn (callsOf b) m ≡ recordAt b m = λ m g. in-calls b 0 (countAt b) m g ∙ ap (recordAt b) (zero-add m) in
+    let r = rises-at 0 (callsOf b) i j (keys-rise b e) l (omega (arith, length-calls b (countAt b) 0)) in
+    rw (at i (omega arith), at j h) at r
+
+module _ (b : List ℕ) (e : IsAccepted b) (k low high middle : ℕ) (p : Parts b k low high) (from : low ≤ middle) (to : middle < high) where
+  inside : middle < countAt b
+  inside = let h = p .ordered .1 in omega arith
+
+  -- the record in the middle is lower, and so are those before it; or it is not, and nor are those behind it
+  pub goes-up : callKey (recordAt b middle) < k → Parts b k (middle + 1) high
+  goes-up l = record { ordered = (omega arith, p .ordered .1); below = below; above = p .above }
+    where
+      below : (i : ℕ) → i < middle + 1 → callKey (recordAt b i) < k
+      below i h = go (ℕ-discrete i middle)
+        where
+          go : Dec (i ≡ middle) → callKey (recordAt b i) < k
+          go (yes q) = rw q l
+          go (no q) = let r = key-rises b e i middle (omega arith) inside in omega arith
+
+  pub goes-down : (callKey (recordAt b middle) < k → ⊥) → Parts b k low middle
+  goes-down n = record { ordered = (from, omega (arith, inside)); below = p .below; above = above }
+    where
+      above : (i : ℕ) → middle ≤ i → i < countAt b → k ≤ callKey (recordAt b i)
+      above i h l = go (ℕ-discrete i middle)
+        where
+          go : Dec (i ≡ middle) → k ≤ callKey (recordAt b i)
+          go (yes q) = rw q (omega arith)
+          go (no q) = let r = key-rises b e middle i (omega arith) l in omega arith
+
+-- records with other keys are passed over: those before a place,
+skips : (b : List ℕ) (k n i : ℕ) → i ≤ n → ((j : ℕ) → j < i → callKey (recordAt b j) < k) → leftAt b k i n ≡ leftAt b k 0 n
+skips b k n zero l f = refl
+skips b k n (suc i) l f =
+    let lower = f i (omega arith) in
+    let s : suc i ≡ i + 1 = omega arith in
+    ap (λ (j : ℕ). leftAt b k j n) s ∙ at-miss b k i n (omega arith) (λ e. omega arith) ∙ skips b k n i (omega arith) (λ j h. f j (omega arith))
+
+-- and those from a place on
+none-left : (b : List ℕ) (k n left i : ℕ) → i + left ≡ n → ((j : ℕ) → i ≤ j → j < n → k < callKey (recordAt b j)) → Missing ≡ leftAt b k i n
+none-left b k n zero i e f = at-end b k i n (omega arith)
+none-left b k n (suc left) i e f =
+    let higher = f i (omega arith) (omega arith) in
+    none-left b k n left (i + 1) (omega arith) (λ j h l. f j (omega arith) l) ∙ at-miss b k i n (omega arith) (λ q. omega arith)
+
+module _ (b : List ℕ) (e : IsAccepted b) (k i : ℕ) (p : Parts b k i i) where
+  from-lowest : leftAt b k i (countAt b) ≡ indexOf k b
+  from-lowest = skips b k (countAt b) i (p .ordered .1) (p .below) ∙ at-start b k (countAt b) refl
+
+  -- the record behind the lower ones has the key, or none has
+  pub lowest-hit : i < countAt b → callKey (recordAt b i) ≡ k → At i ≡ indexOf k b
+  lowest-hit l h = at-hit b k i (countAt b) l h ∙ from-lowest
+
+  pub lowest-other : i < countAt b → (callKey (recordAt b i) ≡ k → ⊥) → Missing ≡ indexOf k b
+  lowest-other l n = none-left b k (countAt b) (countAt b - i) i (omega arith) above ∙ from-lowest
+    where
+      own : k < callKey (recordAt b i)
+      own = let h = p .above i (omega arith) l in omega arith
+
+      above : (j : ℕ) → i ≤ j → j < countAt b → k < callKey (recordAt b j)
+      above j h l′ = go (ℕ-discrete i j)
+        where
+          go : Dec (i ≡ j) → k < callKey (recordAt b j)
+          go (yes q) = rw (sym q) own
+          go (no q) = let r = key-rises b e i j (omega arith) l′ in omega (arith, own)
+
+  pub lowest-end : countAt b ≤ i → Missing ≡ indexOf k b
+  lowest-end h = at-end b k i (countAt b) h ∙ from-lowest
 
 -- What is found: nothing, or a record of the book, as the calls have it for the key
 

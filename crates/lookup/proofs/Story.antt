@@ -19,8 +19,9 @@ use Rattle.call.specs.Revising.{callContested}
 use Rattle.call.specs.Service.{CallWithin}
 use Rattle.call.proofs.Exact.{sound-within}
 use Rattle.book.specs.declared.Verdict.{Verdict}
-use Rattle.book.specs.Book.{version, mostRecords, sizeOf, headerAt, countAt, recordAt, callsFrom, callsOf, markBytes, dateBytes, countBytes, headBytes, recordBytes, bookBytes}
-use Rattle.book.specs.Check.{isMarked, isVersioned, headerIsSound, isHeaded, headerMinutes, isRecord, judge, checkRecords, check}
+use Rattle.book.specs.Book.{mostRecords, firstVersion, mostKeys, sizeOf, headerAt, countAt, recordAt, callsFrom, callsOf, markBytes, dateBytes, countBytes, headBytes, recordBytes, bookBytes}
+use Rattle.book.specs.Check.{isMarked, isKnown, isVersioned, headerIsSound, isHeaded, headerMinutes, isRecord, judge, checkRecords, check}
+use Rattle.book.proofs.Heads.{first-known, first-some}
 use Rattle.book.proofs.Exact.{sound-accepted}
 use Rattle.rule.specs.Standing.{sameCall, decide, given, standing}
 use Rattle.rule.specs.Keys.{recordOf, put, putAll, differentKeys}
@@ -48,7 +49,7 @@ rivals = one rival
 
 -- the plant's record in a book of April
 pub april : List ℕ
-april = bookBytes version (record { area = 12; year = 2026; month = 4 }) (entered ∷ [])
+april = bookBytes firstVersion (record { area = 12; year = 2026; month = 4 }) (entered ∷ [])
 
 rival-within : CallWithin (headerMinutes march) rival
 unfolding rival stop march headerMinutes minutesOf daysOf isLeap callIsSound limitsAllow limitsOf table
@@ -108,14 +109,14 @@ live-rival = refl
 seven : screen plant april .number ≡ 7
 unfolding
     plant april one entered stop march bookBytes headBytes markBytes dateBytes countBytes recordBytes callBytes keyBytes timeBytes termBytes leBytes
-    screen bothSound sameMonth check checkRecords judge isRecord headerIsSound isHeaded isVersioned isMarked headerMinutes minutesOf daysOf isLeap
+    screen bothSound sameMonth check checkRecords judge isRecord headerIsSound isHeaded isVersioned isKnown mostRecords isMarked headerMinutes minutesOf daysOf isLeap
     headerAt countAt recordAt callAt leAt callIsSound limitsAllow limitsOf table
 seven = refl
 
 lies : which plant head-office 3 9 ≡ InSecond 0
 unfolding
     plant head-office one entered withdrawal stop march bookBytes headBytes markBytes dateBytes countBytes recordBytes callBytes keyBytes timeBytes termBytes leBytes
-    screen bothSound sameMonth check checkRecords judge isRecord headerIsSound isHeaded isVersioned isMarked headerMinutes minutesOf daysOf isLeap
+    screen bothSound sameMonth check checkRecords judge isRecord headerIsSound isHeaded isVersioned isKnown mostRecords isMarked headerMinutes minutesOf daysOf isLeap
     headerAt countAt recordAt callAt leAt callIsSound limitsAllow limitsOf table
     which choose standsAt indexOf indexFrom callsOf callsFrom decide
 lies = refl
@@ -125,7 +126,7 @@ joins : joining plant head-office output .number ≡ 0
 unfolding plant head-office one entered withdrawal stop differentKeys putAll put
 joins =
     ap (λ (o : JoinOutcome). o .number)
-    (book-joined march march-heads (entered ∷ []) (withdrawal ∷ []) (lit≤ tt) (lit≤ tt) (calls entered-within) (calls withdrawal-within) output few room)
+    (book-joined march march-heads firstVersion firstVersion first-known first-known (entered ∷ []) (withdrawal ∷ []) first-some first-some (calls entered-within) (calls withdrawal-within) output few room)
   where
     calls : {c : Call} → CallWithin (headerMinutes march) c → Calls (headerMinutes march) (c ∷ [])
     calls w = record { within = (w, tt); rises = (omega arith, tt) }
@@ -133,7 +134,7 @@ joins =
     count : length (joinCalls (entered ∷ []) (withdrawal ∷ [])) ≡ 1
     count = join-length (entered ∷ []) (withdrawal ∷ [])
 
-    few : length (joinCalls (entered ∷ []) (withdrawal ∷ [])) ≤ mostRecords version
+    few : length (joinCalls (entered ∷ []) (withdrawal ∷ [])) ≤ mostKeys
     few = omega (arith, count)
 
     room : sizeOf (length (joinCalls (entered ∷ []) (withdrawal ∷ []))) ≤ length output

@@ -13,7 +13,7 @@ ghost use Rattle.call.specs.Key.{keyOf, callKey};
 ghost use Rattle.book.specs.Book.{countAt, recordAt};
 ghost use Rattle.pair.specs.Screening.{IsAccepted};
 ghost use Rattle.lookup.specs.Lookup.{indexOf, standsAt, choose, which, Found};
-ghost use Rattle.lookup.specs.Inner.{HasIndex};
+ghost use Rattle.lookup.specs.Inner.{HasIndex, Parts};
 
 // The index of a record, where a book has it.
 pub enum Index {
@@ -46,17 +46,34 @@ fn key_at(b: &[u8], i: usize) -> u64
     key_of(participant, number)
 }
 
+// How many records of a book have a lower key, by halving: keys rise.
+fn lower_than(key: u64, b: &[u8]) -> usize
+    requires { ⌜ IsAccepted (now b) ⌝ }
+    ensures { λ r. ⌜ Parts (now (b .entry)) key r r ⌝ }
+{
+    let mut low = 0;
+    let mut high = count_at(b);
+    while low < high {
+        let middle = low + (high - low) / 2;
+        if key_at(b, middle) < key {
+            low = middle + 1;
+        } else {
+            high = middle;
+        }
+    }
+    low
+}
+
+// The index of the record with a key: that behind all lower ones, if it has it.
 pub fn index_of(key: u64, b: &[u8]) -> Index
     requires { ⌜ IsAccepted (now b) ⌝ }
     ensures { λ r. ⌜ r ≡ indexOf key (now (b .entry)) ⌝ }
 {
-    let n = count_at(b);
-    let mut i = 0;
-    while i < n {
+    let i = lower_than(key, b);
+    if i < count_at(b) {
         if key_at(b, i) == key {
             return Index::At(i);
         }
-        i += 1;
     }
     Index::Missing
 }

@@ -15,14 +15,14 @@ use Rattle.call.specs.Key.{callKey}
 use Rattle.call.specs.Service.{CallWithin}
 use Rattle.book.specs.declared.Header.{Header}
 use Rattle.book.specs.declared.Verdict.{Verdict}
-use Rattle.book.specs.Book.{version, headerAt, countAt, callsFrom, callsOf, bookBytes}
+use Rattle.book.specs.Book.{firstVersion, headerAt, countAt, callsFrom, callsOf, bookBytes}
 use Rattle.book.specs.Check.{headerMinutes}
 use Rattle.book.specs.Without.{bookWithout}
 use Rattle.book.proofs.Exact.{sound-accepted}
 use Rattle.book.proofs.Records.{length-calls}
 use Rattle.rule.specs.Keys.{recordOf, also, put, putAll, differentKeys, recordsAt}
 use Rattle.rule.specs.Whole.{recordsOf, those, highest, withdrawnAt, ruling, ruleFor, ruleOver, ruleCalls}
-use Rattle.join.specs.Trees.{Plan, books, Room, Covers, ruleBook}
+use Rattle.join.specs.Trees.{Plan, books, Room, Covers, versionOver, ruleBook}
 use Rattle.join.specs.Without.{planWithout}
 use Rattle.join.proofs.Orders.{any-order}
 use Rattle.join.proofs.Without.{books-without, room-without}
@@ -150,9 +150,9 @@ unfolding ruleCalls ruleOver ruleFor ruling recordsOf recordOf recordsAt also th
 rule-of-three x y z e f h = rw (e, f, h) refl
 
 joined-stop : ruleBook march three ≡ one withdrawal
-unfolding ruleBook one three plant head-office spare
+unfolding ruleBook versionOver one three plant head-office spare
 joined-stop =
-    ap (bookBytes version march)
+    ap (bookBytes firstVersion march)
     (rule-of-three _ _ _ (one-reads entered entered-within .1) (one-reads withdrawal withdrawal-within .1) (one-reads early early-within .1))
 
 -- Of a withdrawn stop nobody earns, of a live one its member earns 12,000,000 grains a kW

@@ -6,20 +6,23 @@ use Prim.Native.Nat.{ℕ, zero, suc, _+_, _-_, _*_, _≤_, _<_}
 use native.Mathlib.Nat.{add-zero}
 use native.Mathlib.Omega.{arith}
 use lib.IntN.{ℤ, pos, natAbs, _+ℤ_, _-ℤ_}
-use lib.ListN.{length, getD, replicate, length-map}
+use lib.ListN.{length, getD, take, drop, replicate, length-map}
 use Rattle.units.specs.declared.Grains.{Grains}
 use Rattle.units.specs.Money.{grainsToFen, grainsPlus, fenPerThousandth}
 use Rattle.book.specs.declared.Header.{Header}
-use Rattle.book.specs.Book.{version, mostRecords, headerAt, callsOf}
-use Rattle.book.specs.Sound.{Sound}
-use Rattle.book.proofs.Exact.{one-to-one}
+use Rattle.book.specs.Book.{mostKeys}
+use Rattle.book.specs.Sound.{Sound, SaysSame}
+use Rattle.book.proofs.Exact.{sound-accepted}
+use Rattle.book.proofs.Same.{same-count}
 use Rattle.join.specs.Joining.{keyCount}
 use Rattle.join.specs.Trees.{Plan, written, result, Room, OneMonth, Covers}
 use Rattle.join.proofs.Orders.{same-bytes}
 use Rattle.score.specs.declared.answer.Score.{Score}
+use Rattle.score.specs.declared.answer.Earned.{Earned}
 use Rattle.score.specs.Scoring.{grainsEarned}
 use Rattle.score.proofs.Turns.{score-is}
 use Rattle.score.proofs.Exact.{fen-once}
+use Rattle.score.proofs.ByCalls.{earned-by-calls}
 use Rattle.score.proofs.Most.{mostRamping, hours-fit}
 use Rattle.apportion.proofs.Promises.{each-one}
 use Rattle.share.specs.declared.Line.{Line}
@@ -42,8 +45,9 @@ use Rattle.month.specs.declared.Fault.the-variants.{NoFault}
 use Rattle.month.specs.declared.Ramped.{Ramped}
 use Rattle.month.specs.declared.Row.{Row}
 use Rattle.month.specs.declared.Statement.{Statement}
+use Rattle.month.specs.declared.members.MemberEarned.{MemberEarned}
 use Rattle.month.specs.declared.members.MemberEarned.the-variants.{NotScored}
-use Rattle.month.specs.Settling.{MonthGiven, earnedGrains, rowOf, noPart, rowsOf, blankRow, filledRows, settling}
+use Rattle.month.specs.Settling.{MonthGiven, noRamping, earnedWith, earnings, earnedGrains, sharedMonth, earnedMonth, rowOf, noPart, rowsOf, blankRow, filledRows, settling}
 use Rattle.month.proofs.Walking.{noGrains, length-earnings}
 use Rattle.month.specs.Outcomes.{ownSeries, scoreOfLine, rampedOfLine, earnedIn, limitedIn, linesIn, grainsIn, sharedIn, NoneLimited}
 use Rattle.month.proofs.Accepted.{rowsSettled, passed, both-at, earned-at, with-both, length-limited, length-in, settled-row, grains-at, limited-in, line-in}
@@ -274,12 +278,28 @@ row-as-before g none free i p h =
 abbrev pub withBook : MonthGiven → List ℕ → MonthGiven
 withBook g b = record { part = g .part; entries = g .entries; count = g .count; book = b; series = g .series; lengths = g .lengths; ramped = g .ramped }
 
--- A book counts by its header and its calls alone: two sound books that have them in common give one statement.
-pub book-alone : (g : MonthGiven) (b b′ : List ℕ) → Sound b → Sound b′ → headerAt b ≡ headerAt b′ → callsOf b ≡ callsOf b′
-    → settling (withBook g b) ≡ settling (withBook g b′)
-book-alone g b b′ s s′ e f = ap (λ (x : List ℕ). settling (withBook g x)) (one-to-one b b′ s s′ e f)
+-- A book counts by its header and its calls alone: two sound books that have them in common, of whatever versions, give one statement.
+module _ (b b′ : List ℕ) (s : Sound b) (s′ : Sound b′) (e : SaysSame b b′) where
+  same-earnings : (es : List Entry) (series lengths : List ℕ) (rs : List Ramped) → earnings es b series lengths rs ≡ earnings es b′ series lengths rs
+  unfolding earnings
+  same-earnings [] series lengths rs = refl
+  same-earnings (x ∷ es) series lengths rs =
+      ap₂ (λ (y : Earned) (ys : List MemberEarned). earnedWith y (getD rs 0 noRamping) ∷ ys)
+      (earned-by-calls b b′ s s′ e (x .member) (take (getD lengths 0 0) series))
+      (same-earnings es (drop (getD lengths 0 0) series) (drop 1 lengths) (drop 1 rs))
+
+  pub book-alone : (g : MonthGiven) → settling (withBook g b) ≡ settling (withBook g b′)
+  unfolding settling earnedMonth sharedMonth
+  book-alone g =
+      rw (
+        sound-accepted b s ∙ sym (sound-accepted b′ s′),
+        same-earnings (g .entries) (g .series) (g .lengths) (g .ramped),
+        e .calls,
+        e .header,
+        same-count b b′ s s′ e,
+      ) refl
 
 -- The order in which the desks' books were joined, their grouping and repetition do not show in the statement.
-pub order-same : (g : MonthGiven) (h : Header) (bs : List (List ℕ)) → OneMonth h bs → keyCount bs ≤ mostRecords version
+pub order-same : (g : MonthGiven) (h : Header) (bs : List (List ℕ)) → OneMonth h bs → keyCount bs ≤ mostKeys
     → (p q : Plan) → Covers p bs → Covers q bs → Room p → Room q → settling (withBook g (written (result p))) ≡ settling (withBook g (written (result q)))
 order-same g h bs month few p q c d r s = ap (λ (x : List ℕ). settling (withBook g x)) (same-bytes h bs month few p q c d r s)

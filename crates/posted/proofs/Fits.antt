@@ -14,7 +14,7 @@ use Rattle.units.specs.Money.{mostGrains, grainsPlus}
 use Rattle.book.specs.declared.Header.{Header}
 use Rattle.book.specs.Book.{headerAt, countAt}
 use Rattle.book.specs.Check.{accepted, check}
-use Rattle.book.proofs.Exact.{accepted-tests}
+use Rattle.book.proofs.Exact.{accepted-tests, accepted-few}
 use Rattle.book.proofs.Heads.{headed-is}
 use Rattle.share.specs.declared.Line.{Line}
 use Rattle.share.specs.Sharing.{weightOf, below, gap, sharing, mostNumber, mostEnergy, mostCompensation, mostAssessment, mostPart}
@@ -61,7 +61,7 @@ head-fits b part e k =
       area = omega (arith, h .heading .area .1);
       year = omega (arith, h .heading .year .1);
       month = omega (arith, h .heading .month .1);
-      calls = omega (arith, h .few);
+      calls = omega (arith, accepted-few b e);
       part = omega arith;
     }
 

@@ -15,9 +15,10 @@ use Rattle.call.specs.Services.{deepPeak, reserve}
 use Rattle.call.specs.Service.{CallWithin}
 use Rattle.call.proofs.Exact.{sound-within}
 use Rattle.book.specs.declared.Header.{Header}
-use Rattle.book.specs.Book.{headerAt, callsOf}
+use Rattle.book.specs.Book.{firstVersion, headerAt, callsOf}
 use Rattle.book.specs.Check.{headerMinutes}
 use Rattle.book.specs.Sound.{Heading, Sound}
+use Rattle.book.proofs.Heads.{first-known, first-some}
 use Rattle.book.proofs.Exact.{sound-accepted, reads-back}
 use Rattle.pay.specs.declared.Member.{Member}
 use Rattle.pay.specs.Sum.{total, totalZ}
@@ -62,11 +63,11 @@ low-of (p ∷ ps) h (suc i) = low-of ps (each (leb p mostOutput) (small ps ∷ [
 module _ (x : Call) (within : CallWithin (headerMinutes february) x) where
   is-sound : Sound (bookOf x)
   unfolding bookOf
-  is-sound = record { header = february; calls = x ∷ []; heading = heads; few = lit≤ tt; within = (within, tt); rising = (omega arith, tt); bytes = refl }
+  is-sound = record { version = firstVersion; header = february; calls = x ∷ []; known = first-known; heading = heads; few = first-some; within = (within, tt); rising = (omega arith, tt); bytes = refl }
 
   pub reads : (headerAt (bookOf x) ≡ february) × (callsOf (bookOf x) ≡ x ∷ [])
   unfolding bookOf
-  reads = reads-back february (x ∷ []) heads (lit≤ tt) (within, tt)
+  reads = reads-back firstVersion february (x ∷ []) first-known heads first-some (within, tt)
 
 -- of 2,688 quarter hours, each within the limit
 record Outputs (series : List ℕ) : Type 0 where

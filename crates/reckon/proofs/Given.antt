@@ -6,10 +6,9 @@ use native.Mathlib.Omega.{arith}
 use lib.ListN.{length}
 use Rattle.units.specs.Month.{quartersOf}
 use Rattle.call.specs.Revising.{withdrawn}
-use Rattle.book.specs.Book.{HasHeader, sizeOf, headerAt, countAt, recordAt}
+use Rattle.book.specs.Book.{mostKeys, HasHeader, sizeOf, headerAt, countAt, recordAt}
 use Rattle.book.specs.Check.{accepted, check, headerMinutes}
-use Rattle.book.proofs.Exact.{accepted-tests}
-use Rattle.book.proofs.Heads.{headed-is}
+use Rattle.book.proofs.Exact.{accepted-tests, accepted-few}
 use Rattle.score.specs.Inner.{RecordIsSound}
 use Rattle.score.proofs.Checked.{all-sound, spans-month}
 use Rattle.score.proofs.Turns.{state-low}
@@ -18,7 +17,7 @@ use Rattle.score.proofs.Turns.{state-low}
 pub record BookGiven (b : List ℕ) : Type 0 where
   pub long : HasHeader b
   pub size : sizeOf (countAt b) ≤ length b
-  pub few : countAt b ≤ 512
+  pub few : countAt b ≤ mostKeys
   pub states : (i : ℕ) → i < countAt b → recordAt b i .state ≤ withdrawn
 
 pub book-given : (b : List ℕ) → check b ≡ accepted → BookGiven b
@@ -27,7 +26,7 @@ book-given b h =
     record {
       long = t .long;
       size = omega (arith, t .count);
-      few = headed-is b (t .header) .few;
+      few = accepted-few b h;
       states = λ i l. state-low (headerMinutes (headerAt b)) (recordAt b i) (all-sound b h i l);
     }
 

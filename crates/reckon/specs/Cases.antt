@@ -8,7 +8,7 @@ use Rattle.call.specs.declared.Call.{Call}
 use Rattle.call.specs.Revising.{live}
 use Rattle.call.specs.Services.{deepPeak, reserve}
 use Rattle.book.specs.declared.Header.{Header}
-use Rattle.book.specs.Book.{version, bookBytes}
+use Rattle.book.specs.Book.{firstVersion, bookBytes}
 use Rattle.pay.specs.declared.Member.{Member}
 use Rattle.pay.specs.Kinds.{coal}
 use Rattle.score.specs.declared.answer.Score.{Score}
@@ -27,7 +27,7 @@ twoHours service a = record { participant = 7; service = service; state = live; 
 
 -- the book of that call
 unfoldable pub bookOf : Call → List ℕ
-bookOf x = bookBytes version february (x ∷ [])
+bookOf x = bookBytes firstVersion february (x ∷ [])
 
 -- eight outputs, and nothing from then on
 unfoldable pub seriesOf : List ℕ → List ℕ

@@ -4,7 +4,7 @@ ghost use mathlib.Core.Bool.{true};
 ghost use Prim.Native.Nat.{ℕ, _*_, _<_, _≤_};
 ghost use lib.ListN.{length};
 ghost use Rattle.call.specs.Limits.{callIsSound};
-ghost use Rattle.book.specs.Book.{HasRecord, sizeOf, recordAt};
+ghost use Rattle.book.specs.Book.{mostKeys, HasRecord, sizeOf, recordAt};
 ghost use Rattle.score.specs.Scoring.{isOwnLive};
 ghost use Rattle.score.specs.Inner.{Small, RecordIsSound};
 ghost use Rattle.reckon.specs.Inner.{OtherTurned, OthersEarned};
@@ -71,7 +71,7 @@ fn other_at(member: Member, b: &[u8], series: &[u32], i: usize) -> Other
 pub fn others_earned(member: Member, b: &[u8], series: &[u32], n: usize) -> Other
     requires { ⌜ Small member (now series) ⌝ }
     requires { ⌜ sizeOf n ≤ length (now b) ⌝ }
-    requires { ⌜ n ≤ 512 ⌝ }
+    requires { ⌜ n ≤ mostKeys ⌝ }
     requires { ⌜ ((i : ℕ) → i < n → RecordIsSound (now b) (now series) i) ⌝ }
     ensures { λ r. ⌜ OthersEarned member (recordAt (now (b .entry))) n (r .grains .0) (r .wh .0) ⌝ }
 {

@@ -2,7 +2,7 @@
 ghost use mathlib.Core.Path.{_≡_};
 ghost use Prim.Native.Nat.{_*_, _≤_};
 ghost use lib.ListN.{getD, length};
-ghost use Rattle.book.specs.Book.{sizeOf, recordAt, callsFrom};
+ghost use Rattle.book.specs.Book.{mostKeys, sizeOf, recordAt, callsFrom};
 ghost use Rattle.pay.specs.Member.{mostRated};
 ghost use Rattle.pay.specs.Sum.{total};
 ghost use Rattle.reckon.specs.Reckoning.{windowsOf, outputAt, minuteAt};
@@ -84,7 +84,7 @@ pub fn walked(
 ) -> Grains
     requires { ⌜ member .rated .0 ≤ mostRated ⌝ }
     requires { ⌜ sizeOf n ≤ length (now b) ⌝ }
-    requires { ⌜ n ≤ 512 ⌝ }
+    requires { ⌜ n ≤ mostKeys ⌝ }
     requires { ⌜ minutes ≤ 44640 ⌝ }
     ensures { λ r. ⌜ (r .0 ≡ total (minuteAt member (now (series .entry)) (windowsOf member service (callsFrom (now (b .entry)) 0 n))) 0 minutes) × (r .0 ≤ minutes * mostMinute) ⌝ }
 {

@@ -3,7 +3,7 @@ ghost use mathlib.Core.Path.{_≡_};
 ghost use mathlib.Core.Bool.{cond};
 ghost use Prim.Native.Nat.{_≤_};
 ghost use lib.ListN.{length};
-ghost use Rattle.book.specs.Book.{HasRecord, sizeOf, recordAt};
+ghost use Rattle.book.specs.Book.{mostKeys, HasRecord, sizeOf, recordAt};
 ghost use Rattle.score.specs.Scoring.{isOwnLive};
 ghost use Rattle.reckon.specs.Reckoning.{isWindow, covers};
 ghost use Rattle.reckon.specs.Inner.{Finds};
@@ -58,7 +58,7 @@ fn one_window(member: Member, service: u8, b: &[u8], i: usize) -> usize
 // The windows among the first n records. They are looked up once, so that a minute asks no other record.
 pub fn windows_of(member: Member, service: u8, b: &[u8], n: usize) -> Windows
     requires { ⌜ sizeOf n ≤ length (now b) ⌝ }
-    requires { ⌜ n ≤ 512 ⌝ }
+    requires { ⌜ n ≤ mostKeys ⌝ }
     ensures { λ r. ⌜ Finds member service (now (b .entry)) n r ⌝ }
 {
     let mut at = [0usize; MOST_RECORDS];

@@ -7,7 +7,7 @@ use Prim.Native.Nat.{ℕ, _<_}
 use native.Mathlib.Omega.{arith}
 use lib.ListN.{length}
 use Rattle.call.specs.declared.Call.{Call}
-use Rattle.book.specs.Book.{version, mostRecords}
+use Rattle.book.specs.Book.{mostKeys}
 use Rattle.rule.specs.Keys.{recordOf, differentKeys, recordsAt}
 use Rattle.rule.specs.Whole.{recordsOf, those, ruling, ruleFor, ruleOver, ruleCalls, Tree, treeJoined}
 use Rattle.rule.proofs.Keyed.{find-in, ext-find}
@@ -67,5 +67,5 @@ module _ (m : ℕ) (t : Tree) (bs : List (List Call)) (o : Over t bs) (s : Sound
   number-of-keys = ap length any-order ∙ at-length (ruleOver bs) (differentKeys bs) ruled
 
   -- more different keys than a book may have: every tree gives more
-  pub too-many : (mostRecords version) < length (differentKeys bs) → (mostRecords version) < length (treeJoined t)
+  pub too-many : mostKeys < length (differentKeys bs) → mostKeys < length (treeJoined t)
   too-many h = omega (arith, number-of-keys)

@@ -9,8 +9,9 @@ use Rattle.units.specs.Month.{quartersOf}
 use Rattle.units.specs.Money.{grainsToFen}
 use Rattle.call.specs.declared.Call.{Call}
 use Rattle.book.specs.declared.Header.{Header}
-use Rattle.book.specs.Book.{version, headerAt, countAt, recordAt, callsOf, bookBytes}
+use Rattle.book.specs.Book.{firstVersion, headerAt, countAt, recordAt, callsOf, bookBytes}
 use Rattle.book.specs.Sound.{Heading, Sound}
+use Rattle.book.proofs.Heads.{first-known, first-fits}
 use Rattle.book.proofs.Exact.{sound-accepted, reads-back}
 use Rattle.book.proofs.Records.{length-calls}
 use Rattle.pay.specs.declared.Member.{Member}
@@ -32,16 +33,16 @@ still n = replicate n 0
 
 module _ (m : Member) (line : MemberWithin m) (h : Header) (heading : Heading h) where
   abbrev pub empty : List ℕ
-  empty = bookBytes version h []
+  empty = bookBytes firstVersion h []
 
   abbrev pub quarters : ℕ
   quarters = quartersOf (h .year) (h .month)
 
   is-sound : Sound empty
-  is-sound = record { header = h; calls = []; heading = heading; few = lit≤ tt; within = tt; rising = tt; bytes = refl }
+  is-sound = record { version = firstVersion; header = h; calls = []; known = first-known; heading = heading; few = first-fits _ (lit≤ tt); within = tt; rising = tt; bytes = refl }
 
   reads : (headerAt empty ≡ h) × (callsOf empty ≡ [])
-  reads = reads-back h [] heading (lit≤ tt) tt
+  reads = reads-back firstVersion h [] first-known heading (first-fits _ (lit≤ tt)) tt
 
   none : countAt empty ≡ 0
   unfolding callsOf

@@ -5,6 +5,7 @@ pub mod Energy
 pub mod Parts
 pub mod Own
 pub mod Exact
+pub mod ByCalls
 pub mod Most
 pub mod Voltage
 pub mod Empty

@@ -12,10 +12,9 @@ use Rattle.units.proofs.Laws.{plus-sum}
 use Rattle.call.specs.declared.Call.{Call}
 use Rattle.call.specs.Limits.{callIsSound}
 use Rattle.call.specs.Services.{frequencyEvent, mostMoved}
-use Rattle.book.specs.Book.{version, mostRecords, headerAt, countAt, recordAt}
+use Rattle.book.specs.Book.{mostKeys, headerAt, countAt, recordAt}
 use Rattle.book.specs.Check.{headerMinutes}
-use Rattle.book.proofs.Exact.{accepted-tests}
-use Rattle.book.proofs.Heads.{headed-is}
+use Rattle.book.proofs.Exact.{accepted-few}
 use Rattle.book.proofs.Judged.{zero-accepted}
 use Rattle.pay.specs.declared.Member.{Member}
 use Rattle.pay.specs.Sum.{total, totalZ}
@@ -66,8 +65,8 @@ module _ (m : Member) (b series : List ℕ) (ready : Ready m b series) where
   unfolding minutes
   is-sound i l = all-sound b (ready .front .book) i l
 
-  few : countAt b ≤ mostRecords version
-  few = headed-is b (accepted-tests b (ready .front .book) .header) .few
+  few : countAt b ≤ mostKeys
+  few = accepted-few b (ready .front .book)
 
   pay-most : (i : ℕ) → i < countAt b → payAt m series (recordAt b) i ≤ mostPay
   unfolding payAt payOf

@@ -15,10 +15,11 @@ use Rattle.call.specs.Revising.{contested, withdrawn}
 use Rattle.call.specs.Service.{CallWithin}
 use Rattle.call.proofs.Exact.{sound-within}
 use Rattle.book.specs.declared.Header.{Header}
-use Rattle.book.specs.Book.{version, headerAt, countAt, recordAt, callsOf, bookBytes}
+use Rattle.book.specs.Book.{firstVersion, headerAt, countAt, recordAt, callsOf, bookBytes}
 use Rattle.book.specs.Check.{headerMinutes}
 use Rattle.book.specs.Sound.{Heading, CallsWithin, Sound}
 use Rattle.book.specs.Without.{bookWithout}
+use Rattle.book.proofs.Heads.{first-known, first-fits}
 use Rattle.book.proofs.Exact.{sound-accepted, reads-back}
 use Rattle.book.proofs.Records.{length-calls}
 use Rattle.book.proofs.Without.{callIn, in-calls}
@@ -63,16 +64,16 @@ within : CallsWithin (headerMinutes march) (stop ∷ contest ∷ [])
 within = (stop-within, (contest-within, tt))
 
 pub book : List ℕ
-book = bookBytes version march (stop ∷ contest ∷ [])
+book = bookBytes firstVersion march (stop ∷ contest ∷ [])
 
 pub is-sound : Sound book
 unfolding book stop contest blank
 is-sound =
-    record { header = march; calls = stop ∷ contest ∷ []; heading = march-heads; few = lit≤ tt; within = within; rising = (lit≤ tt, (lit≤ tt, tt)); bytes = refl }
+    record { version = firstVersion; header = march; calls = stop ∷ contest ∷ []; known = first-known; heading = march-heads; few = first-fits _ (lit≤ tt); within = within; rising = (lit≤ tt, (lit≤ tt, tt)); bytes = refl }
 
 reads : (headerAt book ≡ march) × (callsOf book ≡ stop ∷ contest ∷ [])
 unfolding book
-reads = reads-back march (stop ∷ contest ∷ []) march-heads (lit≤ tt) within
+reads = reads-back firstVersion march (stop ∷ contest ∷ []) first-known march-heads (first-fits _ (lit≤ tt)) within
 
 two : countAt book ≡ 2
 unfolding callsOf

@@ -9,9 +9,10 @@ use lib.ListN.{length, length-replicate}
 use Rattle.call.specs.declared.Call.{Call}
 use Rattle.call.specs.Key.{callKey}
 use Rattle.call.specs.Service.{CallWithin, is-withdrawn}
-use Rattle.book.specs.Book.{version, mostRecords, sizeOf, headerAt, callsOf}
+use Rattle.book.specs.Book.{firstVersion, mostRecords, mostKeys, sizeOf, headerAt, callsOf}
 use Rattle.book.specs.Check.{refused, headerMinutes}
 use Rattle.book.specs.Sound.{Heading, CallsWithin, Rises, Sound}
+use Rattle.book.proofs.Heads.{first-known, first-fits}
 use Rattle.book.proofs.Exact.{reads-back}
 use Rattle.rule.specs.Keys.{differentKeys}
 use Rattle.rule.specs.Inner.{merge}
@@ -51,7 +52,7 @@ unfolding numbered
 so-many number zero = refl
 so-many number (suc n) = ap suc (so-many (suc number) n)
 
-all-fit : (number n : ℕ) → n ≤ (mostRecords version) → length (numbered number n) ≤ (mostRecords version)
+all-fit : (number n : ℕ) → n ≤ (mostRecords firstVersion) → length (numbered number n) ≤ (mostRecords firstVersion)
 all-fit number n h = omega (arith, so-many number n)
 
 -- joined with a call of a higher number, they are one more
@@ -71,25 +72,25 @@ many-calls : Calls (headerMinutes january) manyCalls
 unfolding manyCalls
 many-calls = record { within = all-within (headerMinutes january) _ _ (lit≤ tt); rises = all-rise 0 _ _ (lit≤ tt) }
 
-many-fit : length manyCalls ≤ (mostRecords version)
+many-fit : length manyCalls ≤ (mostRecords firstVersion)
 unfolding manyCalls
-many-fit = all-fit _ _ (lit≤ tt)
+many-fit = all-fit _ _ (first-fits _ (lit≤ tt))
 
 last-calls : Calls (headerMinutes january) lastCall
 unfolding lastCall
 last-calls = record { within = (gone-within (headerMinutes january) _ (lit< tt), tt); rises = (lit≤ tt, tt) }
 
-last-fits : length lastCall ≤ (mostRecords version)
+last-fits : length lastCall ≤ (mostRecords firstVersion)
 unfolding lastCall
-last-fits = lit≤ tt
+last-fits = first-fits _ (lit≤ tt)
 
 full-reads : (headerAt full ≡ january) × (callsOf full ≡ manyCalls)
 unfolding full
-full-reads = reads-back january manyCalls heads many-fit (many-calls .within)
+full-reads = reads-back firstVersion january manyCalls first-known heads many-fit (many-calls .within)
 
 one-reads : (headerAt oneMore ≡ january) × (callsOf oneMore ≡ lastCall)
 unfolding oneMore
-one-reads = reads-back january lastCall heads last-fits (last-calls .within)
+one-reads = reads-back firstVersion january lastCall first-known heads last-fits (last-calls .within)
 
 -- what holds of both
 both : {A : Type 0} (P : A → Type 0) (x y : A) → P x → P y → (z : A) → In z (x ∷ y ∷ []) → P z
@@ -99,7 +100,7 @@ pub one-month : OneMonth january crowd
 unfolding crowd full oneMore
 one-month =
     record {
-      sound = both Sound full oneMore (book-sound january manyCalls heads many-fit many-calls) (book-sound january lastCall heads last-fits last-calls);
+      sound = both Sound full oneMore (book-sound firstVersion january manyCalls first-known heads many-fit many-calls) (book-sound firstVersion january lastCall first-known heads last-fits last-calls);
       header = both (λ (b : List ℕ). headerAt b ≡ january) full oneMore (full-reads .0) (one-reads .0);
     }
 
@@ -124,9 +125,9 @@ no-tree-through p covers = never-through january crowd one-month p covers (omega
 
 -- Two trees, with room
 
-output-long : length output ≡ sizeOf (mostRecords version)
+output-long : length output ≡ sizeOf mostKeys
 unfolding output
-output-long = length-replicate {A = ℕ} (sizeOf (mostRecords version)) 0
+output-long = length-replicate {A = ℕ} (sizeOf mostKeys) 0
 
 two-room : Room two
 unfolding two
@@ -157,4 +158,4 @@ three-stop = every-tree-stops three three-covers three-room
 -- into whatever output: the outcome that the contract of `join` states is number 8, place 0, and the output as it was
 pub join-stops : (out : List ℕ) → joining full oneMore out ≡ joinRefused (refused 8 0) out
 unfolding full oneMore
-join-stops out = book-refused january heads manyCalls lastCall many-fit last-fits many-calls last-calls out (omega (arith, all-joined))
+join-stops out = book-refused january heads firstVersion firstVersion first-known first-known manyCalls lastCall many-fit last-fits many-calls last-calls out (omega (arith, all-joined))

@@ -17,13 +17,14 @@ use Rattle.pay.specs.Live.{livePay, liveWh}
 use Rattle.score.specs.First.{firstNonzero, anyBelow}
 use Rattle.score.specs.Refusing.{overlaps, isOnce, clashes, clashAt, numberOf, refusalAt}
 use Rattle.score.specs.Scoring.{isOwnLive, payOf, whOf, payAt, whAt, monthGrains, firstRefused, recordsEarned, inFen}
+use Rattle.book.specs.Book.{mostRecords}
 use Rattle.sums.specs.Worked.{wholeMonth, rowCallAt, sameScore, outputsAreSound, callsAreSound, rowIsSound, rowScore}
 use Rattle.sums.specs.Every.{Row, Scores, outputs, rowCalls, everyServiceAndKind, bothSides, answers, allAnswer, inOrder, AnswersOverBytes}
 use Rattle.sums.proofs.Written.{row-over-bytes}
 
 pub every-service-and-kind : allAnswer everyServiceAndKind ≡ true
 unfolding
-    allAnswer answers sameScore wholeMonth rowCallAt outputsAreSound callsAreSound rowIsSound rowScore
+    allAnswer answers sameScore wholeMonth rowCallAt outputsAreSound callsAreSound mostRecords rowIsSound rowScore
     isLeap daysOf minutesOf quartersOf grainsToFen table limitsOf limitsAllow callIsSound total totalZ memberIsSound isByRate hasAvailability
     lacking deepPeakMinute coalBand coalMinute gasHydroMinute reserveMinute minutePay quarterPay quarterAt windowPay
     percentsAbove startStopRate standbyRate blackStartRate availabilityRate contributionRate eventBand eventRate avcRate rateOf ratedPay
@@ -41,7 +42,7 @@ each-once = refl
 
 pub both-sides : allAnswer bothSides ≡ true
 unfolding
-    allAnswer answers sameScore wholeMonth rowCallAt outputsAreSound callsAreSound rowIsSound rowScore
+    allAnswer answers sameScore wholeMonth rowCallAt outputsAreSound callsAreSound mostRecords rowIsSound rowScore
     isLeap daysOf minutesOf quartersOf grainsToFen table limitsOf limitsAllow callIsSound total totalZ memberIsSound isByRate hasAvailability
     lacking deepPeakMinute coalBand coalMinute gasHydroMinute reserveMinute minutePay quarterPay quarterAt windowPay
     percentsAbove startStopRate standbyRate blackStartRate availabilityRate contributionRate eventBand eventRate avcRate rateOf ratedPay

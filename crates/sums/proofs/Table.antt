@@ -21,13 +21,14 @@ use Rattle.rule.specs.Standing.{sameCall, decide, given, standing}
 use Rattle.rule.specs.Keys.{recordOf, also, put, putAll, differentKeys, recordsAt}
 use Rattle.rule.specs.Joined.{joinedAt, joinedFor, joinCalls}
 use Rattle.rule.specs.Whole.{recordsOf, those, all, highest, withdrawnAt, ruling, ruleFor, ruleOver, ruleCalls}
+use Rattle.book.specs.Book.{mostRecords}
 use Rattle.sums.specs.Worked.{Sum, Scoring, Joining, OverBytes, pays, sums}
 use Rattle.sums.specs.Worked.{wholeMonth, sameScore, sameCalls, rowCallAt, joinInTurn, outputsAreSound, callsAreSound, rowIsSound, rowScore, holds, every}
 use Rattle.sums.proofs.Written.{row-over-bytes}
 
 pub all-starred : every sums ≡ true
 unfolding
-    every holds sameScore sameCalls rowCallAt joinInTurn wholeMonth outputsAreSound callsAreSound rowIsSound rowScore
+    every holds sameScore sameCalls rowCallAt joinInTurn wholeMonth outputsAreSound callsAreSound mostRecords rowIsSound rowScore
     isLeap daysOf minutesOf quartersOf table limitsOf limitsAllow callIsSound memberIsSound
     grainsToFen total totalZ isByRate lacking deepPeakMinute coalBand coalMinute reserveMinute minutePay quarterPay quarterAt windowPay
     startStopRate blackStartRate eventBand eventRate rateOf ratedPay eventWh clamp energyPay isZero reserveOpen eventOpen isBefore blackStartOpen openTo livePay liveWh

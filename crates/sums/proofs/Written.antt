@@ -15,9 +15,10 @@ use Rattle.call.specs.Key.{callKey}
 use Rattle.call.specs.Limits.{callIsSound}
 use Rattle.call.proofs.Exact.{sound-within}
 use Rattle.book.specs.declared.Header.{Header}
-use Rattle.book.specs.Book.{version, mostRecords, headerAt, callsOf}
+use Rattle.book.specs.Book.{firstVersion, mostRecords, headerAt, callsOf}
 use Rattle.book.specs.Check.{headerMinutes}
 use Rattle.book.specs.Sound.{Heading, CallsWithin, Rises, Sound}
+use Rattle.book.proofs.Heads.{first-known}
 use Rattle.book.proofs.Exact.{sound-accepted, reads-back}
 use Rattle.pay.specs.declared.Member.{Member}
 use Rattle.pay.specs.Member.{memberIsSound}
@@ -76,24 +77,24 @@ module _ (m : Member) (outputs : List ℕ) (calls : List Call) (h : rowIsSound m
     line : memberIsSound m ≡ true
     long : length outputs ≤ quartersOf 2026 1
     small : outputsAreSound outputs ≡ true
-    few : length calls ≤ mostRecords version
+    few : length calls ≤ mostRecords firstVersion
     good : callsAreSound 0 calls ≡ true
 
   tests : Tests
   unfolding rowIsSound
   tests =
-      let t = each (memberIsSound m) (leb (length outputs) (quartersOf 2026 1) ∷ outputsAreSound outputs ∷ leb (length calls) (mostRecords version) ∷ callsAreSound 0 calls ∷ []) h in
+      let t = each (memberIsSound m) (leb (length outputs) (quartersOf 2026 1) ∷ outputsAreSound outputs ∷ leb (length calls) (mostRecords firstVersion) ∷ callsAreSound 0 calls ∷ []) h in
       record { line = t .0; long = leb-true _ _ (t .1 .0); small = t .1 .1 .0; few = leb-true _ _ (t .1 .1 .1 .0); good = t .1 .1 .1 .1 .0 }
 
   book-sound : Sound (rowBook calls)
   unfolding rowBook
   book-sound =
       let c = calls-sound 0 calls (tests .good) in
-      record { header = january; calls = calls; heading = heading; few = tests .few; within = c .0; rising = c .1; bytes = refl }
+      record { version = firstVersion; header = january; calls = calls; known = first-known; heading = heading; few = tests .few; within = c .0; rising = c .1; bytes = refl }
 
   reads : (headerAt (rowBook calls) ≡ january) × (callsOf (rowBook calls) ≡ calls)
   unfolding rowBook
-  reads = reads-back january calls heading (tests .few) (calls-sound 0 calls (tests .good) .0)
+  reads = reads-back firstVersion january calls first-known heading (tests .few) (calls-sound 0 calls (tests .good) .0)
 
   ready : Ready m (rowBook calls) (wholeMonth outputs)
   unfolding wholeMonth january

@@ -6,7 +6,7 @@ use lib.ListN.{replicate}
 use Rattle.call.specs.declared.Call.{Call}
 use Rattle.call.specs.Revising.{withdrawn}
 use Rattle.book.specs.declared.Header.{Header}
-use Rattle.book.specs.Book.{version, mostRecords, sizeOf, bookBytes}
+use Rattle.book.specs.Book.{firstVersion, mostRecords, mostKeys, sizeOf, bookBytes}
 use Rattle.join.specs.Trees.{Plan, book, join}
 
 -- January 2026, area 1
@@ -33,17 +33,17 @@ lastCall = gone 512 ∷ []
 
 -- the two books
 unfoldable pub full : List ℕ
-full = bookBytes version january manyCalls
+full = bookBytes firstVersion january manyCalls
 
 unfoldable pub oneMore : List ℕ
-oneMore = bookBytes version january lastCall
+oneMore = bookBytes firstVersion january lastCall
 
 unfoldable pub crowd : List (List ℕ)
 crowd = full ∷ oneMore ∷ []
 
 -- an output with room for every book
 unfoldable pub output : List ℕ
-output = replicate (sizeOf (mostRecords version)) 0
+output = replicate (sizeOf mostKeys) 0
 
 -- the full book and the one call; the one call and twice the full book
 unfoldable pub two : Plan

@@ -12,7 +12,7 @@ use Rattle.call.specs.Key.{callKey}
 use Rattle.call.specs.Limits.{callIsSound}
 use Rattle.call.specs.Revising.{live, callWithdrawn, callContested}
 use Rattle.call.specs.Services.{deepPeak, reserve, startStop, blackStart, frequencyEvent}
-use Rattle.book.specs.Book.{version, mostRecords, bookBytes}
+use Rattle.book.specs.Book.{firstVersion, mostRecords, bookBytes}
 use Rattle.pay.specs.declared.Member.{Member}
 use Rattle.pay.specs.declared.open.Month.{Month}
 use Rattle.pay.specs.Member.{memberIsSound}
@@ -170,7 +170,7 @@ rowIsSound m outputs calls =
     memberIsSound m
     && leb (length outputs) (quartersOf (sumsMonth .year) (sumsMonth .month))
     && outputsAreSound outputs
-    && leb (length calls) (mostRecords version)
+    && leb (length calls) (mostRecords firstVersion)
     && callsAreSound 0 calls
 
 -- the member's score by the records in turn
@@ -188,7 +188,7 @@ every (x ∷ xs) = holds x && every xs
 
 -- the book of the month with a row's calls
 unfoldable pub rowBook : List Call → List ℕ
-rowBook calls = bookBytes version january calls
+rowBook calls = bookBytes firstVersion january calls
 
 -- each sum of a member is what scoring gives of that book's bytes and the whole month's series
 abbrev pub OverBytes : List Sum → Type 0

@@ -25,18 +25,22 @@ returns c =
       (λ n. absurd (z (ap (λ (o : Opened). o .number) (sym e) ∙ n)), omega (arith, ap (λ (o : Opened). o .calls) e)),
     )
 
+version-at-requires : tie.Need-version-at-requires
+version-at-requires c κs = accepted-tests _ (is-accepted c) .long
+
 header-at-requires : tie.Need-header-at-requires
-header-at-requires c κs = accepted-tests _ (is-accepted c) .long
+header-at-requires c κs = accepted-tests _ (is-accepted (c .before)) .long
 
 count-at-requires : tie.Need-count-at-requires
-count-at-requires c κs = accepted-tests _ (is-accepted (c .before)) .long
+count-at-requires c κs = accepted-tests _ (is-accepted (c .before .before)) .long
 
 returns-2 : tie.Need-returns-2
 returns-2 c =
+    let v = c .before .before .version-at .ensures in
     let e = c .before .header-at .ensures in
     let n = c .count-at .ensures .0 in (
-      (λ i. record { number = 0; place = 0; header = e i; calls = n i }) ∙ told-sound _ (number-is (c .before .before)),
-      (λ z. is-accepted (c .before .before), omega (arith, n)),
+      (λ i. record { number = 0; place = 0; version = v i; header = e i; calls = n i }) ∙ told-sound _ (number-is (c .before .before .before)),
+      (λ z. is-accepted (c .before .before .before), omega (arith, n)),
     )
 
 pub header-of-spec : {M : Type 1} → statement M
@@ -46,6 +50,7 @@ header-of-spec =
     (λ c κs. search needs)
     (λ c κs. search needs)
     returns
+    version-at-requires
     header-at-requires
     count-at-requires
     returns-2)

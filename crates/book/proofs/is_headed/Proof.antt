@@ -12,6 +12,7 @@ returns c =
     rw (
       c .u32-at .ensures,
       c .before .most-records .ensures,
+      c .before .before .version-at .ensures,
       counted .count-at .ensures .0,
       counted .before .u8-at .ensures,
       sound .is-sound .ensures,

@@ -6,7 +6,7 @@ use Rattle.book.proofs.is_versioned.Tie as tie
 
 returns : tie.Need-returns
 unfolding isVersioned
-returns c = rw (c .version-at .ensures) refl
+returns c = rw (c .is-known .ensures, c .before .version-at .ensures) refl
 
 pub is-versioned-spec : {M : Type 1} → statement M
-is-versioned-spec = tie.close (tie.spec (λ c κs. search needs) returns)
+is-versioned-spec = tie.close (tie.spec (λ c κs. search needs) (λ c κs. search needs) returns)

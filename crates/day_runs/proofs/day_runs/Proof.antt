@@ -4,7 +4,7 @@ use Prim.Native.Nat.{ℕ, _-_, _*_, _≤_}
 use lib.ListN.{length, take}
 use lib.Seq.{length-take-le}
 use Rattle.call.specs.Services.{deepPeak, reserve}
-use Rattle.book.specs.Book.{sizeOf}
+use Rattle.book.specs.Book.{mostKeys, sizeOf}
 use Rattle.pay.proofs.Within.{line-of}
 use Rattle.reckon.proofs.Given.{BookGiven, book-given}
 use Rattle.day_runs.specs.DayRuns.{Day, placesPerDay, runsFrom, dayOf}
@@ -18,7 +18,7 @@ book : (s : tie.Start) → BookGiven (s .args .b .now)
 book s = book-given (s .args .b .now) (s .pre .1 .0)
 
 -- the records are there and few
-ready : (c : tie.After-count-at) → (sizeOf (c .count-at .result) ≤ length (c .before .before .before .args .b .now)) × (c .count-at .result ≤ 512)
+ready : (c : tie.After-count-at) → (sizeOf (c .count-at .result) ≤ length (c .before .before .before .args .b .now)) × (c .count-at .result ≤ mostKeys)
 ready c =
     let g = book (c .before .before .before) in
     let n = c .count-at .ensures .0 in

@@ -6,9 +6,8 @@ use Prim.Native.Nat.{ℕ, _≤_}
 use lib.IntN.{ℤ}
 use lib.ListN.{length}
 use Rattle.units.specs.declared.Grains.{Grains}
-use Rattle.book.specs.Book.{version, mostRecords, countAt, recordAt}
-use Rattle.book.proofs.Exact.{Accepted, accepted-tests}
-use Rattle.book.proofs.Heads.{headed-is}
+use Rattle.book.specs.Book.{mostKeys, countAt, recordAt}
+use Rattle.book.proofs.Exact.{Accepted, accepted-tests, accepted-few}
 use Rattle.pay.specs.Event.{energyPay}
 use Rattle.pay.specs.Sum.{totalZ}
 use Rattle.score.specs.Scoring.{whAt}
@@ -47,8 +46,8 @@ ready s = accepted-ready (s .args .member) (s .args .book .now) (s .args .series
 tested : (s : tie.Start) → Accepted (s .args .book .now)
 tested s = accepted-tests (s .args .book .now) (ready s .front .book)
 
-few : (s : tie.Start) → countAt (s .args .book .now) ≤ mostRecords version
-few s = headed-is (s .args .book .now) (tested s .header) .few
+few : (s : tie.Start) → countAt (s .args .book .now) ≤ mostKeys
+few s = accepted-few (s .args .book .now) (ready s .front .book)
 
 count-at-requires : tie.Need-count-at-requires
 count-at-requires c κs = tested (c .before .before) .long

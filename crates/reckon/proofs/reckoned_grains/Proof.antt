@@ -5,7 +5,7 @@ use lib.ListN.{length}
 use Rattle.units.specs.Month.{minutesOf}
 use Rattle.units.proofs.Laws.{minutes-most}
 use Rattle.book.specs.declared.Header.{Header}
-use Rattle.book.specs.Book.{sizeOf, callsOf}
+use Rattle.book.specs.Book.{mostKeys, sizeOf, callsOf}
 use Rattle.pay.specs.Member.{mostRated}
 use Rattle.pay.proofs.Within.{line-of}
 use Rattle.reckon.specs.Reckoning.{walked, reckonedGrains}
@@ -19,7 +19,7 @@ book s = book-given (s .args .b .now) (s .pre .1 .0)
 
 -- the records are there and few, and so are the minutes
 ready : (c : tie.After-minutes-of) → (c .before .before .before .before .before .args .member .rated .0 ≤ mostRated)
-    × ((sizeOf (c .before .count-at .result) ≤ length (c .before .before .before .before .before .args .b .now)) × ((c .before .count-at .result ≤ 512) × (c .minutes-of .result ≤ 44640)))
+    × ((sizeOf (c .before .count-at .result) ≤ length (c .before .before .before .before .before .args .b .now)) × ((c .before .count-at .result ≤ mostKeys) × (c .minutes-of .result ≤ 44640)))
 ready c =
     let s = c .before .before .before .before .before in
     let g = book s in

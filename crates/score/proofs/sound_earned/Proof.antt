@@ -1,6 +1,5 @@
-use Rattle.book.specs.Book.{version, mostRecords, countAt, recordAt}
-use Rattle.book.proofs.Exact.{Accepted, accepted-tests}
-use Rattle.book.proofs.Heads.{headed-is}
+use Rattle.book.specs.Book.{mostKeys, countAt, recordAt}
+use Rattle.book.proofs.Exact.{Accepted, accepted-tests, accepted-few}
 use native.Mathlib.Omega.{arith}
 use mathlib.Core.Path.{_≡_, sym, _∙_, ap}
 use Prim.Native.Nat.{_≤_}
@@ -29,8 +28,8 @@ no-fault c = sym (ap (λ (v : Verdict). v .number) (fault-is (c .before))) ∙ c
 tested : (c : tie.Start) → Accepted (c .args .b .now)
 tested c = accepted-tests (c .args .b .now) (c .pre .1)
 
-few : (c : tie.Start) → countAt (c .args .b .now) ≤ (mostRecords version)
-few c = headed-is (c .args .b .now) (tested c .header) .few
+few : (c : tie.Start) → countAt (c .args .b .now) ≤ mostKeys
+few c = accepted-few (c .args .b .now) (c .pre .1)
 
 header-at-requires : tie.Need-header-at-requires
 header-at-requires c κs = tested (c .before .before) .long

@@ -1,5 +1,6 @@
 use mathlib.Core.Path.{ap}
 use lib.ListN.{replicate}
+use Rattle.book.specs.Book.{mostKeys}
 use Rattle.explain.specs.declared.CallPart.{CallPart}
 use Rattle.explain.specs.Explaining.{filledUp}
 use borrow.Author.Needs.{needs}
@@ -8,7 +9,7 @@ use Rattle.explain.proofs.parts.blank_parts.Tie as tie
 
 returns : tie.Need-returns
 unfolding filledUp
-returns c = ap (λ (p : CallPart). replicate 512 p) (c .blank-part .ensures)
+returns c = ap (λ (p : CallPart). replicate mostKeys p) (c .blank-part .ensures)
 
 pub blank-parts-spec : {M : Type 1} → statement M
 blank-parts-spec = tie.close (tie.spec (λ c κs. search needs) returns)

@@ -3,7 +3,7 @@ use mathlib.Core.Path.{_≡_, sym, _∙_, ap}
 use Prim.Native.Nat.{_+_, _-_, _*_, _<_, _≤_}
 use lib.ListN.{length}
 use lib.Signed.{mag}
-use Rattle.book.specs.Book.{recordAt}
+use Rattle.book.specs.Book.{mostKeys, recordAt}
 use Rattle.pay.specs.Sum.{totalZ}
 use Rattle.pay.specs.Inner.{mostWh}
 use Rattle.pay.proofs.Sums.{totalZ-none, totalZ-step}
@@ -41,7 +41,7 @@ room c =
     let a = c .before .before .before .before .before .args in
     omega (arith, before-few (a .member) (a .b .now) (a .series .now) (c .before .loop .i), c .before .loop .inv .1)
 
-few : (c : tie.In-loop Inv-loop μ-loop) → c .before .loop .i < 512
+few : (c : tie.In-loop Inv-loop μ-loop) → c .before .loop .i < mostKeys
 few c = omega arith
 
 part-turn-requires : tie.Need-part-turn-requires Inv-loop μ-loop

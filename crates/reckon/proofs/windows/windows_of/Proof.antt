@@ -2,7 +2,7 @@ use native.Mathlib.Omega.{arith}
 use mathlib.Core.Path.{_≡_, refl, sym, _∙_, ap}
 use Prim.Native.Nat.{_+_, _-_, _≤_, _<_}
 use lib.ListN.{length, take, set, length-set, length-take}
-use Rattle.book.specs.Book.{recordAt}
+use Rattle.book.specs.Book.{mostKeys, recordAt}
 use Rattle.reckon.specs.Inner.{placesOf}
 use Rattle.reckon.proofs.Places.{places-none, places-few, next-place, found-one}
 use Rattle.reckon.proofs.windows.windows_of.Statement.{statement}
@@ -13,7 +13,7 @@ Inv-loop member service b n at₀ count₀ i₀ at count i =
     (i ≤ n)
     × (take count at ≡ placesOf member service (recordAt b) i)
     × (count ≡ length (placesOf member service (recordAt b) i))
-    × (length at ≡ 512)
+    × (length at ≡ mostKeys)
 
 abbrev μ-loop : tie.MeasureT-loop
 μ-loop member service b n at₀ count₀ i₀ at count i = n - i
@@ -25,7 +25,7 @@ loop-holds c =
     (omega arith, sym e, sym (ap length e), refl)
 
 -- there is room for one place more
-room : (c : tie.In-loop Inv-loop μ-loop) → (c .before .loop .count ≤ c .before .loop .i) × (c .before .loop .i < 512)
+room : (c : tie.In-loop Inv-loop μ-loop) → (c .before .loop .count ≤ c .before .loop .i) × (c .before .loop .i < mostKeys)
 room c =
     let a = c .before .before .before .args in
     (omega (arith, places-few (a .member) (a .service) (a .b .now) (c .before .loop .i)), omega arith)
