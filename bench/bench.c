@@ -4,6 +4,7 @@
  *     bench --table COUNTS TIMES   prints the table: instructions as bench/count-instructions prints them, times of several such runs (TIMES may be -)
  *     bench --calls SIDE ROW N     only makes N calls of one row, SIDE 0 the archive, 1 the reference; for bench/count-instructions
  *     bench --names                the names of the rows, a line each
+ *     bench --inputs               how many inputs each row has, a line each
  *
  * Before anything is timed, both sides must give the same answer on every row, and where a row has several inputs on each of them. */
 #define _DEFAULT_SOURCE
@@ -17,16 +18,18 @@
 struct side {
     uint32_t (*check)(const uint8_t *, size_t, uint64_t *);
     uint32_t (*join)(const uint8_t *, size_t, const uint8_t *, size_t, uint8_t *, size_t, uint64_t *, uint64_t *);
+    uint32_t (*find)(const uint8_t *, size_t, const uint8_t *, size_t, uint16_t, uint32_t, uint64_t *);
     uint32_t (*score)(uint16_t, uint8_t, uint32_t, const uint8_t *, size_t, const uint32_t *, size_t, uint64_t *, uint64_t *, uint64_t *);
     uint32_t (*share)(uint32_t, const uint8_t *, size_t, uint8_t *, size_t, uint64_t *, int64_t *);
     uint32_t (*ramp)(uint16_t, uint8_t, uint32_t, const uint8_t *, size_t, uint64_t *, uint64_t *);
 };
-static const struct side sides[2] = {{nwb_check, nwb_join, nwb_score, nwb_share, nwb_ramp}, {ref_check, ref_join, ref_score, ref_share, ref_ramp}};
+static const struct side sides[2] = {{nwb_check, nwb_join, nwb_find, nwb_score, nwb_share, nwb_ramp}, {ref_check, ref_join, ref_find, ref_score, ref_share, ref_ramp}};
 
 /* ---- inputs ---- */
 
 struct book { uint8_t bytes[BOOK_MOST]; size_t len; };
-static struct book full, full_revised, full_bad, even, odd, most, single, window, events;
+static struct book full, full_revised, full_bad, even, odd, most, single, window, events, stops;
+static struct book full_2, revised_2, bad_2, even_2, odd_2, most_2, single_2, events_2, stops_2; /* the same of version 2, of 2,000 records */
 static uint32_t series[2976];
 static uint8_t lines[64 * 24], equal_lines[64 * 24], actions[60 * 24];
 
@@ -107,17 +110,18 @@ static void build_random(uint32_t turns)
     }
 }
 
-static void build(void)
+/* Call i of a book of 2,000: 32 to a participant. */
+static struct call large(uint32_t i)
 {
-    static struct call calls[512];
-    for (uint32_t i = 0; i < 512; i++)
-        calls[i] = mixed(i);
-    full.len = put_book(full.bytes, 7, 2025, 1, calls, 512);
-    most.len = put_book(most.bytes, 7, 2025, 1, calls, 511);
-    single.len = put_book(single.bytes, 7, 2025, 1, calls + 511, 1);
+    struct call c = mixed(i);
+    c.participant = (uint16_t)(1 + i / 32);
+    return c;
+}
 
-    /* The same keys: equal, revised, withdrawn and contested with in turn. */
-    for (uint32_t i = 0; i < 512; i++) {
+/* The same keys: equal, revised, withdrawn and contested with in turn. */
+static void revise(struct call *calls, uint32_t n)
+{
+    for (uint32_t i = 0; i < n; i++) {
         if (i % 4 == 1)
             calls[i].revision = 4;
         if (i % 4 == 2)
@@ -125,22 +129,72 @@ static void build(void)
         if (i % 4 == 3)
             calls[i] = (struct call){calls[i].participant, 5, 0, i, 3, 0, 0, 0, 0, 0};
     }
-    full_revised.len = full_bad.len = put_book(full_revised.bytes, 7, 2025, 1, calls, 512);
-    memcpy(full_bad.bytes, full_revised.bytes, full_bad.len);
-    full_bad.bytes[full_bad.len - 1] = 1;
+}
 
+static void put(struct book *b, uint32_t version, const struct call *calls, uint32_t n) { b->len = put_book_of(version, b->bytes, 7, 2025, 1, calls, n); }
+
+/* The same book, and a fault in its last byte. */
+static void put_bad(struct book *b, uint32_t version, const struct call *calls, uint32_t n)
+{
+    put(b, version, calls, n);
+    b->bytes[b->len - 1] = 1;
+}
+
+/* Events of one member; and its start-stops, which meet, in the order of time. */
+static void put_events(struct book *b, uint32_t version, struct call *calls, uint32_t n)
+{
+    for (uint32_t i = 0; i < n; i++)
+        calls[i] = (struct call){1, 8, 0, i, 1, (uint16_t)i, 1, (int32_t)i * 1000 - 200000, 300000, i % 16 == 0};
+    put(b, version, calls, n);
+}
+
+static void put_stops(struct book *b, uint32_t version, struct call *calls, uint32_t n)
+{
+    uint32_t minutes = 44640 / n;
+    for (uint32_t i = 0; i < n; i++)
+        calls[i] = (struct call){1, 3, 0, i, 1, (uint16_t)(i * minutes), (uint16_t)minutes, 0, 0, 0};
+    put(b, version, calls, n);
+}
+
+static void build(void)
+{
+    static struct call calls[MOST_2];
+    for (uint32_t i = 0; i < 512; i++)
+        calls[i] = mixed(i);
+    put(&full, 1, calls, 512);
+    put(&most, 1, calls, 511);
+    put(&single, 1, calls + 511, 1);
+    revise(calls, 512);
+    put(&full_revised, 1, calls, 512);
+    put_bad(&full_bad, 1, calls, 512);
     for (uint32_t i = 0; i < 256; i++)
         calls[i] = mixed(2 * i);
-    even.len = put_book(even.bytes, 7, 2025, 1, calls, 256);
+    put(&even, 1, calls, 256);
     for (uint32_t i = 0; i < 256; i++)
         calls[i] = mixed(2 * i + 1);
-    odd.len = put_book(odd.bytes, 7, 2025, 1, calls, 256);
+    put(&odd, 1, calls, 256);
+    put_events(&events, 1, calls, 512);
+    put_stops(&stops, 1, calls, 512);
+
+    for (uint32_t i = 0; i < 2000; i++)
+        calls[i] = large(i);
+    put(&full_2, 2, calls, 2000);
+    put(&most_2, 2, calls, 1999);
+    put(&single_2, 2, calls + 1999, 1);
+    revise(calls, 2000);
+    put(&revised_2, 2, calls, 2000);
+    put_bad(&bad_2, 2, calls, 2000);
+    for (uint32_t i = 0; i < 1000; i++)
+        calls[i] = large(2 * i);
+    put(&even_2, 2, calls, 1000);
+    for (uint32_t i = 0; i < 1000; i++)
+        calls[i] = large(2 * i + 1);
+    put(&odd_2, 2, calls, 1000);
+    put_events(&events_2, 2, calls, 2000);
+    put_stops(&stops_2, 2, calls, 2000);
 
     calls[0] = (struct call){1, 1, 0, 1, 1, 0, 44640, 0, 0, 0};
-    window.len = put_book(window.bytes, 7, 2025, 1, calls, 1);
-    for (uint32_t i = 0; i < 512; i++)
-        calls[i] = (struct call){1, 8, 0, i, 1, (uint16_t)i, 1, (int32_t)i * 1000 - 200000, 300000, i % 16 == 0};
-    events.len = put_book(events.bytes, 7, 2025, 1, calls, 512);
+    put(&window, 1, calls, 1);
     for (uint32_t i = 0; i < 2976; i++) { /* a day's curve, below half of 300,001 by night and above by day */
         uint32_t quarter = i % 96, up = quarter < 48 ? quarter : 96 - quarter;
         series[i] = 90000 + 3000 * up + i * 7919 % 1000;
@@ -164,9 +218,26 @@ static void build(void)
 
 /* ---- rows ---- */
 
+/* With room for a full book of version 1, or of version 2: so that 512 + 512 keys have to be counted beforehand, as 2,000 + 2,000 have. */
 static uint32_t join(const struct side *s, const struct book *x, const struct book *y)
 {
-    return s->join(x->bytes, x->len, y->bytes, y->len, out, sizeof out, &place, &length);
+    return s->join(x->bytes, x->len, y->bytes, y->len, out, BOOK_MOST_1, &place, &length);
+}
+static uint32_t join_2(const struct side *s, const struct book *x, const struct book *y)
+{
+    return s->join(x->bytes, x->len, y->bytes, y->len, out, BOOK_MOST, &place, &length);
+}
+
+/* One key of a book that is lent twice. */
+static uint32_t find(const struct side *s, const struct book *b, uint16_t participant, uint32_t number)
+{
+    return s->find(b->bytes, b->len, b->bytes, b->len, participant, number, &place);
+}
+
+/* The coal unit of participant 1. */
+static uint32_t score(const struct side *s, const struct book *b)
+{
+    return s->score(1, 1, 300001, b->bytes, b->len, series, 2976, &place, &grains, &fen);
 }
 
 static uint32_t share(const struct side *s, uint32_t part, const uint8_t *l) { return s->share(part, l, 64 * 24, out, sizeof out, &place, &gap); }
@@ -177,20 +248,12 @@ static uint32_t join_one(const struct side *s, uint32_t t) { (void)t; return joi
 static uint32_t join_refused(const struct side *s, uint32_t t) { (void)t; return join(s, &full, &full_bad); }
 static uint32_t join_random(const struct side *s, uint32_t t)
 {
-    return s->join(random_first[t], FEW_BYTES, random_second[t], FEW_BYTES, out, sizeof out, &place, &length);
+    return s->join(random_first[t], FEW_BYTES, random_second[t], FEW_BYTES, out, BOOK_MOST_1, &place, &length);
 }
 static uint32_t check_full(const struct side *s, uint32_t t) { (void)t; return s->check(full.bytes, full.len, &place); }
 static uint32_t check_random(const struct side *s, uint32_t t) { return s->check(random_books[t], FEW_BYTES, &place); }
-static uint32_t score_window(const struct side *s, uint32_t t)
-{
-    (void)t;
-    return s->score(1, 1, 300001, window.bytes, window.len, series, 2976, &place, &grains, &fen);
-}
-static uint32_t score_events(const struct side *s, uint32_t t)
-{
-    (void)t;
-    return s->score(1, 1, 300001, events.bytes, events.len, series, 2976, &place, &grains, &fen);
-}
+static uint32_t score_window(const struct side *s, uint32_t t) { (void)t; return score(s, &window); }
+static uint32_t score_events(const struct side *s, uint32_t t) { (void)t; return score(s, &events); }
 static uint32_t share_full(const struct side *s, uint32_t t) { (void)t; return share(s, 10000, lines); }
 static uint32_t share_third(const struct side *s, uint32_t t) { (void)t; return share(s, 3333, lines); }
 static uint32_t share_equal(const struct side *s, uint32_t t) { (void)t; return share(s, 10000, equal_lines); }
@@ -198,6 +261,19 @@ static uint32_t share_random(const struct side *s, uint32_t t) { return share(s,
 static uint32_t share_random_equal(const struct side *s, uint32_t t) { return share(s, 10000, random_equal[t]); }
 
 static uint32_t ramp_full(const struct side *s, uint32_t t) { (void)t; return s->ramp(1, 1, 300001, actions, sizeof actions, &place, &grains); }
+
+static uint32_t join_equal_2(const struct side *s, uint32_t t) { (void)t; return join_2(s, &full_2, &revised_2); }
+static uint32_t join_disjoint_2(const struct side *s, uint32_t t) { (void)t; return join_2(s, &even_2, &odd_2); }
+static uint32_t join_one_2(const struct side *s, uint32_t t) { (void)t; return join_2(s, &most_2, &single_2); }
+static uint32_t join_refused_2(const struct side *s, uint32_t t) { (void)t; return join_2(s, &full_2, &bad_2); }
+static uint32_t check_full_2(const struct side *s, uint32_t t) { (void)t; return s->check(full_2.bytes, full_2.len, &place); }
+static uint32_t find_first(const struct side *s, uint32_t t) { (void)t; return find(s, &full, 1, 0); }
+static uint32_t find_last(const struct side *s, uint32_t t) { (void)t; return find(s, &full, 64, 511); }
+static uint32_t find_first_2(const struct side *s, uint32_t t) { (void)t; return find(s, &full_2, 1, 0); }
+static uint32_t find_last_2(const struct side *s, uint32_t t) { (void)t; return find(s, &full_2, 63, 1999); }
+static uint32_t score_events_2(const struct side *s, uint32_t t) { (void)t; return score(s, &events_2); }
+static uint32_t score_stops(const struct side *s, uint32_t t) { (void)t; return score(s, &stops); }
+static uint32_t score_stops_2(const struct side *s, uint32_t t) { (void)t; return score(s, &stops_2); }
 
 static const struct { const char *name; uint32_t (*call)(const struct side *, uint32_t turn); uint32_t no, turns; } rows[] = {
     {"join, 512 + 512 equal keys", join_equal, 0, 1},
@@ -215,6 +291,18 @@ static const struct { const char *name; uint32_t (*call)(const struct side *, ui
     {"share, 64 lines of one energy", share_equal, 0, 1},
     {"share, one energy, 1,024 in turn", share_random_equal, 0, TURNS},
     {"ramp, 60 actions", ramp_full, 0, 1},
+    {"join, 2,000 + 2,000 equal keys", join_equal_2, 0, 1},
+    {"join, 1,000 + 1,000, interleaved", join_disjoint_2, 0, 1},
+    {"join, 1,999 + 1", join_one_2, 0, 1},
+    {"join, 2,000, refused at the last one", join_refused_2, 25, 1},
+    {"check, 2,000 records", check_full_2, 0, 1},
+    {"find, 512 + 512 equal keys, the first", find_first, 1, 1},
+    {"find, 512 + 512 equal keys, the last", find_last, 1, 1},
+    {"find, 2,000 + 2,000, the first", find_first_2, 1, 1},
+    {"find, 2,000 + 2,000, the last", find_last_2, 1, 1},
+    {"score, 2,000 events", score_events_2, 0, 1},
+    {"score, 512 start-stops in order", score_stops, 0, 1},
+    {"score, 2,000 start-stops in order", score_stops_2, 0, 1},
 };
 enum { ROWS = sizeof rows / sizeof *rows };
 
@@ -396,6 +484,11 @@ int main(int argc, char **argv)
             printf("%s\n", rows[r].name);
         return 0;
     }
+    if (argc == 2 && strcmp(argv[1], "--inputs") == 0) {
+        for (int r = 0; r < ROWS; r++)
+            printf("%u\n", (unsigned)rows[r].turns);
+        return 0;
+    }
     if (argc == 5 && strcmp(argv[1], "--calls") == 0)
         return only_calls(atoi(argv[2]), atoi(argv[3]), atol(argv[4]));
     if (argc == 4 && strcmp(argv[1], "--table") == 0) {
@@ -403,7 +496,7 @@ int main(int argc, char **argv)
         return 0;
     }
     if (argc != 1) {
-        fprintf(stderr, "usage: bench | --table COUNTS TIMES | --calls SIDE ROW N | --names\n");
+        fprintf(stderr, "usage: bench | --table COUNTS TIMES | --calls SIDE ROW N | --names | --inputs\n");
         return 1;
     }
     build();

@@ -5,7 +5,10 @@
  * Reads the books OWN and MONTH and writes the joined book to RESULT, a third file: MONTH itself is never in danger. RESULT is written under
  * the name RESULT.new, brought down to the device, and then renamed, so that there is the whole of it or what was there before; RESULT.new
  * is made by this run alone, and where another run has made it, this one fails. Every failure is one line on standard error and status 1,
- * and then RESULT is as it was. */
+ * and then RESULT is as it was.
+ *
+ * Both versions of a book are read. RESULT is of version 2 where one of the books is, or where it has more than 512 records; the line that
+ * says what was written then says so, as a tool built with an earlier edition of nwb.h does not read it. */
 #define _POSIX_C_SOURCE 200809L
 #include "nwb.h"
 
@@ -18,21 +21,20 @@
 #include <sys/stat.h>
 #include <unistd.h>
 
-/* The longest sound book, and one byte more, so that a longer file is seen to be longer. */
-enum { BOOK_MOST = 16 + 32 * 512 };
-static uint8_t own[BOOK_MOST + 1], month[BOOK_MOST + 1], joined[BOOK_MOST];
+/* The longest book of either version, and one byte more, so that a longer file is seen to be longer. */
+static uint8_t own[NWB_MOST_BOOK + 1], month[NWB_MOST_BOOK + 1], joined[NWB_MOST_BOOK];
 
 static const char *meaning(uint32_t number)
 {
     switch (number) {
     case 1: return "length is not what the count says";
     case 2: return "no call book";
-    case 3: return "version is not 1";
+    case 3: return "version is neither 1 nor 2";
     case 4: return "header field out of range";
     case 5: return "record field out of range";
     case 6: return "key not above the one before";
     case 7: return "year, month or area differ";
-    case 8: return "more than 512 keys";
+    case 8: return "more than 2000 keys";
     default: return "output too short";
     }
 }
@@ -44,7 +46,7 @@ static int read_book(const char *path, uint8_t *book, size_t *len)
         perror(path);
         return 0;
     }
-    *len = fread(book, 1, BOOK_MOST + 1, f);
+    *len = fread(book, 1, NWB_MOST_BOOK + 1, f);
     int failed = ferror(f);
     fclose(f);
     if (failed)
@@ -148,6 +150,6 @@ int main(int argc, char **argv)
     }
     if (!write_book(argv[3], joined, (size_t)length))
         return 1;
-    printf("%s: %" PRIu64 " records\n", argv[3], (length - 16) / 32);
+    printf("%s: %" PRIu64 " records%s\n", argv[3], (length - 16) / 32, joined[4] == 2 ? ", version 2" : "");
     return 0;
 }

@@ -1,5 +1,9 @@
-/* nwb.h: call books, pay and sharing for the plants' own tools. Nine functions. nwb_share takes the generator part and gives the
- * user's amount besides: a tool built with an earlier header must be built anew. The other eight are as they were.
+/* nwb.h: call books, pay and sharing for the plants' own tools. Nine functions.
+ *
+ * Editions of this header (NWB_EDITION), the latest last:
+ *  1  the base.
+ *  2  nwb_share takes the generator part and gives the user's amount besides: a tool built with edition 1 must be built anew.
+ *  3  books of version 2, of up to 2,000 records. No signature is changed; "Two versions", below, says what a caller has to know.
  *
  * What holds for every function:
  *
@@ -16,6 +20,15 @@
  *
  * The refusal numbers, when each comes and what its place counts, are the table of docs/FORMAT.md, "Refusal numbers";
  * the order in which a function asks them is said at the function.
+ *
+ * Two versions. A book is of version 1, up to 512 records, or of version 2, up to 2,000; header and records lie alike. Every
+ * function that reads books takes both, also one of each. What is new to a caller of edition 2:
+ *
+ *  - nwb_join may give a version 2 book: where one of the two books is of version 2, and where the result has more than 512 keys.
+ *    A tool of edition 1 or 2 answers such a book with 3. nwb_none and nwb_one write version 1.
+ *  - 8 comes above 2,000 keys, no longer above 512. Who lends room for 16,400 bytes, the longest book of before, and was told 8 at
+ *    the 513th key, is told 9 now: room for any joined book is NWB_MOST_BOOK bytes.
+ *  - A buffer that a book is read into has to hold NWB_MOST_BOOK bytes too.
  */
 #ifndef NWB_H
 #define NWB_H
@@ -23,19 +36,27 @@
 #include <stddef.h>
 #include <stdint.h>
 
+#define NWB_EDITION 3
+
+/* The most records of a version 1 book, and of a version 2 book; the longest book of either version in bytes, 16 + 32 * 2,000. */
+#define NWB_MOST_RECORDS_1 512
+#define NWB_MOST_RECORDS_2 2000
+#define NWB_MOST_BOOK 64016
+
 #ifdef __cplusplus
 extern "C" {
 #endif
 
-/* Checks one book. In this order: 1 (under 16 bytes), 2, 3, 4, 1 (length not as count says), then record by record 5, 6.
+/* Checks one book. In this order: 1 (under 16 bytes), 2, 3 (a version other than 1 and 2), 4 (a count above its version's limit, or
+ * another header field), 1 (length not as count says), then record by record 5, 6.
  * The place of 5 and 6 is the record, else 0. Nothing but the cell is written. */
 uint32_t nwb_check(const uint8_t *book, size_t book_len, uint64_t *place);
 
-/* Writes a book of none from header values, 16 bytes. In this order: 4, 9; the place is 0.
+/* Writes a book of none from header values, 16 bytes, of version 1. In this order: 4, 9; the place is 0.
  * `length` is 16, or 0 on a refusal. Bytes of `out` after the book stay; on a refusal all of them do. */
 uint32_t nwb_none(uint8_t area, uint16_t year, uint8_t month, uint8_t *out, size_t out_len, uint64_t *place, uint64_t *length);
 
-/* Writes a book of one from header values and a record, 48 bytes. In this order: 4, 5, 9; the place is 0.
+/* Writes a book of one from header values and a record, 48 bytes, of version 1. In this order: 4, 5, 9; the place is 0.
  * `minutes` is the record's length field. A contested or withdrawn record has service, start, minutes, a, b and c all zero.
  * `length` is 48, or 0 on a refusal. Bytes of `out` after the book stay; on a refusal all of them do. */
 uint32_t nwb_one(uint8_t area, uint16_t year, uint8_t month,
@@ -46,8 +67,10 @@ uint32_t nwb_one(uint8_t area, uint16_t year, uint8_t month,
 /* Joins two books into `out`. A key in one book only keeps its record. In both: withdrawn beats live and contested whatever the
  * revisions; of two withdrawn the higher revision stands. Otherwise the higher revision stands. At equal revision, equal records
  * stay; unequal ones become contested at that revision.
+ * The joined book is of version 1 exactly where both books are and it has at most 512 keys, otherwise of version 2.
  * In this order: 1 to 6 for the first book as nwb_check has them, 21 to 26 for the second (its place counts in the second book),
- * 7, 8, 9. `length` is the joined book's, 16 + 32 for each different key, or 0 on a refusal.
+ * 7 (year, month or area differ; the version is not asked), 8 (more than 2,000 keys, whatever the versions), 9.
+ * `length` is the joined book's, 16 + 32 for each different key, or 0 on a refusal.
  * Bytes of `out` after the book stay; on a refusal all of them do. `out` must not overlap either book. */
 uint32_t nwb_join(const uint8_t *first, size_t first_len, const uint8_t *second, size_t second_len,
                   uint8_t *out, size_t out_len, uint64_t *place, uint64_t *length);

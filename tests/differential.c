@@ -5,7 +5,10 @@
  *
  * Every case draws from its own generator, made from the seed and the case's number alone: `differential SEED 1 NUMBER` repeats one.
  * The archive works between guard pages and canaries (memory-and-books.h), with garbage in its cells. Number, cells and the lent buffer with what
- * lies around it are compared byte for byte, and its inputs must be unchanged. The first difference is printed whole. */
+ * lies around it are compared byte for byte, and its inputs must be unchanged. The first difference is printed whole.
+ *
+ * With NWB_VERSIONS=1 in the environment only what the first edition knew is drawn: no book of version 2, damaged ones included, and no join of more than
+ * 512 keys. A library from before version 2 answers these alike. */
 #define _DEFAULT_SOURCE
 #include "memory-and-books.h"
 #include "nwb.h"
@@ -48,6 +51,7 @@ static uint32_t within(uint32_t most)
 enum function { CHECK, NONE, ONE, JOIN, FIND, SCORE, SHARE, RAMP, FEN, FUNCTIONS };
 static const char *const names[] = {"check", "none", "one", "join", "find", "score", "share", "ramp", "fen"};
 
+static uint32_t versions = 2; /* books of versions 1 to this */
 static uint64_t seed, case_no, cases, differences;
 static uint64_t reached[FUNCTIONS][32];
 
@@ -396,15 +400,24 @@ static void draw_state_and_content(struct call *c, uint32_t minutes)
         draw_content(c, (uint8_t)(1 + below(10)), minutes);
 }
 
+/* Mostly few; about a version's limit now and then, and for version 2 seldom, as such a case takes as long as a hundred others. */
 static size_t draw_count(void)
 {
-    uint32_t dice = below(100);
-    return dice < 60 ? below(5) : dice < 90 ? below(20) : dice < 98 ? below(100) : percent(50) ? below(513) : 512 - below(3);
+    uint32_t dice = below(1000);
+    if (dice >= 996 && versions == 2)
+        return percent(50) ? 1998 + below(5) : 513 + below(1500);
+    return dice < 600 ? below(5) : dice < 900 ? below(20) : dice < 984 ? below(100) : percent(50) ? below(513) : versions == 2 ? 510 + below(6) : 512 - below(3);
+}
+
+/* A book of so many records is of either version where both may have them, and now and then of version 1 where that may not. */
+static uint32_t draw_version(size_t records)
+{
+    return versions == 1 || percent(records <= MOST_1 ? 60 : 10) ? 1 : 2;
 }
 
 /* A pool of rising keys with up to three sound records for each, often equal or nearly so: books drawn from one pool meet at every
  * turn of the joining rule. */
-enum { POOL_MOST = 520, VARIANTS = 3 };
+enum { POOL_MOST = 2400, POOL_DRAWN = 520, VARIANTS = 3 };
 static struct { struct heading h; size_t keys; uint8_t records[POOL_MOST][VARIANTS][32]; } pool;
 
 static int record_sound(const uint8_t *record)
@@ -450,11 +463,17 @@ static void draw_pool(size_t keys)
     c.participant = (uint16_t)(1 + below(3));
     c.number = percent(70) ? below(4) : (uint32_t)(next() >> 33);
     for (size_t i = 0; i < keys; i++) {
-        draw_state_and_content(&c, pool.h.minutes);
-        c.revision = draw_revision();
-        put_call(pool.records[i][0], &c);
-        for (int v = 1; v < VARIANTS; v++)
-            draw_variant(pool.records[i][v], pool.records[i][below((uint32_t)v)], c);
+        if (i < POOL_DRAWN) {
+            draw_state_and_content(&c, pool.h.minutes);
+            c.revision = draw_revision();
+            put_call(pool.records[i][0], &c);
+            for (int v = 1; v < VARIANTS; v++)
+                draw_variant(pool.records[i][v], pool.records[i][below((uint32_t)v)], c);
+        } else { /* an earlier key's records again, since drawing is what takes long */
+            memcpy(pool.records[i], pool.records[i - POOL_DRAWN], sizeof pool.records[i]);
+            for (int v = 0; v < VARIANTS; v++)
+                put_bytes(pool.records[i][v], c.participant, 2), put_bytes(pool.records[i][v] + 4, c.number, 4);
+        }
         if (c.participant < 64 && (c.number == UINT32_MAX || below((uint32_t)keys + 8) < 8)) {
             c.participant = (uint16_t)(c.participant + 1 + below(c.participant < 60 ? 3 : 1));
             c.number = PICK(0, 1, 7, 255, 256, 0x7fffffff);
@@ -470,6 +489,9 @@ static void draw_pool(size_t keys)
 
 static size_t begin_book(uint8_t *book) { return put_book(book, pool.h.area, pool.h.year, pool.h.month, NULL, 0); }
 
+/* The version once the records are there. */
+static void end_book(uint8_t *book, size_t len) { book[4] = (uint8_t)draw_version((len - 16) / 32); }
+
 static void add_record(uint8_t *book, size_t *len, const uint8_t *record)
 {
     memcpy(book + *len, record, 32);
@@ -477,15 +499,19 @@ static void add_record(uint8_t *book, size_t *len, const uint8_t *record)
     put_bytes(book + 10, (*len - 16) / 32, 2);
 }
 
-/* A book of about `share` percent of the pool's keys, never above 512. */
-static size_t draw_book(uint8_t *book, uint32_t share)
+/* A book of about `share` percent of the pool's keys, at most so many. */
+static size_t draw_book_of(uint8_t *book, uint32_t share, size_t most)
 {
     size_t len = begin_book(book);
-    for (size_t i = 0; i < pool.keys && len < BOOK_MOST; i++)
+    for (size_t i = 0; i < pool.keys && len < 16 + 32 * most; i++)
         if (percent(share))
             add_record(book, &len, pool.records[i][below(VARIANTS)]);
+    end_book(book, len);
     return len;
 }
+
+/* It may have more than its version allows. */
+static size_t draw_book(uint8_t *book, uint32_t share) { return draw_book_of(book, share, MOST_2 + 2); }
 
 static uint32_t draw_share(void) { return PICK(100, 90, 70, 50, 50, 30, 10); }
 
@@ -524,12 +550,12 @@ static size_t damage_once(uint8_t *b, size_t len)
         case 0: b[3] = (uint8_t)PICK(0, 1, 99, 100, 255); break;
         case 1: put_bytes(b + 6, PICK(2023, 2024, 2099, 2100, 0, 65535), 2); break;
         case 2: b[8] = (uint8_t)PICK(0, 1, 2, 12, 13, 255); break;
-        case 3: b[4 + below(2)] = (uint8_t)PICK(0, 1, 2, 255); break;
+        case 3: b[4 + below(2)] = (uint8_t)PICK(0, 1, 2, 3, 255); break;
         }
         break;
     case 5: /* a lying count */
         if (len >= 16)
-            put_bytes(b + 10, PICK((uint32_t)n + 1, (uint32_t)n - 1, 0, 512, 513, 514, 65535, 256 * (uint32_t)n), 2);
+            put_bytes(b + 10, PICK((uint32_t)n + 1, (uint32_t)n - 1, 0, 512, 513, 2000, 2001, 65535, 256 * (uint32_t)n), 2);
         break;
     case 6: /* cut off */
         len = percent(50) ? below((uint32_t)len + 1) : len - below((uint32_t)(len < 40 ? len : 40));
@@ -573,6 +599,8 @@ static size_t damage(uint8_t *b, size_t len)
     uint32_t dice = below(10);
     for (int times = dice < 6 ? 1 : dice < 9 ? 2 : 3; times > 0; times--)
         len = damage_once(b, len);
+    if (versions == 1 && len >= 6 && get_bytes(b + 4, 2) == 2)
+        b[4] = 3;
     return len;
 }
 
@@ -638,7 +666,9 @@ static void join_with_room(size_t len1, size_t len2)
     static uint8_t out[BOOK_MOST];
     uint64_t place, length;
     uint32_t no = ref_join(book1, len1, book2, len2, out, sizeof out, &place, &length);
-    both_join(book1, len1, book2, len2, no == 0 ? room_for(length) : percent(50) ? 0 : below(2000));
+    if (versions == 1 && (no == 8 || length > BOOK_MOST_1))
+        return;
+    both_join(book1, len1, book2, len2, no == 0 ? room_for(length) : percent(50) ? 0 : no == 8 ? BOOK_MOST + below(100) : below(2000));
 }
 
 static void mismatch(uint8_t *book)
@@ -663,21 +693,22 @@ static void case_join(void)
     join_with_room(len1, len2);
 }
 
-/* Unions of 510 to 515 keys, with few or many keys in both. */
+/* Unions of 510 to 515 keys, and seldom of 1,998 to 2,003, with few or many keys in both. */
 static void case_join_full(void)
 {
-    draw_pool(510 + below(6));
+    draw_pool(versions == 2 && percent(20) ? 1998 + below(6) : 510 + below(6));
     uint32_t in_both = PICK(0, 1, 5, 50, 95, 100), in_first = PICK(1, 50, 99, 100);
-    size_t len1 = begin_book(book1), len2 = begin_book(book2);
+    size_t most = versions == 2 && percent(50) ? MOST_2 : MOST_1, len1 = begin_book(book1), len2 = begin_book(book2);
     for (size_t i = 0; i < pool.keys; i++) {
         int both = percent(in_both), first = both || percent(in_first), second = both || !first;
-        if (first && len1 < BOOK_MOST)
+        if (first && len1 < 16 + 32 * most)
             add_record(book1, &len1, pool.records[i][below(VARIANTS)]);
         else
             second = 1;
-        if (second && len2 < BOOK_MOST)
+        if (second && len2 < 16 + 32 * (MOST_2 + 2))
             add_record(book2, &len2, pool.records[i][below(VARIANTS)]);
     }
+    end_book(book1, len1), end_book(book2, len2);
     if (percent(5))
         mismatch(book2);
     if (percent(5))
@@ -690,9 +721,10 @@ static void case_join_full(void)
 static void case_find(void)
 {
     static uint8_t out[BOOK_MOST];
+    int many = versions == 2 && percent(1) && percent(40); /* more than 2,000 keys in two sound books, which is nothing to a lookup */
     size_t keys = draw_count();
-    draw_pool(percent(3) ? 400 + below(120) : keys);
-    size_t len1 = draw_book(book1, draw_share()), len2 = draw_book(book2, draw_share());
+    draw_pool(many ? POOL_MOST : percent(3) ? 400 + below(120) : keys);
+    size_t len1 = draw_book(book1, many ? PICK(60, 70, 80) : draw_share()), len2 = draw_book(book2, many ? PICK(60, 70, 80) : draw_share());
     uint16_t participant = (uint16_t)(percent(50) ? PICK(0, 1, 2, 64, 65, 65535) : 1 + below(64));
     uint32_t number = edge();
     if (pool.keys > 0 && percent(85)) {
@@ -738,7 +770,7 @@ static void case_score(void)
     static const uint8_t open[8][10] = {{1, 2, 3, 4, 5, 6, 7, 8, 9, 10}, {2, 3, 5, 6, 7, 8, 9, 10}, {2, 3, 5, 6, 7, 8, 9, 10}, {5, 7, 8, 9, 10}, {5, 7, 8, 9, 10},
                                         {5, 6, 7, 8, 9, 10}, {5, 6, 7, 8, 9, 10}, {5, 6, 7, 8, 9, 10}};
     static const uint8_t open_count[8] = {10, 8, 8, 5, 5, 6, 6, 6};
-    static struct call calls[512];
+    static struct call calls[MOST_2];
     static uint32_t series[3000];
     uint16_t participant = (uint16_t)(1 + within(63));
     uint8_t kind = (uint8_t)(percent(35) ? 1 : 1 + below(8));
@@ -746,6 +778,10 @@ static void case_score(void)
     struct heading h = draw_scored_heading();
     pool.h = h;
     size_t own = percent(98) ? below(10) : below(400), n = 0, len, series_len = h.minutes / 15;
+    int storage = versions == 2 && percent(1) && percent(40); /* a month of events and trips alone */
+    uint8_t only = (uint8_t)(storage || kind > 3 || percent(85) ? 0 : kind == 1 ? 1 + below(4) : 2 + below(2)); /* windows of one service that lie close together */
+    if (storage)
+        own = percent(50) ? MOST_2 - 7 + below(4) : below(MOST_2 - 7); /* with up to six of others */
     uint32_t a = rated, number = below(3), careful = PICK(100, 100, 100, 98, 80, 50);
     uint32_t worse = percent(10) ? 8 : 1; /* then faults come in company, and their order shows */
 
@@ -768,10 +804,14 @@ static void case_score(void)
             c.state = dice < 5 ? 2 : dice < 7 && !percent(careful) ? 1 : 0;
             if (c.state != 0)
                 break;
-            uint8_t service = percent(careful) ? open[kind - 1][below(open_count[kind - 1])] : (uint8_t)(1 + below(10));
+            uint8_t service = storage ? (uint8_t)PICK(8, 8, 10) : only ? only : percent(careful) ? open[kind - 1][below(open_count[kind - 1])] : (uint8_t)(1 + below(10));
             if (service == 5 && h.year >= 2027 && percent(90)) /* else most of these books would stop in 12 */
                 service = 10;
             draw_content(&c, service, h.minutes);
+            if (only) {
+                c.start = (uint16_t)(c.start % 900); /* still a multiple of 15 where it was one */
+                c.minutes = (uint16_t)(15 * (1 + below(8)));
+            }
             if (c.service <= 4 && n > 0 && percent(40)) { /* against an earlier one's end */
                 const struct call *e = &calls[below((uint32_t)n)];
                 uint32_t start = e->start + e->minutes;
@@ -802,6 +842,7 @@ static void case_score(void)
             put_call(record, &c);
             add_record(book1, &len, record);
         }
+    end_book(book1, len);
 
     /* Outputs around the edges of the bands: half, 70%, and what was called. */
     uint32_t half = rated / 2, seventy = (uint32_t)((uint64_t)rated * 7 / 10);
@@ -979,12 +1020,15 @@ static void case_tree(void)
     static uint8_t books[BOOKS][BOOK_MOST], items[ITEMS][BOOK_MOST], all[BOOK_MOST];
     const uint8_t *list[BOOKS];
     size_t book_len[BOOKS], item_len[ITEMS];
-    draw_pool(percent(94) ? below(12) : percent(50) ? below(200) : 508 + below(8));
+    draw_pool(percent(94) ? below(12) : percent(50) ? below(200) : versions == 2 && percent(25) ? 1997 + below(6) : 508 + below(8));
     size_t n = 2 + below(BOOKS - 1), left = n + below(ITEMS - (uint32_t)n + 1);
     uint32_t share = pool.keys > 500 ? PICK(50, 90, 98) : draw_share();
-    for (size_t i = 0; i < n; i++) {
+    uint32_t in_version_1 = versions == 1 ? 100 : PICK(100, 90, 50, 0);
+    for (size_t i = 0; i < n; i++) { /* each is sound */
+        uint8_t version = percent(in_version_1) ? 1 : 2;
         list[i] = books[i];
-        book_len[i] = draw_book(books[i], share);
+        book_len[i] = draw_book_of(books[i], share, version == 1 ? MOST_1 : MOST_2);
+        books[i][4] = version;
     }
     for (size_t i = 0; i < left; i++) {
         size_t from = i < n ? i : below((uint32_t)n);
@@ -993,11 +1037,13 @@ static void case_tree(void)
     }
     struct answer expected = soiled(), got = expected;
     expected.no = ref_join_all(list, n, all, sizeof all, &expected.cell[0], &expected.cell[1]);
+    if (versions == 1 && (expected.no == 8 || expected.cell[1] > BOOK_MOST_1))
+        return;
 
     while (left > 1) {
         size_t i = below((uint32_t)left), j = below((uint32_t)left - 1);
         j += j >= i;
-        size_t room = percent(80) ? BOOK_MOST : BOOK_MOST + below(100);
+        size_t both = item_len[i] + item_len[j], room = percent(5) || both > BOOK_MOST ? BOOK_MOST + below(100) : both + below(100); /* always enough */
         doing("join (a node of a tree)");
         with_bytes("first", items[i], item_len[i]), with_bytes("second", items[j], item_len[j]), with("out_len", (int64_t)room);
         got = soiled();
@@ -1055,6 +1101,9 @@ int main(int argc, char **argv)
     cases = argc > 2 ? strtoull(argv[2], NULL, 10) : 400000;
     printf("differential: seed %" PRIu64 "\n", seed);
     fflush(stdout);
+    const char *only = getenv("NWB_VERSIONS");
+    if (only && strcmp(only, "1") == 0)
+        versions = 1;
     area_open(&in1, BOOK_ROOM);
     area_open(&in2, BOOK_ROOM);
     area_open(&in_series, 3000 * sizeof(uint32_t));
@@ -1077,7 +1126,7 @@ int main(int argc, char **argv)
     int missing = 0;
     for (int f = 0; f < FUNCTIONS; f++)
         for (int i = 0; i == 0 || reachable[f][i] != 0; i++)
-            if (reached[f][reachable[f][i]] == 0 && cases >= 100000) {
+            if (reached[f][reachable[f][i]] == 0 && cases >= 100000 && !(versions == 1 && f == JOIN && reachable[f][i] == 8)) {
                 printf("differential: %s never answered %" PRIu32 "\n", names[f], reachable[f][i]);
                 missing++;
             }

@@ -2,7 +2,10 @@
  * paper's or worked out by hand from it; nothing here computes one with code that could share a mistake with the archive.
  *
  * Every single call is made at several addresses (against a guard page behind, against one before, at an odd address), with
- * garbage in its cells and canaries around cells and buffers; see memory-and-books.h. One line per group, and a last one for all. */
+ * garbage in its cells and canaries around cells and buffers; see memory-and-books.h. One line per group, and a last one for all.
+ *
+ * With NWB_VERSIONS=1 in the environment: books of version 1 alone, and no join of more than 512 keys, so that a library from before
+ * version 2 passes too. */
 #define _DEFAULT_SOURCE
 #include "memory-and-books.h"
 #include "nwb.h"
@@ -17,6 +20,7 @@ static int row = -1;            /* in the table that a check is made from, if an
 static const char *call_now;
 static enum placement placed_now;
 static int good;
+static uint32_t versions = 2;   /* books of versions 1 to this */
 
 static void group(const char *name)
 {
@@ -86,6 +90,8 @@ static void want_cells_kept(size_t used)
 #define CELL(k) (&cells[2 * (k) + 1])
 
 /* ---- one function each: the call at every placement, and all that must hold after it ---- */
+
+enum { MUCH = 70000 }; /* more than any answer takes */
 
 static struct area in1, in2, in_series, lent;
 
@@ -335,15 +341,18 @@ static void expect_pay_1(int line, uint8_t kind, uint32_t rated, struct call c, 
 #define PAY(...) expect_pay(__LINE__, __VA_ARGS__)
 #define PAY_1(...) expect_pay_1(__LINE__, __VA_ARGS__)
 
-/* Joins two books of one record each, with one key, both ways round. */
+/* Joins two books of one record each, with one key, both ways round and in every pair of versions. */
 static void expect_rule(int line, struct call x, struct call y, struct call stands)
 {
     uint8_t first[48], second[48], joined[48];
-    put_book(first, 7, 2025, 1, &x, 1);
-    put_book(second, 7, 2025, 1, &y, 1);
-    put_book(joined, 7, 2025, 1, &stands, 1);
-    expect_join(line, first, 48, second, 48, 48, 0, 0, joined, 48);
-    expect_join(line, second, 48, first, 48, 60, 0, 0, joined, 48);
+    for (uint32_t v = 1; v <= versions; v++)
+        for (uint32_t w = 1; w <= versions; w++) {
+            put_book_of(v, first, 7, 2025, 1, &x, 1);
+            put_book_of(w, second, 7, 2025, 1, &y, 1);
+            put_book_of(v == 1 && w == 1 ? 1 : 2, joined, 7, 2025, 1, &stands, 1);
+            expect_join(line, first, 48, second, 48, 48, 0, 0, joined, 48);
+            expect_join(line, second, 48, first, 48, 60, 0, 0, joined, 48);
+        }
 }
 
 #define RULE(...) expect_rule(__LINE__, __VA_ARGS__)
@@ -678,19 +687,21 @@ static void headers(void)
         NONE(rows[i].area, rows[i].year, rows[i].month, 16, rows[i].no);
         ONE(rows[i].area, rows[i].year, rows[i].month, empty(1, 1, 1, 1), 48, rows[i].no);
     }
-    /* Every bit of the header wrong alone. Area, year and month may still be sound then; a count is not as the length says, or
-     * above 512. A book of none whose count has bit 9 says 512, and is too short; those from bit 10 on are above 512. */
-    for (size_t bit = 0; bit < 128; bit++) {
-        size_t byte = bit / 8;
-        put_book(book, 7, 2025, 1, NULL, 0);
-        book[byte] ^= (uint8_t)(1u << bit % 8);
-        uint32_t year = book[6] | (uint32_t)book[7] << 8;
-        uint32_t no = byte < 3 ? 2 : byte == 4 || byte == 5 ? 3 : byte == 9 || byte > 11 ? 4 : bit >= 80 + 10 ? 4 : byte >= 10 ? 1
-                    : byte == 3 ? (book[3] < 1 || book[3] > 99 ? 4 : 0) : byte == 8 ? (book[8] < 1 || book[8] > 12 ? 4 : 0)
-                    : year < 2024 || year > 2099 ? 4 : 0;
-        row = (int)bit;
-        CHECK(book, 16, no, 0);
-    }
+    /* Every bit of the header wrong alone. Area, year and month may still be sound then; a count is not as the length says, or above
+     * its version's limit. A book of none whose count has bit 9 says 512, and is too short; those from bit 10 on are above 512, those
+     * from bit 11 on above 2,000. No bit makes one version of the other. */
+    for (uint32_t v = 1; v <= versions; v++)
+        for (size_t bit = 0; bit < 128; bit++) {
+            size_t byte = bit / 8, above = 80 + (v == 1 ? 10 : 11);
+            put_book_of(v, book, 7, 2025, 1, NULL, 0);
+            book[byte] ^= (uint8_t)(1u << bit % 8);
+            uint32_t year = book[6] | (uint32_t)book[7] << 8;
+            uint32_t no = byte < 3 ? 2 : byte == 4 || byte == 5 ? 3 : byte == 9 || byte > 11 ? 4 : bit >= above ? 4 : byte >= 10 ? 1
+                        : byte == 3 ? (book[3] < 1 || book[3] > 99 ? 4 : 0) : byte == 8 ? (book[8] < 1 || book[8] > 12 ? 4 : 0)
+                        : year < 2024 || year > 2099 ? 4 : 0;
+            row = (int)(1000 * v + bit);
+            CHECK(book, 16, no, 0);
+        }
     row = -1;
     put_book(book, 7, 2025, 1, NULL, 0);
     for (size_t len = 0; len < 16; len++) {
@@ -753,29 +764,32 @@ static const struct book_fault book_faults[] = {
     {5, 2, f_5_2}, {6, 2, f_6_2}, {5, 3, f_5_3}, {6, 3, f_6_3}};
 enum { BOOK_FAULTS = sizeof book_faults / sizeof *book_faults };
 
-/* n start-stop calls of participant 3, numbered 10, 20, 30 and so on, or 15, 25, 35: disjoint from the former. */
-static size_t tens(uint8_t *book, uint32_t from, size_t n)
+/* n start-stop calls of participant 3, numbered 10, 20, 30 and so on, or 15, 25, 35: disjoint from the former. 2,001 of them fit the month. */
+static size_t tens_of(uint32_t version, uint8_t *book, uint32_t from, size_t n)
 {
-    static struct call calls[512];
+    static struct call calls[MOST_2 + 1];
     for (size_t i = 0; i < n; i++)
-        calls[i] = live(3, from + 10 * (uint32_t)i, 1, 3, (uint16_t)(60 * i), 60, 0, 0, 0);
-    return put_book(book, 7, 2025, 1, calls, n);
+        calls[i] = live(3, from + 10 * (uint32_t)i, 1, 3, (uint16_t)(22 * i), 22, 0, 0, 0);
+    return put_book_of(version, book, 7, 2025, 1, calls, n);
 }
+
+static size_t tens(uint8_t *book, uint32_t from, size_t n) { return tens_of(1, book, from, n); }
 
 static void check_order(void)
 {
     uint8_t book[16 + 32 * 4];
-    for (int i = 0; i < BOOK_FAULTS; i++)
-        for (int j = i; j < BOOK_FAULTS; j++) {
-            size_t len = tens(book, 10, 4);
-            book_faults[j].make(book, &len);
-            if (i != j)
-                book_faults[i].make(book, &len);
-            row = i * 100 + j;
-            CHECK(book, len, book_faults[i].no, book_faults[i].place);
-        }
+    for (uint32_t v = 1; v <= versions; v++)
+        for (int i = 0; i < BOOK_FAULTS; i++)
+            for (int j = i; j < BOOK_FAULTS; j++) {
+                size_t len = tens_of(v, book, 10, 4);
+                book_faults[j].make(book, &len);
+                if (i != j)
+                    book_faults[i].make(book, &len);
+                row = (int)v * 10000 + i * 100 + j;
+                CHECK(book, len, book_faults[i].no, book_faults[i].place);
+            }
     row = -1;
-    /* A count of 513 against length, mark and version. */
+    /* A count of 513 in a book of version 1, against length, mark and version. */
     static uint8_t full[BOOK_MOST + 32];
     size_t len = tens(full, 1, 512);
     CHECK(full, len, 0, 0);
@@ -804,6 +818,68 @@ static void check_order(void)
     group("check: every number alone, and the order of two");
 }
 
+/* The versions there are, and each one's limit. */
+static void check_versions(void)
+{
+    static uint8_t book[BOOK_MOST + 32];
+    static const size_t counts[] = {0, 1, 511, 512};
+    for (size_t i = 0; i < ROWS(counts); i++) {
+        row = (int)i;
+        for (uint32_t v = 1; v <= versions; v++)
+            CHECK(book, tens_of(v, book, 10, counts[i]), 0, 0);
+    }
+    row = -1;
+    /* 513 records are 4 in version 1, whatever the length is. */
+    size_t len = tens_of(1, book, 10, 513);
+    CHECK(book, len, 4, 0);
+    CHECK(book, len - 32, 4, 0);
+    CHECK(book, len - 1, 4, 0);
+    CHECK(book, 16, 4, 0);
+    CHECK(book, tens_of(1, book, 10, 2000), 4, 0);
+    CHECK(book, tens_of(1, book, 10, 2001), 4, 0);
+    /* No other version: 3, before the count is asked. */
+    static const uint32_t none_such[] = {0, 3, 4, 255, 256, 257, 258, 512, 513, 0x8001, 0x8002, 65535};
+    static const size_t with_counts[] = {0, 3, 512, 513, 2000, 2001};
+    for (size_t i = 0; i < ROWS(none_such); i++)
+        for (size_t k = 0; k < ROWS(with_counts); k++) {
+            row = (int)(i * 10 + k);
+            CHECK(book, tens_of(none_such[i], book, 10, with_counts[k]), 3, 0);
+        }
+    row = -1;
+    if (versions == 2) {
+        CHECK(book, tens_of(2, book, 10, 513), 0, 0);
+        CHECK(book, tens_of(2, book, 10, 1999), 0, 0);
+        len = tens_of(2, book, 10, 2000);
+        CHECK(book, len, 0, 0);
+        CHECK(book, 64015, 1, 0);
+        CHECK(book, 64017, 1, 0);
+        CHECK(book, 16, 1, 0);
+        book[64015] = 1;
+        CHECK(book, len, 5, 1999);
+        book[64015] = 0;
+        memcpy(rec(book, 1999), rec(book, 1998), 32);
+        CHECK(book, len, 6, 1999);
+        memcpy(rec(book, 512), rec(book, 511), 32);
+        CHECK(book, len, 6, 512);
+        rec(book, 512)[31] = 1;
+        CHECK(book, len, 5, 512);
+        book[4] = 1; /* the same bytes as version 1, and as none */
+        CHECK(book, len, 4, 0);
+        book[4] = 3;
+        CHECK(book, len, 3, 0);
+        /* 2,001 are 4, before the length is asked and before any record. */
+        len = tens_of(2, book, 10, 2001);
+        CHECK(book, len, 4, 0);
+        CHECK(book, len - 32, 4, 0);
+        CHECK(book, 16, 4, 0);
+        rec(book, 0)[31] = 1;
+        CHECK(book, len, 4, 0);
+        put_bytes(book + 10, 65535, 2);
+        CHECK(book, len, 4, 0);
+    }
+    group("check: the versions, and the limit of each: 3, 4");
+}
+
 static void writers(void)
 {
     for (size_t out_len = 0; out_len <= 50; out_len++) {
@@ -813,8 +889,8 @@ static void writers(void)
         ONE(7, 2025, 1, empty(64, 0, 1, 2), out_len, out_len < 48 ? 9 : 0);
     }
     row = -1;
-    NONE(7, 2025, 1, 60000, 0);
-    ONE(7, 2025, 1, live(1, 2, 3, 8, 0, 0, -1000000000, 5, 0), 60000, 0);
+    NONE(7, 2025, 1, MUCH, 0);
+    ONE(7, 2025, 1, live(1, 2, 3, 8, 0, 0, -1000000000, 5, 0), MUCH, 0);
     /* 4 before 5 before 9 */
     NONE(0, 2025, 1, 0, 4);
     ONE(0, 2025, 1, empty(0, 1, 1, 1), 0, 4);
@@ -885,71 +961,188 @@ static void join_rule(void)
     struct call a[] = {live(1, 7, 1, 5, 0, 0, 0, 0, 0), live(2, 3, 1, 6, 0, 0, 0, 99, 0), empty(2, 4, 2, 2), live(64, 0xffffffff, 1, 7, 0, 0, 0, 1, 0)};
     struct call b[] = {live(1, 8, 1, 9, 0, 1, 0, 2, 3), live(2, 3, 1, 6, 0, 0, 0, 98, 0), live(2, 4, 9, 1, 0, 15, 0, 0, 0), empty(3, 0, 1, 1)};
     struct call u[] = {a[0], b[0], empty(2, 3, 1, 1), a[2], b[3], a[3]};
-    size_t la = put_book(book1, 99, 2099, 12, a, 4), lb = put_book(book2, 99, 2099, 12, b, 4), lu = put_book(joined, 99, 2099, 12, u, 6);
-    JOIN(book1, la, book2, lb, lu, 0, 0, joined, lu);
-    JOIN(book2, lb, book1, la, lu + 1, 0, 0, joined, lu);
-    JOIN(book1, la, book1, la, la, 0, 0, book1, la);
-    put_book(book2, 99, 2099, 12, NULL, 0);
-    JOIN(book1, la, book2, 16, la, 0, 0, book1, la);
-    JOIN(book2, 16, book1, la, la + 31, 0, 0, book1, la);
-    JOIN(book2, 16, book2, 16, 16, 0, 0, book2, 16);
+    for (uint32_t v = 1; v <= versions; v++) {
+        size_t la = put_book_of(v, book1, 99, 2099, 12, a, 4), lb = put_book_of(v, book2, 99, 2099, 12, b, 4);
+        size_t lu = put_book_of(v, joined, 99, 2099, 12, u, 6);
+        row = (int)v;
+        JOIN(book1, la, book2, lb, lu, 0, 0, joined, lu);
+        JOIN(book2, lb, book1, la, lu + 1, 0, 0, joined, lu);
+        JOIN(book1, la, book1, la, la, 0, 0, book1, la);
+        put_book(book2, 99, 2099, 12, NULL, 0);
+        JOIN(book1, la, book2, 16, la, 0, 0, book1, la);
+        JOIN(book2, 16, book1, la, la + 31, 0, 0, book1, la);
+        JOIN(book2, 16, book2, 16, 16, 0, 0, book2, 16);
+    }
+    row = -1;
     group("the joining rule");
+}
+
+/* n calls, numbered from `from` on: books of these have the keys in common that both have numbers for. */
+static size_t numbered(uint32_t version, uint8_t *book, uint32_t from, size_t n)
+{
+    static struct call calls[MOST_2 + 1];
+    for (uint32_t k = 0; k < n; k++)
+        calls[k] = live(5, from + k, 1, 10, 0, 0, 0, 0, 0);
+    return put_book_of(version, book, 7, 2025, 1, calls, n);
 }
 
 static void join_limits(void)
 {
-    static struct call calls[1024];
-    /* From n keys here and m there, `common` of them in both. */
-    static const struct { size_t n, m, common; } rows[] = {
-        {512, 512, 512}, {512, 0, 0}, {0, 512, 0}, {511, 1, 0}, {256, 256, 0}, {257, 256, 1}, {512, 1, 1}, {512, 1, 0}, {1, 512, 0},
-        {257, 256, 0}, {512, 512, 511}, {512, 512, 0}, {510, 2, 0}, {510, 3, 0}, {510, 3, 1}};
-    for (size_t i = 0; i < ROWS(rows); i++) {
-        size_t keys = rows[i].n + rows[i].m - rows[i].common, take = rows[i].n - rows[i].common;
-        for (size_t k = 0; k < 1024; k++)
-            calls[k] = live(5, (uint32_t)k, 1, 10, 0, 0, 0, 0, 0);
-        size_t l1 = put_book(book1, 7, 2025, 1, calls, rows[i].n), l2 = put_book(book2, 7, 2025, 1, calls + take, rows[i].m);
-        row = (int)i;
-        if (keys > 512) {
-            JOIN(book1, l1, book2, l2, 60000, 8, 0, NULL, 0);
-            JOIN(book1, l1, book2, l2, 0, 8, 0, NULL, 0);
-            JOIN(book2, l2, book1, l1, 16 + 32 * 512, 8, 0, NULL, 0);
-        } else {
-            size_t l = put_book(joined, 7, 2025, 1, calls, keys);
-            JOIN(book1, l1, book2, l2, l, 0, 0, joined, l);
-            JOIN(book2, l2, book1, l1, l + 77, 0, 0, joined, l);
-            JOIN(book1, l1, book2, l2, l - 1, 9, 0, NULL, 0);
-            JOIN(book1, l1, book2, l2, 16, keys == 0 ? 0 : 9, 0, NULL, 0);
-            JOIN(book2, l2, book1, l1, 0, 9, 0, NULL, 0);
-        }
+    /* n keys here and m there, `common` of them in both; the number, and the version where both books are of version 1. In every other
+     * pair of versions, as far as the counts allow it, it is 2. */
+    static const struct { uint32_t n, m, common, no, version; } rows[] = {
+        {0, 0, 0, 0, 1}, {3, 3, 3, 0, 1}, {512, 512, 512, 0, 1}, {512, 0, 0, 0, 1}, {0, 512, 0, 0, 1}, {511, 1, 0, 0, 1}, {256, 256, 0, 0, 1},
+        {257, 256, 1, 0, 1}, {512, 1, 1, 0, 1}, {510, 2, 0, 0, 1}, {510, 3, 1, 0, 1}, {300, 300, 88, 0, 1},
+        {512, 1, 0, 0, 2}, {1, 512, 0, 0, 2}, {257, 256, 0, 0, 2}, {512, 512, 511, 0, 2}, {512, 512, 0, 0, 2}, {510, 3, 0, 0, 2}, {300, 300, 87, 0, 2},
+        {513, 0, 0, 0, 2}, {513, 513, 513, 0, 2}, {1000, 1000, 0, 0, 2}, {1999, 1, 0, 0, 2}, {2000, 0, 0, 0, 2}, {2000, 1, 1, 0, 2}, {1488, 512, 0, 0, 2},
+        {2000, 2000, 2000, 0, 2}, {1001, 1000, 0, 8, 2}, {2000, 1, 0, 8, 2}, {1, 2000, 0, 8, 2}, {1489, 512, 0, 8, 2}, {2000, 2000, 1999, 8, 2},
+        {2000, 2000, 0, 8, 2}};
+    for (size_t i = 0; i < ROWS(rows); i++)
+        for (uint32_t v = rows[i].n > 512 ? 2 : 1; v <= versions; v++)
+            for (uint32_t w = rows[i].m > 512 ? 2 : 1; w <= versions; w++) {
+                uint32_t version = v == 1 && w == 1 ? rows[i].version : 2, take = rows[i].n - rows[i].common;
+                size_t l1 = numbered(v, book1, 0, rows[i].n), l2 = numbered(w, book2, take, rows[i].m), l;
+                row = (int)i * 100 + (int)(10 * v + w);
+                if (version > versions)
+                    continue;
+                if (rows[i].no == 8) {
+                    JOIN(book1, l1, book2, l2, MUCH, 8, 0, NULL, 0);
+                    JOIN(book1, l1, book2, l2, 0, 8, 0, NULL, 0);
+                    JOIN(book2, l2, book1, l1, 16 + 32 * 2000, 8, 0, NULL, 0);
+                    continue;
+                }
+                l = numbered(version, joined, 0, take + rows[i].m);
+                JOIN(book1, l1, book2, l2, l, 0, 0, joined, l);
+                JOIN(book2, l2, book1, l1, l + 77, 0, 0, joined, l);
+                JOIN(book1, l1, book2, l2, l - 1, 9, 0, NULL, 0);
+                JOIN(book1, l1, book2, l2, 16, l == 16 ? 0 : 9, 0, joined, 16);
+                JOIN(book2, l2, book1, l1, 0, 9, 0, NULL, 0);
+                if (l > 16400) /* room for a full book of version 1 */
+                    JOIN(book2, l2, book1, l1, 16400, 9, 0, NULL, 0);
+            }
+    row = -1;
+    group("512 and 2,000 keys, versions and room: 8, 9");
+}
+
+/* Joins these books two at a time in every order and grouping: each tree must come to `expected`, or stop in `no`. */
+static void every_tree(int line, const uint8_t *const books[], const size_t lens[], size_t n, uint32_t no,
+                       const uint8_t *expected, size_t expected_len)
+{
+    enum { MOST = 5 };
+    static uint8_t out[MOST + 1][BOOK_MOST];
+    const uint8_t *left[MOST];
+    size_t left_len[MOST];
+    if (n == 1) {
+        begin(line, "a tree of joins");
+        want("number", 0, no);
+        want("length", lens[0], expected_len);
+        want("bytes", (uint64_t)(lens[0] == expected_len && memcmp(books[0], expected, expected_len) == 0), 1);
+        end();
+        return;
     }
-    group("512 keys and room for them: 8, 9");
+    for (size_t i = 0; i < n; i++)
+        for (size_t j = 0; j < n; j++) {
+            if (i == j)
+                continue;
+            uint32_t got = nwb_join(books[i], lens[i], books[j], lens[j], out[n], BOOK_MOST, CELL(0), CELL(1));
+            if (got != 0) {
+                begin(line, "a tree of joins");
+                want("number", got, no);
+                end();
+                continue;
+            }
+            size_t m = 0;
+            for (size_t k = 0; k < n; k++)
+                if (k != i && k != j)
+                    left[m] = books[k], left_len[m++] = lens[k];
+            left[m] = out[n], left_len[m++] = (size_t)*CELL(1);
+            every_tree(line, left, left_len, m, no, expected, expected_len);
+        }
+}
+
+/* The version is the same in every grouping. */
+static void join_trees(void)
+{
+    static uint8_t books[5][BOOK_MOST];
+    const uint8_t *list[5] = {books[0], books[1], books[2], books[3], books[4]};
+    size_t lens[5], l;
+    placed_now = ALIGNED;
+
+    /* 512 calls, and one more of them or a new one, and all of them again. */
+    lens[0] = lens[2] = numbered(1, books[0], 0, 512);
+    memcpy(books[2], books[0], lens[0]);
+    lens[1] = numbered(1, books[1], 511, 1);
+    l = numbered(1, joined, 0, 512);
+    every_tree(__LINE__, list, lens, 3, 0, joined, l);
+    if (versions == 2) {
+        lens[1] = numbered(1, books[1], 512, 1);
+        l = numbered(2, joined, 0, 513);
+        every_tree(__LINE__, list, lens, 3, 0, joined, l);
+        /* An empty book of version 2 among books of version 1, and one more that is full. */
+        lens[0] = numbered(1, books[0], 0, 2), lens[1] = numbered(2, books[1], 0, 0);
+        lens[2] = numbered(1, books[2], 1, 3), lens[3] = numbered(1, books[3], 3, 1);
+        l = numbered(2, joined, 0, 4);
+        every_tree(__LINE__, list, lens, 4, 0, joined, l);
+        lens[3] = numbered(2, books[3], 2, 2000);
+        every_tree(__LINE__, list, lens, 4, 8, NULL, 0);
+        /* Four books of 500; and one call more, in any of them or in a fifth. */
+        for (uint32_t k = 0; k < 4; k++)
+            lens[k] = numbered(1, books[k], 500 * k, 500);
+        l = numbered(2, joined, 0, 2000);
+        every_tree(__LINE__, list, lens, 4, 0, joined, l);
+        lens[4] = numbered(1, books[4], 1999, 1);
+        every_tree(__LINE__, list, lens, 5, 0, joined, l);
+        lens[4] = numbered(1, books[4], 2000, 1);
+        every_tree(__LINE__, list, lens, 5, 8, NULL, 0);
+        lens[3] = numbered(1, books[3], 1500, 501);
+        every_tree(__LINE__, list, lens, 4, 8, NULL, 0);
+    }
+    group("every tree of joins over a list: one version, or 8");
 }
 
 static void join_order(void)
 {
     enum { SEVEN = 2 * BOOK_FAULTS, EIGHT, NINE, ALL };
-    for (int i = 0; i < ALL; i++)
-        for (int j = i; j < ALL; j++) {
-            int eight = i == EIGHT || j == EIGHT, nine = i == NINE || j == NINE, seven = i == SEVEN || j == SEVEN;
-            size_t l1 = tens(book1, 10, eight ? 300 : 4), l2 = tens(book2, 15, eight ? 213 : 4);
-            if (seven)
-                book2[3]++;
-            if (j < SEVEN && j >= BOOK_FAULTS)
-                book_faults[j - BOOK_FAULTS].make(book2, &l2);
-            if (i < SEVEN && i >= BOOK_FAULTS && i != j)
-                book_faults[i - BOOK_FAULTS].make(book2, &l2);
-            if (j < BOOK_FAULTS)
-                book_faults[j].make(book1, &l1);
-            if (i < BOOK_FAULTS && i != j)
-                book_faults[i].make(book1, &l1);
-            row = i * 100 + j;
-            if (i < BOOK_FAULTS)
-                JOIN(book1, l1, book2, l2, nine ? 100 : 60000, book_faults[i].no, book_faults[i].place, NULL, 0);
-            else if (i < SEVEN)
-                JOIN(book1, l1, book2, l2, nine ? 100 : 60000, book_faults[i - BOOK_FAULTS].no + 20, book_faults[i - BOOK_FAULTS].place, NULL, 0);
-            else
-                JOIN(book1, l1, book2, l2, nine ? 100 : 60000, i == SEVEN ? 7 : i == EIGHT ? 8 : 9, 0, NULL, 0);
-        }
+    for (uint32_t pair = 0; pair < versions * versions; pair++)
+        for (int i = 0; i < ALL; i++)
+            for (int j = i; j < ALL; j++) {
+                int eight = i == EIGHT || j == EIGHT, nine = i == NINE || j == NINE, seven = i == SEVEN || j == SEVEN;
+                uint32_t v = 1 + pair / 2, w = 1 + pair % 2;
+                if (eight && v == 1 && w == 1) /* these have at most 1,024 keys together */
+                    continue;
+                size_t l1 = tens_of(v, book1, 10, !eight ? 4 : v == 1 ? 512 : w == 1 ? 1489 : 1001);
+                size_t l2 = tens_of(w, book2, 15, !eight ? 4 : w == 1 ? 512 : v == 1 ? 1489 : 1000);
+                size_t room = nine ? 100 : eight ? MUCH : 1000;
+                if (seven)
+                    book2[3]++;
+                if (j < SEVEN && j >= BOOK_FAULTS)
+                    book_faults[j - BOOK_FAULTS].make(book2, &l2);
+                if (i < SEVEN && i >= BOOK_FAULTS && i != j)
+                    book_faults[i - BOOK_FAULTS].make(book2, &l2);
+                if (j < BOOK_FAULTS)
+                    book_faults[j].make(book1, &l1);
+                if (i < BOOK_FAULTS && i != j)
+                    book_faults[i].make(book1, &l1);
+                row = (int)pair * 10000 + i * 100 + j;
+                if (i < BOOK_FAULTS)
+                    JOIN(book1, l1, book2, l2, room, book_faults[i].no, book_faults[i].place, NULL, 0);
+                else if (i < SEVEN)
+                    JOIN(book1, l1, book2, l2, room, book_faults[i - BOOK_FAULTS].no + 20, book_faults[i - BOOK_FAULTS].place, NULL, 0);
+                else
+                    JOIN(book1, l1, book2, l2, room, i == SEVEN ? 7 : i == EIGHT ? 8 : 9, 0, NULL, 0);
+            }
+    row = -1;
+    /* A count above its version's limit, a version that is none: as in a book alone, and 20 more in the second. */
+    for (uint32_t v = 0; v <= 3; v++) {
+        if (v == 2 && versions == 1)
+            continue;
+        size_t l1 = tens_of(v, book1, 10, v == 1 ? 513 : 2001), l2 = tens(book2, 10, 4);
+        row = (int)v;
+        JOIN(book1, l1, book2, l2, MUCH, v == 1 || v == 2 ? 4 : 3, 0, NULL, 0);
+        JOIN(book2, l2, book1, l1, MUCH, v == 1 || v == 2 ? 24 : 23, 0, NULL, 0);
+        FIND(book1, l1, book2, l2, 3, 10, 0, 0);
+        FIND(book2, l2, book1, l1, 3, 10, 0, 0);
+    }
     row = -1;
     /* 7 for each of the three alone; books that differ join nowhere, empty or not. */
     put_book(book1, 7, 2025, 1, NULL, 0);
@@ -961,6 +1154,11 @@ static void join_order(void)
     JOIN(book1, 16, book2, 16, 100, 7, 0, NULL, 0);
     put_book(book2, 7, 2025 + 16, 1, NULL, 0);
     JOIN(book1, 16, book2, 16, 0, 7, 0, NULL, 0);
+    if (versions == 2) { /* no version mends that */
+        put_book_of(2, book2, 7, 2025, 3, NULL, 0);
+        JOIN(book1, 16, book2, 16, 100, 7, 0, NULL, 0);
+        JOIN(book2, 16, book1, 16, 100, 7, 0, NULL, 0);
+    }
     group("join: every number alone, and the order of two");
 }
 
@@ -986,11 +1184,14 @@ static void find(void)
         {2, 9, 1, 9}, {2, 10, 2, 10}, {2, 11, 1, 11}, /* the contested one, from the book that has it */
         {64, 0xffffffff, 1, 12}, {1, 3, 0, 0}, {1, 0, 0, 0}, {3, 1, 0, 0}, {64, 0xfffffffe, 0, 0},
         {0, 1, 0, 0}, {65, 1, 0, 0}, {257, 1, 0, 0}, {65535, 0xffffffff, 0, 0}};
-    size_t la = put_book(book1, 7, 2025, 1, a, ROWS(a)), lb = put_book(book2, 7, 2025, 1, b, ROWS(b));
-    for (size_t i = 0; i < ROWS(rows); i++) {
-        row = (int)i;
-        FIND(book1, la, book2, lb, rows[i].participant, rows[i].number, rows[i].answer, rows[i].answer ? 16 + 32 * rows[i].record : 0);
-    }
+    size_t la = 0, lb;
+    for (uint32_t v = 1; v <= versions; v++)
+        for (uint32_t w = 1; w <= versions; w++)
+            for (size_t i = 0; i < ROWS(rows); i++) {
+                la = put_book_of(v, book1, 7, 2025, 1, a, ROWS(a)), lb = put_book_of(w, book2, 7, 2025, 1, b, ROWS(b));
+                row = (int)(v * 1000 + w * 100 + i);
+                FIND(book1, la, book2, lb, rows[i].participant, rows[i].number, rows[i].answer, rows[i].answer ? 16 + 32 * rows[i].record : 0);
+            }
     row = -1;
     put_book(joined, 7, 2025, 1, NULL, 0);
     FIND(book1, la, joined, 16, 2, 11, 1, 16 + 32 * 11);
@@ -1023,6 +1224,20 @@ static void find(void)
     FIND(book1, l1, book2, l2, 3, 15 + 10 * 511, 2, 16 + 32 * 511);
     FIND(book1, l1, book2, l2, 3, 15, 2, 16);
     FIND(book1, l1, book2, l2, 3, 16, 0, 0);
+    if (versions == 2) {
+        l1 = tens_of(2, book1, 10, 2000), l2 = tens_of(2, book2, 15, 2000);
+        FIND(book1, l1, book2, l2, 3, 10, 1, 16);
+        FIND(book1, l1, book2, l2, 3, 10 + 10 * 1999, 1, 16 + 32 * 1999);
+        FIND(book1, l1, book2, l2, 3, 15 + 10 * 1999, 2, 16 + 32 * 1999);
+        FIND(book1, l1, book2, l2, 3, 10 + 10 * 1000, 1, 16 + 32 * 1000);
+        FIND(book1, l1, book2, l2, 3, 10 + 10 * 2000, 0, 0);
+        l1 = tens_of(1, book1, 10, 512); /* beside a book of version 1: 2,512 keys */
+        FIND(book1, l1, book2, l2, 3, 10 + 10 * 511, 1, 16 + 32 * 511);
+        FIND(book2, l2, book1, l1, 3, 10 + 10 * 511, 2, 16 + 32 * 511);
+        FIND(book2, l2, book1, l1, 3, 15 + 10 * 1999, 1, 16 + 32 * 1999);
+        FIND(book2, l2, book1, l1, 3, 10 + 10 * 512, 0, 0);
+        FIND(book2, l2, book2, l2, 3, 15 + 10 * 1999, 1, 16 + 32 * 1999);
+    }
     group("asking for one key in two books");
 }
 
@@ -1117,6 +1332,16 @@ static void score_refusals(void)
             four[3] = empty(1, 4, 1, 1);
             NUMBER(1, 10, four, 4, 14, 3);
         }
+    /* The later of two earlier ones comes first: what starts behind the other's end may still meet it. */
+    static const struct { uint16_t start; int overlaps; } late[] = {{15045, 1}, {15000, 1}, {14985, 1}, {15060, 0}, {14970, 0}, {360, 0}, {345, 1}};
+    for (uint8_t service = 1; service <= 4; service++)
+        for (size_t i = 0; i < ROWS(late); i++) {
+            int32_t a = service == 2 ? 5 : 0;
+            struct call four[] = {live(1, 1, 1, service, 15000, 60, a, 0, 0), live(1, 2, 1, service, 300, 60, a, 0, 0),
+                                  live(1, 3, 1, service, late[i].start, 30, a, 0, 0), empty(1, 4, 1, 1)};
+            row = service * 100 + (int)i;
+            NUMBER(1, 10, four, 4, late[i].overlaps ? 13 : 14, late[i].overlaps ? 2 : 3);
+        }
     for (uint8_t service = 5; service <= 10; service++) {
         struct call three[] = {live(1, 1, 1, service, 0, 0, 0, 0, 0), live(1, 2, 1, service, 0, 0, 0, 0, 0), empty(1, 3, 1, 1)};
         int once = service != 8 && service != 10;
@@ -1156,6 +1381,7 @@ static void score_order(void)
     enum { TEN, BOOK, LENGTH = BOOK + BOOK_FAULTS, VALUE_5, VALUE_7, R14_0, R12_1, R13_2, R14_3, ALL };
     for (int i = 0; i < ALL; i++)
         for (int j = i; j < ALL; j++) {
+            uint32_t v = versions == 2 ? 1 + (uint32_t)(i + j) % 2 : 1; /* of either version in turn */
             struct call calls[] = {live(3, 10, 1, 1, 0, 60, 0, 0, 0), live(3, 20, 1, 5, 0, 0, 0, 0, 0), live(3, 30, 1, 10, 0, 0, 0, 0, 0),
                                    live(3, 40, 1, 4, 0, 60, 0, 0, 0)};
 #define MADE(f) (i == (f) || j == (f))
@@ -1167,7 +1393,7 @@ static void score_order(void)
                 calls[2] = live(3, 30, 1, 1, 45, 30, 0, 0, 0);
             if (MADE(R14_3))
                 calls[3] = empty(3, 40, 1, 1);
-            size_t len = put_book(book1, 7, 2025, 1, calls, 4);
+            size_t len = put_book_of(v, book1, 7, 2025, 1, calls, 4);
             if (j >= BOOK && j < LENGTH)
                 book_faults[j - BOOK].make(book1, &len);
             if (i >= BOOK && i < LENGTH && i != j)
@@ -1204,6 +1430,50 @@ static void score_512(void)
     calls[511].minutes = 88;
     NUMBER(1, 4000000, calls, 512, 13, 511);
     group("scoring 512 records");
+}
+
+/* Scores participant 1 in January of this year over a book of version 2. */
+static void expect_score_2(int line, uint16_t year, uint8_t kind, uint32_t rated, const struct call *calls, size_t n,
+                           uint32_t no, uint64_t place, uint64_t grains, uint64_t fen)
+{
+    expect_score(line, 1, kind, rated, book1, put_book_of(2, book1, 7, year, 1, calls, n), series, 2976, no, place, grains, fen);
+}
+#define SCORE_2(...) expect_score_2(__LINE__, __VA_ARGS__)
+
+static void score_2000(void)
+{
+    static struct call calls[2000];
+    output(0);
+    for (uint32_t i = 0; i < 2000; i++)
+        calls[i] = live(1, i, 1, 8, (uint16_t)i, 3, 1000000000, 1000000000, 0);
+    SCORE_2(2025, 8, 1, calls, 2000, 0, 0, 240000000000000000, 4000000000000); /* 2,000 * 10^9 Wh * 120,000 */
+    SCORE_2(2025, 8, 1, calls, 3, 0, 0, 360000000000000, 6000000000);
+    SCORE_2(2025, 8, 1, NULL, 0, 0, 0, 0, 0);
+    for (uint32_t i = 0; i < 2000; i++)
+        calls[i] = live(1, i, 1, 3, (uint16_t)(22 * i), 22, 0, 0, 0); /* all meet, in the order of time and against it */
+    SCORE_2(2025, 1, 4000000, calls, 2000, 0, 0, 96000000000000000, 1600000000000);
+    calls[1999].start = 22 * 1999 - 1;
+    SCORE_2(2025, 1, 4000000, calls, 2000, 13, 1999, 0, 0);
+    calls[1999].start = 0;
+    SCORE_2(2025, 1, 4000000, calls, 2000, 13, 1999, 0, 0);
+    for (uint32_t i = 0; i < 2000; i++)
+        calls[i].start = (uint16_t)(22 * (1999 - i));
+    SCORE_2(2025, 1, 4000000, calls, 2000, 0, 0, 96000000000000000, 1600000000000);
+    calls[1999].minutes = 23;
+    SCORE_2(2025, 1, 4000000, calls, 2000, 13, 1999, 0, 0);
+    calls[1999] = live(1, 1999, 1, 6, 0, 0, 0, 10000, 0);
+    SCORE_2(2025, 2, 1, calls, 2000, 0, 0, 1999ull * 6000000 + 1200000, 199920);
+    SCORE_2(2025, 6, 1, calls, 2000, 12, 0, 0, 0);
+    calls[1999] = empty(1, 1999, 1, 1);
+    SCORE_2(2025, 1, 4000000, calls, 2000, 14, 1999, 0, 0);
+    /* A black start, 1,998 trips and a second one: the last record is 13, and after the closing month the first is 12. */
+    for (uint32_t i = 0; i < 2000; i++)
+        calls[i] = i % 1999 == 0 ? live(1, i, 1, 5, 0, 0, 0, 0, 0) : live(1, i, 1, 10, (uint16_t)i, 0, 0, 0, 0);
+    SCORE_2(2025, 8, 1, calls, 2000, 13, 1999, 0, 0);
+    SCORE_2(2026, 8, 1, calls, 2000, 13, 1999, 0, 0);
+    SCORE_2(2027, 8, 1, calls, 2000, 12, 0, 0, 0);
+    SCORE_2(2025, 8, 1, calls, 1999, 0, 0, 1998ull * 2400000 + 1200000, 79940);
+    group("scoring 2,000 records");
 }
 
 /* ---- sharing ---- */
@@ -1628,10 +1898,13 @@ static void upper_halves(void)
 
 int main(void)
 {
-    area_open(&in1, 60000);
-    area_open(&in2, 60000);
-    area_open(&in_series, 60000);
-    area_open(&lent, 60000);
+    const char *only = getenv("NWB_VERSIONS");
+    if (only && strcmp(only, "1") == 0)
+        versions = 1;
+    area_open(&in1, MUCH);
+    area_open(&in2, MUCH);
+    area_open(&in_series, MUCH);
+    area_open(&lent, MUCH);
     on_touched_guard(touched);
 
     worked_sums();
@@ -1642,14 +1915,18 @@ int main(void)
     records();
     months();
     check_order();
+    check_versions();
     writers();
     join_rule();
     join_limits();
+    join_trees();
     join_order();
     find();
     score_refusals();
     score_order();
     score_512();
+    if (versions == 2)
+        score_2000();
     share_sums();
     share_refusals();
     share_parts();

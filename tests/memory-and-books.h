@@ -106,7 +106,8 @@ static inline void on_touched_guard(void (*report)(int))
 
 /* ---- books, sharing lines and control actions from values ---- */
 
-enum { BOOK_MOST = 16 + 32 * 512 };
+/* The most records of either version, and the longest book of each. */
+enum { MOST_1 = 512, MOST_2 = 2000, BOOK_MOST_1 = 16 + 32 * MOST_1, BOOK_MOST = 16 + 32 * MOST_2 };
 
 struct call {
     uint16_t participant;
@@ -156,18 +157,24 @@ static inline void put_call(uint8_t *p, const struct call *c)
     put_bytes(p + 28, 0, 4);
 }
 
-static inline size_t put_book(uint8_t *p, uint8_t area, uint16_t year, uint8_t month, const struct call *calls, size_t n)
+/* Of any version and count, also where the one does not go with the other. */
+static inline size_t put_book_of(uint32_t version, uint8_t *p, uint8_t area, uint16_t year, uint8_t month, const struct call *calls, size_t n)
 {
     memset(p, 0, 16);
     memcpy(p, "NWB", 3);
     p[3] = area;
-    p[4] = 1;
+    put_bytes(p + 4, version, 2);
     put_bytes(p + 6, year, 2);
     p[8] = month;
     put_bytes(p + 10, n, 2);
     for (size_t i = 0; i < n; i++)
         put_call(p + 16 + 32 * i, &calls[i]);
     return 16 + 32 * n;
+}
+
+static inline size_t put_book(uint8_t *p, uint8_t area, uint16_t year, uint8_t month, const struct call *calls, size_t n)
+{
+    return put_book_of(1, p, area, year, month, calls, n);
 }
 
 static inline size_t put_lines(uint8_t *p, const struct line *lines, size_t n)

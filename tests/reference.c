@@ -4,7 +4,7 @@
 
 #include <string.h>
 
-enum { HEADER = 16, RECORD = 32, MOST_RECORDS = 512 };
+enum { HEADER = 16, RECORD = 32, MOST_RECORDS = 2000, MOST_RECORDS_1 = 512 };
 enum { LIVE = 0, CONTESTED = 1, WITHDRAWN = 2 };
 enum { COAL = 1, GAS = 2, HYDRO = 3, WIND = 4, PHOTOVOLTAIC = 5, PUMPED = 7 };
 
@@ -28,6 +28,7 @@ static int32_t get_i32(const uint8_t *p)
 /* ---- the call book ---- */
 
 static const uint8_t *record(const uint8_t *book, size_t i) { return book + HEADER + RECORD * i; }
+static uint32_t version(const uint8_t *book) { return get16(book + 4); }
 static size_t count(const uint8_t *book) { return get16(book + 10); }
 static size_t size(size_t records) { return HEADER + RECORD * records; }
 
@@ -48,8 +49,9 @@ static int header_values_sound(uint32_t area, uint32_t year, uint32_t month)
     return area >= 1 && area <= 99 && year >= 2024 && year <= 2099 && month >= 1 && month <= 12;
 }
 
-/* Everything that 5 speaks of: one record by itself, in a month of so many minutes. */
-static int record_sound(const uint8_t *r, uint32_t minutes)
+/* Everything that 5 speaks of: one record by itself, in a month of so many minutes. Inline: left to itself the compiler calls it for each record,
+ * and the baseline takes a quarter more. */
+static inline int record_sound(const uint8_t *r, uint32_t minutes)
 {
     uint32_t participant = get16(r), service = r[2], start = get16(r + 12), length = get16(r + 14);
     int32_t a = get_i32(r + 16);
@@ -83,6 +85,9 @@ static int record_sound(const uint8_t *r, uint32_t minutes)
     }
 }
 
+/* "Version 2 of the book allows 2,000 records .. A version 1 book is still read, with its own limit." */
+static size_t most_records(uint32_t version) { return version == 1 ? MOST_RECORDS_1 : MOST_RECORDS; }
+
 /* "Order in a book: 1 (under 16), 2, 3, 4, 1, then record by record 5, 6." */
 uint32_t ref_check(const uint8_t *book, size_t book_len, uint64_t *place)
 {
@@ -91,10 +96,10 @@ uint32_t ref_check(const uint8_t *book, size_t book_len, uint64_t *place)
         return 1;
     if (book[0] != 'N' || book[1] != 'W' || book[2] != 'B')
         return 2;
-    if (get16(book + 4) != 1)
+    if (version(book) != 1 && version(book) != 2)
         return 3;
     uint32_t area = book[3], year = get16(book + 6), month = book[8];
-    if (!header_values_sound(area, year, month) || book[9] != 0 || count(book) > MOST_RECORDS || get32(book + 12) != 0)
+    if (!header_values_sound(area, year, month) || book[9] != 0 || count(book) > most_records(version(book)) || get32(book + 12) != 0)
         return 4;
     if (book_len != size(count(book)))
         return 1;
@@ -116,11 +121,11 @@ uint32_t ref_check(const uint8_t *book, size_t book_len, uint64_t *place)
     return 0;
 }
 
-static void write_header(uint8_t *out, uint32_t area, uint32_t year, uint32_t month, size_t records)
+static void write_header(uint8_t *out, uint32_t version, uint32_t area, uint32_t year, uint32_t month, size_t records)
 {
     memcpy(out, "NWB", 3);
     out[3] = (uint8_t)area;
-    put16(out + 4, 1);
+    put16(out + 4, version);
     put16(out + 6, year);
     out[8] = (uint8_t)month;
     out[9] = 0;
@@ -128,6 +133,7 @@ static void write_header(uint8_t *out, uint32_t area, uint32_t year, uint32_t mo
     put32(out + 12, 0);
 }
 
+/* "A book of none or one is written as version 1." */
 uint32_t ref_none(uint8_t area, uint16_t year, uint8_t month, uint8_t *out, size_t out_len, uint64_t *place, uint64_t *length)
 {
     *place = *length = 0;
@@ -135,7 +141,7 @@ uint32_t ref_none(uint8_t area, uint16_t year, uint8_t month, uint8_t *out, size
         return 4;
     if (out_len < size(0))
         return 9;
-    write_header(out, area, year, month, 0);
+    write_header(out, 1, area, year, month, 0);
     *length = size(0);
     return 0;
 }
@@ -165,7 +171,7 @@ uint32_t ref_one(uint8_t area, uint16_t year, uint8_t month,
 
     if (out_len < size(1))
         return 9;
-    write_header(out, area, year, month, 1);
+    write_header(out, 1, area, year, month, 1);
     memcpy(out + HEADER, r, RECORD);
     *length = size(1);
     return 0;
@@ -225,6 +231,12 @@ static size_t different_keys(const uint8_t *first, const uint8_t *second)
     return keys + (m - i) + (n - j);
 }
 
+/* "A join gives version 1 exactly where both books are version 1 and the result has at most 512 keys, otherwise version 2." */
+static uint32_t joined_version(const uint8_t *first, const uint8_t *second, size_t keys)
+{
+    return version(first) == 1 && version(second) == 1 && keys <= MOST_RECORDS_1 ? 1 : 2;
+}
+
 uint32_t ref_join(const uint8_t *first, size_t first_len, const uint8_t *second, size_t second_len,
                   uint8_t *out, size_t out_len, uint64_t *place, uint64_t *length)
 {
@@ -270,8 +282,9 @@ uint32_t ref_join(const uint8_t *first, size_t first_len, const uint8_t *second,
     memcpy(to, y, (size_t)(y_end - y));
     to += y_end - y;
 
-    *length = (uint64_t)(to - out);
-    write_header(out, first[3], get16(first + 6), first[8], (size_t)(to - out - HEADER) / RECORD);
+    size_t keys = (size_t)(to - out - HEADER) / RECORD;
+    *length = size(keys);
+    write_header(out, joined_version(first, second, keys), first[3], get16(first + 6), first[8], keys);
     return 0;
 }
 
@@ -327,6 +340,7 @@ static void write_standing_of_all(uint8_t *out, const uint8_t *const records[], 
     memcpy(out, highest, RECORD);
 }
 
+/* And the version over a whole list: 1 exactly where every book is version 1 and the list has at most 512 different keys. */
 uint32_t ref_join_all(const uint8_t *const books[], size_t n, uint8_t *out, size_t out_len, uint64_t *place, uint64_t *length)
 {
     uint8_t all[MOST_RECORDS * RECORD];
@@ -351,7 +365,10 @@ uint32_t ref_join_all(const uint8_t *const books[], size_t n, uint8_t *out, size
     }
     if (size(keys) > out_len)
         return 9;
-    write_header(out, books[0][3], get16(books[0] + 6), books[0][8], keys);
+    int all_first = keys <= MOST_RECORDS_1;
+    for (size_t i = 0; i < n; i++)
+        all_first = all_first && version(books[i]) == 1;
+    write_header(out, all_first ? 1 : 2, books[0][3], get16(books[0] + 6), books[0][8], keys);
     memcpy(out + HEADER, all, RECORD * keys);
     *length = size(keys);
     return 0;

@@ -31,7 +31,7 @@ uint64_t ref_fen(uint64_t grains);
 uint32_t ref_share(uint32_t part, const uint8_t *lines, size_t lines_len, uint8_t *out, size_t out_len, uint64_t *place, int64_t *gap);
 
 /* The paper's rule over a whole list of books, which never speaks of two books at a time: trees of joins are held against it.
- * Books 1 to 64 in number, each sound, all of one area, year and month. Answers 0, 8 or 9 as joining does. */
+ * Books 1 to 64 in number, each sound, of either version, all of one area, year and month. Answers 0, 8 or 9 as joining does. */
 enum { REF_MOST_BOOKS = 64 };
 uint32_t ref_join_all(const uint8_t *const books[], size_t n, uint8_t *out, size_t out_len, uint64_t *place, uint64_t *length);
 

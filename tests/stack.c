@@ -1,11 +1,11 @@
-/* What takes the most of the stack: every function of nwb.h on its fullest inputs (512 + 512 records, a month of 31 days, 64 lines, 60 actions), accepted and with each
- * refusal. Linked with tests/small-stack.c, so that each call has 4 KiB and a guard page below them. Fails where an answer is not the one meant, so that each path is
+/* What takes the most of the stack: every function of nwb.h on its fullest inputs (2,000 + 2,000 records, a month of 31 days, 64 lines, 60 actions), accepted and with
+ * each refusal. Linked with tests/small-stack.c, so that each call has 4 KiB and a guard page below them. Fails where an answer is not the one meant, so that each path is
  * seen to be gone, and names the call where a guard page was touched. */
 #define _DEFAULT_SOURCE
 #include "memory-and-books.h"
 #include "nwb.h"
 
-enum { FULL = 512, QUARTERS = 2976, LINES = 64, ACTIONS = 60 };
+enum { FULL = MOST_2, QUARTERS = 2976, LINES = 64, ACTIONS = 60 };
 
 static struct call calls[FULL + 1];
 static uint8_t first[BOOK_MOST], second[BOOK_MOST], spoilt[BOOK_MOST + 32], out[2 * BOOK_MOST], lines[24 * (LINES + 1)], actions[24 * (ACTIONS + 1)];
@@ -53,20 +53,30 @@ static struct call call_of(uint16_t member, uint32_t number, uint8_t service, ui
     return c;
 }
 
-/* Books of 512 calls over 64 members and all services; half of the second's are of another revision, some contradict. */
+/* Call i of the full books: 31 to a member and what is left to the last. A member's first ten are of each service in turn, the others of those that it may have often. */
+static uint16_t member_of(uint32_t i) { return (uint16_t)(i < 31 * 63 ? i / 31 + 1 : 64); }
+
+static uint8_t service_of(uint32_t i)
+{
+    static const uint8_t often[] = {1, 2, 3, 4, 8, 10};
+    uint32_t mine = i - 31 * (member_of(i) - 1u);
+    return (uint8_t)(mine < 10 ? mine + 1 : often[mine % 6]);
+}
+
+/* Books of 2,000 calls over 64 members and all services; half of the second's are of another revision, some contradict. */
 static void fill_books(void)
 {
-    for (int i = 0; i < FULL; i++)
-        calls[i] = call_of((uint16_t)(i / 8 + 1), (uint32_t)i, (uint8_t)(i % 10 + 1), (uint16_t)(15 * (i % 100)));
-    first_len = put_book(first, 1, 2026, 1, calls, FULL);
-    for (int i = 0; i < FULL; i++) {
-        calls[i].revision = (uint32_t)(i % 2 + 1);
+    for (uint32_t i = 0; i < FULL; i++)
+        calls[i] = call_of(member_of(i), i, service_of(i), (uint16_t)(15 * (i % 100)));
+    first_len = put_book_of(2, first, 1, 2026, 1, calls, FULL);
+    for (uint32_t i = 0; i < FULL; i++) {
+        calls[i].revision = i % 2 + 1;
         if (i % 3 == 0 && calls[i].service == 3)
             calls[i].minutes = 30;
         if (i % 7 == 0)
             calls[i] = (struct call){calls[i].participant, 0, (uint8_t)(1 + i % 2), calls[i].number, 3, 0, 0, 0, 0, 0};
     }
-    second_len = put_book(second, 1, 2026, 1, calls, FULL);
+    second_len = put_book_of(2, second, 1, 2026, 1, calls, FULL);
 }
 
 /* The first book with one fault, by the refusal that it is for; the fault is as far behind as it can be. */
@@ -78,8 +88,8 @@ static size_t spoil(uint32_t number)
     case 2: spoilt[0] = 'M'; break;
     case 3: spoilt[4] = 3; break;
     case 4: spoilt[8] = 13; break;
-    case 5: spoilt[16 + 32 * 511 + 31] = 1; break;
-    case 6: memcpy(spoilt + 16 + 32 * 511, spoilt + 16 + 32 * 510, 32); break;
+    case 5: spoilt[16 + 32 * (FULL - 1) + 31] = 1; break;
+    case 6: memcpy(spoilt + 16 + 32 * (FULL - 1), spoilt + 16 + 32 * (FULL - 2), 32); break;
     case 7: spoilt[8] = 3; break;
     }
     return first_len;
@@ -120,18 +130,18 @@ static size_t part(uint8_t *book, int from, int step)
 }
 
 /* Call i of `first` and `second`: the second's where it is of a later revision, withdrawn or contested; the first's where both are equal; neither where they are not. */
-static uint32_t stands(uint32_t i) { return i == FULL ? 0 : i % 7 == 0 || i % 2 == 1 ? 2 : i % 3 == 0 && i % 10 == 2 ? 0 : 1; }
+static uint32_t stands(uint32_t i) { return i == FULL ? 0 : i % 7 == 0 || i % 2 == 1 ? 2 : i % 3 == 0 && service_of(i) == 3 ? 0 : 1; }
 
 static void find(uint32_t number, const uint8_t *a, size_t a_len, const uint8_t *b, size_t b_len, uint32_t key, uint64_t where)
 {
-    WANT(number, nwb_find(a, a_len, b, b_len, (uint16_t)(key / 8 + 1), key, &offset));
+    WANT(number, nwb_find(a, a_len, b, b_len, member_of(key), key, &offset));
     WANT(number == 0 ? 0 : where, offset);
 }
 
 static void two_books(void)
 {
     static uint8_t odd[BOOK_MOST], even[BOOK_MOST], last[BOOK_MOST];
-    size_t odd_len = part(odd, 1, 2), even_len = part(even, 0, 2), last_len = part(last, 511, 1);
+    size_t odd_len = part(odd, 1, 2), even_len = part(even, 0, 2), last_len = part(last, FULL - 1, 1);
     WANT(0, nwb_join(first, first_len, first, first_len, out, sizeof out, &place, &length));
     WANT(0, nwb_join(first, first_len, second, second_len, out, 16 + 32 * FULL, &place, &length));
     WANT(0, nwb_join(second, second_len, first, first_len, out, sizeof out, &place, &length));
@@ -140,13 +150,27 @@ static void two_books(void)
     for (uint32_t n = 1; n <= 7; n++) {
         WANT(n, nwb_join(spoilt, spoil(n), second, second_len, out, sizeof out, &place, &length));
         WANT(n < 7 ? n + 20 : 7, nwb_join(first, first_len, spoilt, spoil(n), out, sizeof out, &place, &length));
-        WANT(0, nwb_find(spoilt, spoil(n), second, second_len, 64, 511, &offset));
-        WANT(0, nwb_find(first, first_len, spoilt, spoil(n), 64, 511, &offset));
+        WANT(0, nwb_find(spoilt, spoil(n), second, second_len, 64, FULL - 1, &offset));
+        WANT(0, nwb_find(first, first_len, spoilt, spoil(n), 64, FULL - 1, &offset));
     }
-    put_bytes(last + 16 + 4, UINT32_MAX, 4); /* a call more than 512 */
+    put_bytes(last + 16 + 4, UINT32_MAX, 4); /* a call more than 2,000 */
     WANT(8, nwb_join(first, first_len, last, last_len, out, sizeof out, &place, &length));
     WANT(9, nwb_join(first, first_len, second, second_len, out, 15 + 32 * FULL, &place, &length));
     WANT(9, nwb_join(odd, odd_len, even, even_len, NULL, 0, &place, &length));
+    /* A full book of version 1: with itself, and with one call more, into room for version 2 and for version 1 alone. */
+    static uint8_t small[BOOK_MOST_1];
+    size_t small_len = put_book(small, 1, 2026, 1, NULL, 0) + 32 * MOST_1;
+    memcpy(small + 16, first + 16, 32 * MOST_1);
+    put_bytes(small + 10, MOST_1, 2);
+    WANT(0, nwb_check(small, small_len, &place));
+    WANT(0, nwb_join(small, small_len, small, small_len, out, 16 + 32 * MOST_1, &place, &length));
+    WANT(1, out[4]);
+    last[4] = 1;
+    WANT(0, nwb_join(small, small_len, last, last_len, out, sizeof out, &place, &length));
+    WANT(2, out[4]);
+    WANT(9, nwb_join(small, small_len, last, last_len, out, 16 + 32 * MOST_1, &place, &length));
+    put_bytes(small + 10, MOST_1 + 1, 2);
+    WANT(4, nwb_check(small, small_len, &place));
     for (uint32_t i = 0; i <= FULL; i++) {
         find(stands(i), first, first_len, second, second_len, i, 16 + 32 * i);
         find(i == FULL ? 0 : i % 2 == 1 ? 1 : 2, odd, odd_len, even, even_len, i, 16 + 32 * (i / 2));
@@ -160,12 +184,12 @@ static size_t month_of(uint8_t *book, int n, uint8_t service)
 {
     for (int i = 0; i < n; i++)
         calls[i] = call_of(1, (uint32_t)i, service ? service : (uint8_t)(i % 10 + 1), (uint16_t)(15 * i));
-    return put_book(book, 1, 2026, 1, calls, (size_t)n);
+    return put_book_of(n > MOST_1 ? 2 : 1, book, 1, 2026, 1, calls, (size_t)n);
 }
 
 static void score(void)
 {
-    /* Each member of the first book has eight services in a row of the ten, so that every kind but coal has one that is not open to it. */
+    /* Each member of the first book has every service, so that every kind but coal has one that is not open to it. */
     for (unsigned kind = 0; kind <= 9; kind++)
         for (uint16_t member = 0; member <= 65; member++)
             WANT(kind == 0 || kind == 9 || member == 0 || member == 65 ? 10 : kind == 1 ? 0 : 12,

@@ -18,7 +18,8 @@ use Rattle.book.specs.Check.{refused, accepted, isMarked, isVersioned, i
 use Rattle.book.specs.Sound.{Known, Heading, CallsWithin, Sound, SaysSame}
 use Rattle.book.proofs.Turns.{counted}
 use Rattle.book.proofs.Lengths.{length-head, length-book}
-use Rattle.book.proofs.Heads.{month-most, known-most, marked-is, is-marked, versioned-is, is-versioned, headed-is, is-headed, header-back, count-back, mark-back, version-back, versioned-back, headed-back, head-again}
+use Rattle.book.proofs.Heads.{month-most, known-most, marked-is, is-marked, versioned-is, is-versioned, headed-is, is-headed}
+use Rattle.book.proofs.Heads.{header-back, count-back, mark-back, version-back, versioned-back, headed-back, head-again}
 use Rattle.book.proofs.Records.{calls-back, length-calls, records-accepted, records-sound}
 
 -- Reading what was written gives the same version, header and calls.
@@ -52,7 +53,8 @@ sound-accepted b s =
     let c : countAt w ≡ n = count-back v h n t (s .known) (s .few) in
     let l : length w ≡ sizeOf n = length-book v h cs in
     ap check (s .bytes)
-    ∙ counted w (omega arith) (is-marked w (mark-back v h n t)) (is-versioned w (versioned-back v h n t (s .known))) (is-headed w (headed-back v h n t (s .known) (s .heading) (s .few))) (l ∙ ap sizeOf (sym c))
+    ∙ counted w (omega arith) (is-marked w (mark-back v h n t)) (is-versioned w (versioned-back v h n t (s .known)))
+    (is-headed w (headed-back v h n t (s .known) (s .heading) (s .few))) (l ∙ ap sizeOf (sym c))
     ∙ ap₂ (λ (x : Header) (k : ℕ). checkRecords (headerMinutes x) w 0 0 k) (header-back v h n t (s .heading)) c
     ∙ records-accepted (headerMinutes h) 0 cs (headBytes v h n) 0 (month-most h) (s .within) (s .rising) (length-head v h n)
 

@@ -1,6 +1,7 @@
 -- The header: its test, and its sixteen bytes both ways. Assumes nothing.
 use mathlib.Core.Path.{_≡_, refl, sym, _∙_, ap}
-use mathlib.Core.Bool.{Bool, true}
+use mathlib.Core.Bool.{Bool, true, false, cond, _||_, true≢false}
+use mathlib.Core.Logic.{inl, inr}
 use mathlib.Core.List.{List, [], _∷_, _++_}
 use Prim.Native.Nat.{ℕ, _<_, _≤_}
 use native.Mathlib.Omega.{arith}
@@ -13,7 +14,8 @@ use Rattle.le.proofs.Tests.{each, all}
 use Rattle.units.specs.Month.{monthsPerYear, mostMinutes}
 use Rattle.units.proofs.Laws.{minutes-most}
 use Rattle.book.specs.declared.Header.{Header}
-use Rattle.book.specs.Book.{firstVersion, mostRecords, mostKeys, headerSize, mostArea, firstYear, lastYear, versionAt, headerAt, countAt, markBytes, dateBytes, countBytes, headBytes}
+use Rattle.book.specs.Book.{firstVersion, secondVersion, mostRecords, mostKeys, headerSize, mostArea, firstYear, lastYear}
+use Rattle.book.specs.Book.{versionAt, headerAt, countAt, markBytes, dateBytes, countBytes, headBytes}
 use Rattle.book.specs.Check.{isMarked, isKnown, isVersioned, headerIsSound, isHeaded, headerMinutes}
 use Rattle.book.specs.Sound.{Known, Heading}
 use Rattle.book.specs.Refusals.{Marked, Versioned, Headed}
@@ -27,30 +29,53 @@ month-most h = minutes-most (h .year) (h .month)
 
 pub known-is : (v : ℕ) → isKnown v ≡ true → Known v
 unfolding isKnown
-known-is v e = eqb-true _ _ e
+known-is v e = go (eqb v firstVersion) refl (eqb v secondVersion) refl
+  where
+    go : (t : Bool) → eqb v firstVersion ≡ t → (u : Bool) → eqb v secondVersion ≡ u → Known v
+    go true p u q = inl (eqb-true _ _ p)
+    go false p true q = inr (eqb-true _ _ q)
+    go false p false q = absurd (true≢false (sym (rw (p, q) at e)))
 
 pub is-known : (v : ℕ) → Known v → isKnown v ≡ true
 unfolding isKnown
-is-known v e = eq-eqb _ _ e
+is-known v (inl p) = rw (eq-eqb v firstVersion p) refl
+is-known v (inr p) = rw (eq-eqb v secondVersion p) (either (eqb v firstVersion))
+  where
+    either : (t : Bool) → (t || true) ≡ true
+    either true = refl
+    either false = refl
 
 -- no book of it has more records than any book may have, and its number is one of two bytes
 pub known-most : (v : ℕ) → Known v → mostRecords v ≤ mostKeys
 unfolding mostRecords
-known-most v k = omega arith
+known-most v k = go (eqb v firstVersion)
+  where
+    go : (t : Bool) → cond t 512 2000 ≤ mostKeys
+    go true = omega arith
+    go false = omega arith
 
 pub first-known : Known firstVersion
-first-known = refl
+first-known = inl refl
+
+pub second-known : Known secondVersion
+second-known = inr refl
 
 -- up to 512 records are a book of the first version, a book of one among them
 pub first-fits : (n : ℕ) → n ≤ 512 → n ≤ mostRecords firstVersion
 unfolding mostRecords
 first-fits n l = l
 
+-- up to the most that any book has are one of the second
+pub second-fits : (n : ℕ) → n ≤ mostKeys → n ≤ mostRecords secondVersion
+unfolding mostRecords
+second-fits n l = l
+
 pub first-some : 1 ≤ mostRecords firstVersion
 first-some = first-fits 1 (omega arith)
 
 known-short : (v : ℕ) → Known v → v < 65536
-known-short v k = omega arith
+known-short v (inl e) = omega arith
+known-short v (inr e) = omega arith
 
 -- The tests, exactly
 

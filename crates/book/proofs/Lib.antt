@@ -12,3 +12,4 @@ pub mod Writing
 pub mod Determined
 pub mod Example
 pub mod Without
+pub mod FirstEdition

@@ -1,23 +1,28 @@
 -- The call book: sixteen header bytes, then 32 for each call. Assumes nothing.
+use mathlib.Core.Bool.{cond}
 use mathlib.Core.List.{List, [], _∷_, _++_}
 use Prim.Native.Nat.{ℕ, zero, suc, _+_, _*_, _≤_}
+use lib.Dec.{eqb}
 use lib.ListN.{length}
 use Rattle.le.specs.Le.{leAt, leBytes}
 use Rattle.call.specs.declared.Call.{Call}
 use Rattle.call.specs.Layout.{recordSize, callAt, callBytes}
 use Rattle.book.specs.declared.Header.{Header}
 
--- the version of a book that the writers write
+-- the versions of a book: the first, which the writers write, and the second
 abbrev pub firstVersion : ℕ
 firstVersion = 1
 
--- the most records that a book of a version has: 512, and there is no version but the first
+abbrev pub secondVersion : ℕ
+secondVersion = 2
+
+-- the most records that a book of a version has: 512 of the first, 2,000 of the second
 unfoldable pub mostRecords : ℕ → ℕ
-mostRecords v = 512
+mostRecords v = cond (eqb v firstVersion) 512 2000
 
 -- the most records that any book has: so many different keys a join gives, and no more
 abbrev pub mostKeys : ℕ
-mostKeys = 512
+mostKeys = 2000
 
 -- the header is 16 bytes
 abbrev pub headerSize : ℕ

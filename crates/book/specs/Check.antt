@@ -1,5 +1,5 @@
 -- The check of a book, in the paper's order: 1 (under 16 bytes), 2, 3, 4, 1 (length), then record by record 5, 6. Assumes nothing.
-use mathlib.Core.Bool.{Bool, cond, not, _&&_}
+use mathlib.Core.Bool.{Bool, cond, not, _&&_, _||_}
 use mathlib.Core.List.{List}
 use Prim.Native.Nat.{ℕ, zero, suc}
 use lib.Dec.{eqb, ltb, leb}
@@ -13,7 +13,7 @@ use Rattle.book.specs.declared.Header.{Header}
 use Rattle.book.specs.declared.Opened.{Opened}
 use Rattle.book.specs.declared.RecordTurn.{RecordTurn}
 use Rattle.book.specs.declared.Verdict.{Verdict}
-use Rattle.book.specs.Book.{firstVersion, mostRecords, headerSize, sizeOf, placeOf, mostArea, firstYear, lastYear, versionAt, headerAt, countAt, recordAt}
+use Rattle.book.specs.Book.{firstVersion, secondVersion, mostRecords, headerSize, sizeOf, placeOf, mostArea, firstYear, lastYear, versionAt, headerAt, countAt, recordAt}
 
 -- a refusal gives number and place; accepted, both are 0
 abbrev pub refused : ℕ → ℕ → Verdict
@@ -28,7 +28,7 @@ isMarked b = eqb (getD b 0 0) 78 && eqb (getD b 1 0) 87 && eqb (getD b 2 0) 66
 
 -- 3: a version that is read
 unfoldable pub isKnown : ℕ → Bool
-isKnown v = eqb v firstVersion
+isKnown v = eqb v firstVersion || eqb v secondVersion
 
 unfoldable pub isVersioned : List ℕ → Bool
 isVersioned b = isKnown (versionAt b)

@@ -5,3 +5,4 @@ pub mod Refusals
 pub mod Write
 pub mod Inner
 pub mod Without
+pub mod FirstEdition

@@ -1,5 +1,6 @@
 -- What a sound book is: the bytes of a header and a list of calls within the paper's limits, keys rising. Assumes nothing.
 use mathlib.Core.Path.{_≡_}
+use mathlib.Core.Logic.{_⊎_}
 use mathlib.Core.List.{List, [], _∷_}
 use Prim.Native.Nat.{ℕ, suc, _≤_}
 use lib.ListN.{length}
@@ -8,12 +9,12 @@ use Rattle.call.specs.Key.{callKey}
 use Rattle.call.specs.Service.{CallWithin}
 use Rattle.book.specs.declared.Header.{Header}
 use Rattle.units.specs.Month.{monthsPerYear}
-use Rattle.book.specs.Book.{firstVersion, mostRecords, mostArea, firstYear, lastYear, headerAt, callsOf, bookBytes}
+use Rattle.book.specs.Book.{firstVersion, secondVersion, mostRecords, mostArea, firstYear, lastYear, headerAt, callsOf, bookBytes}
 use Rattle.book.specs.Check.{headerMinutes}
 
 -- a version that is read
 abbrev pub Known : ℕ → Type 0
-Known v = v ≡ firstVersion
+Known v = (v ≡ firstVersion) ⊎ (v ≡ secondVersion)
 
 -- area 1 to 99, year 2024 to 2099, month 1 to 12
 pub record Heading (h : Header) : Type 0 where

@@ -18,12 +18,16 @@ ghost use Rattle.book.specs.Inner.{wordLimit};
 
 pub mod write;
 
-// The bytes of a header, the version that the writers write, and the most records that any book may have.
+// The bytes of a header; the versions, of which the writers write the first; the most records that a book of the first may have, and the most that any may.
 pub const HEADER_SIZE: usize = 16;
 
 pub const FIRST_VERSION: u16 = 1;
 
-pub const MOST_RECORDS: usize = 512;
+pub const SECOND_VERSION: u16 = 2;
+
+const MOST_OF_FIRST: usize = 512;
+
+pub const MOST_RECORDS: usize = 2000;
 
 // The ranges of area and year.
 pub const MOST_AREA: u8 = 99;
@@ -55,6 +59,9 @@ pub fn refused(number: u32, place: usize) -> Verdict
 pub fn most_records(version: u16) -> usize
     ensures { λ r. ⌜ r ≡ mostRecords version ⌝ }
 {
+    if version == FIRST_VERSION {
+        return MOST_OF_FIRST;
+    }
     MOST_RECORDS
 }
 
@@ -118,7 +125,7 @@ fn is_marked(b: &[u8]) -> bool
 fn is_known(version: u16) -> bool
     ensures { λ r. ⌜ r ≡ isKnown version ⌝ }
 {
-    version == FIRST_VERSION
+    (version == FIRST_VERSION) | (version == SECOND_VERSION)
 }
 
 fn is_versioned(b: &[u8]) -> bool

@@ -12,6 +12,7 @@ use remark::away::not_open_text;
 use remark::bad::outside_text;
 use remark::bad::record_text;
 use remark::other::other_month_text;
+use text::record::book_text;
 use text::record::call_text;
 use text::record::found_text;
 use text::record::header_text;
@@ -199,6 +200,13 @@ pub fn put_none(page: &mut [u8], at: usize) -> usize {
 pub fn put_header(page: &mut [u8], at: usize, h: Header, calls: usize) -> usize {
     let mut line = io::buffer();
     let n = header_text(h, calls, &mut line);
+    say::add(page, at, &line[..n])
+}
+
+// The same of a book that is shown or written, with its version where that is the second.
+pub fn put_book(page: &mut [u8], at: usize, version: u16, h: Header, calls: usize) -> usize {
+    let mut line = io::buffer();
+    let n = book_text(version, h, calls, &mut line);
     say::add(page, at, &line[..n])
 }
 

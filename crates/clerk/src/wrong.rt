@@ -5,9 +5,10 @@ use book::HEADER_SIZE;
 use book::Header;
 use book::LAST_YEAR;
 use book::MOST_AREA;
-use book::MOST_RECORDS;
 use book::count_at;
 use book::header_at;
+use book::most_records;
+use book::version_at;
 use call::Call;
 use call::MOST_PARTICIPANT;
 use field::bad_field;
@@ -93,13 +94,14 @@ fn tell_bad_header(name: &[u8], book: &[u8]) {
         return;
     }
     let records = count_at(book);
-    if MOST_RECORDS < records {
+    let most = most_records(version_at(book));
+    if most < records {
         print::outside(
             name,
             b"the number of records",
             records as u64,
             0,
-            MOST_RECORDS as u64,
+            most as u64,
         );
         return;
     }
@@ -121,7 +123,10 @@ pub fn tell_book(name: &[u8], book: &[u8], number: u32, place: usize) {
     match number {
         1 => tell_size(name, book),
         2 => print::note(name, b"is no book: it does not begin with NWB"),
-        3 => print::note(name, b"is of a version that is not read here: version 1 is"),
+        3 => print::note(
+            name,
+            b"is of a version that is not read here: versions 1 and 2 are",
+        ),
         4 => tell_bad_header(name, book),
         5 => tell_field(name, book, place),
         6 => print::bad_record(

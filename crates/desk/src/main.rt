@@ -130,7 +130,7 @@ fn help_with() {
 }
 
 fn tell_version() {
-    say::text(b"desk 1.0, for books of version 1\n");
+    say::text(b"desk 1.0, for books of versions 1 and 2\n");
     print::done();
 }
 

@@ -26,9 +26,8 @@ use Rattle.rule.proofs.Without.{rule-find, rule-rises}
 use Rattle.join.specs.Joining.{keyCount}
 use Rattle.join.specs.Trees.{Plan, book, join, books, written, result, Room, OneMonth, Covers, versionOver}
 use Rattle.join.specs.Nothing.{AddsNothing}
-use Rattle.join.proofs.Trees.{same-month, month-sounds}
+use Rattle.join.proofs.Trees.{same-month, month-sounds, keys-of}
 use Rattle.join.proofs.Orders.{result-reads, result-sound, one-version}
-use Rattle.join.proofs.Without.{keys-of}
 use Rattle.join.proofs.Nothing.{rule-same}
 use Rattle.pair.specs.Screening.{passes, sameMonth, screen}
 use Rattle.pair.proofs.Screening.{screen-passes}

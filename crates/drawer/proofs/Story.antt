@@ -193,7 +193,17 @@ heads = record { area = (lit≤ tt, lit≤ tt); year = (lit≤ tt, lit≤ tt); m
 is-sound : Sound book
 unfolding book calls call
 is-sound =
-    record { version = firstVersion; header = february; calls = calls; known = first-known; heading = heads; few = first-fits _ (lit≤ tt); within = within; rising = (lit≤ tt, (lit≤ tt, (lit≤ tt, (lit≤ tt, tt)))); bytes = refl }
+    record {
+      version = firstVersion;
+      header = february;
+      calls = calls;
+      known = first-known;
+      heading = heads;
+      few = first-fits _ (lit≤ tt);
+      within = within;
+      rising = (lit≤ tt, (lit≤ tt, (lit≤ tt, (lit≤ tt, tt))));
+      bytes = refl;
+    }
 
 quarters : quartersOf (headerAt book .year) (headerAt book .month) ≡ 2688
 unfolding book calls february quartersOf daysOf isLeap

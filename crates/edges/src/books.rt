@@ -205,16 +205,16 @@ fn fill(b: &mut [u8], n: u16) {
     }
 }
 
-// A book of n records, sound up to 512 of them, with zeros behind it.
-fn stops(n: u16) -> [u8; 16432] {
-    let mut b = [0u8; 16432];
+// A book of n records, three at the most, with zeros behind it.
+fn stops(n: u16) -> [u8; 128] {
+    let mut b = [0u8; 128];
     put_header(&mut b, FIRST_VERSION, january(), n);
     fill(&mut b, n);
     b
 }
 
 // The sample, a book of three records in 112 bytes, with a byte replaced where the line says, from one of its numbers on.
-fn replaced(mut b: [u8; 16432], numbers: Numbers, from: usize) -> [u8; 16432]
+fn replaced(mut b: [u8; 128], numbers: Numbers, from: usize) -> [u8; 128]
     requires { ⌜ from ≤ 16 ⌝ }
 {
     let at = numbers.half(from) as usize;
@@ -224,7 +224,7 @@ fn replaced(mut b: [u8; 16432], numbers: Numbers, from: usize) -> [u8; 16432]
     b
 }
 
-fn spoilt(numbers: Numbers) -> [u8; 16432] {
+fn spoilt(numbers: Numbers) -> [u8; 128] {
     let one = replaced(stops(3), numbers, 1);
     let two = replaced(one, numbers, 3);
     replaced(two, numbers, 5)
@@ -276,11 +276,13 @@ fn room(numbers: Numbers) -> bool {
     (w.number as u64 == numbers.value(3)) & (out[63] == 7)
 }
 
-// 8 count | number: a book of so many records.
+// 8 version count | number: a book of a version and so many records, 2,001 at the most.
 fn many(numbers: Numbers) -> bool {
-    let n = numbers.half(1);
-    let b = stops(n);
-    first_is(&b, size_of(n as usize), numbers, 2)
+    let n = numbers.half(2);
+    let mut b = [0u8; 64048];
+    put_header(&mut b, numbers.half(1), january(), n);
+    fill(&mut b, n);
+    first_is(&b, size_of(n as usize), numbers, 3)
 }
 
 // How many numbers a case of each kind has.
@@ -293,7 +295,7 @@ fn how_many(kind: u64) -> usize {
         5 => 7,
         6 => 4,
         7 => 4,
-        8 => 3,
+        8 => 4,
         _ => 0,
     }
 }

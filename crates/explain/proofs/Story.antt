@@ -93,7 +93,17 @@ book = bookBytes firstVersion february calls
 is-sound : Sound book
 unfolding book calls call
 is-sound =
-    record { version = firstVersion; header = february; calls = calls; known = first-known; heading = heads; few = first-fits _ (lit≤ tt); within = within; rising = (lit≤ tt, (lit≤ tt, (lit≤ tt, (lit≤ tt, (lit≤ tt, tt))))); bytes = refl }
+    record {
+      version = firstVersion;
+      header = february;
+      calls = calls;
+      known = first-known;
+      heading = heads;
+      few = first-fits _ (lit≤ tt);
+      within = within;
+      rising = (lit≤ tt, (lit≤ tt, (lit≤ tt, (lit≤ tt, (lit≤ tt, tt)))));
+      bytes = refl;
+    }
 
 reads : (headerAt book ≡ february) × (callsOf book ≡ calls)
 unfolding book calls

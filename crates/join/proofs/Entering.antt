@@ -198,7 +198,8 @@ module _ (a : List ℕ) (sound : Sound a) (w : Call) (numbered : Numbered (w ∷
     unfolding one keys
     joins-where f r =
         ap (λ (b : List ℕ). joining b one out .number) (sound-again a sound)
-        ∙ ap (λ (o : JoinOutcome). o .number) (book-joined (headerAt a) heads (versionAt a) firstVersion (sound-known a sound) first-known (callsOf a) (w ∷ []) few first-some (sound-calls a sound) one-calls out f r)
+        ∙ ap (λ (o : JoinOutcome). o .number) (book-joined (headerAt a) heads (versionAt a) firstVersion (sound-known a sound) first-known (callsOf a) (w ∷ [])
+        few first-some (sound-calls a sound) one-calls out f r)
 
     where-joins : joining a one out .number ≡ 0 → (keys ≤ mostKeys) × (sizeOf keys ≤ length out)
     unfolding one keys
@@ -208,8 +209,16 @@ module _ (a : List ℕ) (sound : Sound a) (w : Call) (numbered : Numbered (w ∷
         is-zero e = ap (λ (o : JoinOutcome). o .number) (sym e) ∙ ap (λ (b : List ℕ). joining b one out .number) (sym (sound-again a sound)) ∙ z
 
         go : Dec (keys ≤ mostKeys) → Dec (sizeOf keys ≤ length out) → (keys ≤ mostKeys) × (sizeOf keys ≤ length out)
-        go (no f) r = absurd (omega (arith, is-zero (book-refused (headerAt a) heads (versionAt a) firstVersion (sound-known a sound) first-known (callsOf a) (w ∷ []) few first-some (sound-calls a sound) one-calls out (omega arith))))
-        go (yes f) (no r) = absurd (omega (arith, is-zero (book-short (headerAt a) heads (versionAt a) firstVersion (sound-known a sound) first-known (callsOf a) (w ∷ []) few first-some (sound-calls a sound) one-calls out f (omega arith))))
+        go (no f) r = absurd (omega (
+          arith,
+          is-zero (book-refused (headerAt a) heads (versionAt a) firstVersion (sound-known a sound) first-known (callsOf a) (w ∷ [])
+              few first-some (sound-calls a sound) one-calls out (omega arith)),
+        ))
+        go (yes f) (no r) = absurd (omega (
+          arith,
+          is-zero (book-short (headerAt a) heads (versionAt a) firstVersion (sound-known a sound) first-known (callsOf a) (w ∷ [])
+              few first-some (sound-calls a sound) one-calls out f (omega arith)),
+        ))
         go (yes f) (yes r) = (f, r)
 
   -- the record of a key, in the changed book

@@ -5,6 +5,7 @@ pub mod Copies
 pub mod Writes
 pub mod Versions
 pub mod Trees
+pub mod OneVersion
 pub mod Orders
 pub mod Accepted
 pub mod Entering
@@ -15,3 +16,4 @@ pub mod Without
 pub mod WithoutStory
 pub mod Nothing
 pub mod NothingStory
+pub mod FirstEdition

@@ -32,10 +32,9 @@ use Rattle.rule.proofs.Without.{find-other, find-gone}
 use Rattle.join.specs.Joining.{keyCount}
 use Rattle.join.specs.Trees.{Plan, written, result, Room, OneMonth, Covers, versionOver, ruleBook}
 use Rattle.join.specs.Nothing.{AddsNothing}
-use Rattle.join.proofs.Trees.{treeOf, covers-over, month-sounds}
+use Rattle.join.proofs.Trees.{treeOf, covers-over, month-sounds, keys-of}
 use Rattle.join.proofs.Orders.{calls, any-order, result-reads, result-sound, one-version}
-use Rattle.join.proofs.Versions.{head-version}
-use Rattle.join.proofs.Without.{keys-of}
+use Rattle.join.proofs.OneVersion.{head-version}
 
 -- a record that is above another of its key stands against it
 pub upper-stands : {m : ℕ} (x y : Call) → CallWithin m x → CallWithin m y → callKey x ≡ callKey y → Below y x → standing x y ≡ x

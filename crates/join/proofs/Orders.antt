@@ -24,7 +24,8 @@ use Rattle.rule.proofs.Whole.{number-of-keys}
 use Rattle.rule.proofs.Whole as whole-list
 use Rattle.join.specs.Joining.{keyCount}
 use Rattle.join.specs.Trees.{Plan, books, written, result, AllAccepted, Room, OneMonth, Covers, versionOver, ruleBook}
-use Rattle.join.proofs.Versions.{treeVersion, leaves-version, version-same}
+use Rattle.join.proofs.Versions.{treeVersion}
+use Rattle.join.proofs.OneVersion.{leaves-version, version-same}
 use Rattle.join.proofs.Trees.{book-sound, treeOf, covers-over, month-sounds, heading, tree-calls, tree-known, tree-few, Gives, gives, Ends, through, stops, ends}
 
 -- a tree's leaves are sound books of the month, as the books are that it covers
@@ -47,7 +48,7 @@ module _ (h : Header) (bs : List (List ℕ)) (month : OneMonth h bs) (p : Plan) 
 
   -- the version of every tree over the books is that over the whole list, and its calls are those of the rule
   pub tree-version : treeVersion p ≡ versionOver bs
-  tree-version = leaves-version p (of-leaves .sound) ∙ version-same (books p) bs (covers .only) (covers .all)
+  tree-version = leaves-version h p of-leaves ∙ version-same (books p) bs (covers .only) (covers .all)
 
   ruled : treeJoined (treeOf p) ≡ ruleCalls (map callsOf bs)
   ruled = whole-list.any-order (headerMinutes h) (treeOf p) (map callsOf bs) over sounds

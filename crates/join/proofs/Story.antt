@@ -18,19 +18,20 @@ use Rattle.call.specs.Revising.{callWithdrawn}
 use Rattle.call.specs.Service.{CallWithin}
 use Rattle.call.proofs.Exact.{sound-within}
 use Rattle.book.specs.declared.Header.{Header}
-use Rattle.book.specs.Book.{firstVersion, mostKeys, headerAt, countAt, callsOf, bookBytes}
+use Rattle.book.specs.Book.{firstVersion, mostKeys, versionAt, headerAt, countAt, callsOf, bookBytes}
 use Rattle.book.specs.Check.{headerMinutes}
 use Rattle.book.specs.Sound.{Heading, Sound}
-use Rattle.book.proofs.Heads.{first-known, first-some}
-use Rattle.book.proofs.Exact.{reads-back}
+use Rattle.book.proofs.Heads.{first-known, first-some, first-fits}
+use Rattle.book.proofs.Exact.{version-of, reads-back}
 use Rattle.book.proofs.Records.{length-calls}
 use Rattle.rule.specs.Standing.{isWithdrawn}
 use Rattle.rule.specs.Keys.{recordOf, put, putAll, differentKeys}
 use Rattle.rule.specs.Whole.{withdrawnAt}
 use Rattle.rule.proofs.Keyed.{find-hit}
 use Rattle.join.specs.Joining.{keyCount}
-use Rattle.join.specs.Trees.{Plan, book, join, books, written, result, AllAccepted, Room, OneMonth, Covers, ruleBook}
+use Rattle.join.specs.Trees.{Plan, book, join, books, written, result, AllAccepted, Room, OneMonth, Covers, versionOver, ruleBook}
 use Rattle.join.proofs.Trees.{book-sound}
+use Rattle.join.proofs.OneVersion.{stays-first}
 use Rattle.join.specs.Changing.{changing, recordAfter, had, withdrawnRevision}
 use Rattle.join.proofs.Entering.{change-accepted, revises, withdraws}
 use Rattle.join.proofs.Orders.{any-order, same-bytes, stays-withdrawn}
@@ -78,6 +79,10 @@ module _ (c : Call) (w : CallWithin (headerMinutes march) c) where
   pub one-sound : Sound (one c)
   unfolding one
   one-sound = book-sound firstVersion march (c ∷ []) first-known march-heads first-some (record { within = (w, tt); rises = (omega arith, tt) })
+
+  pub one-first : versionAt (one c) ≡ firstVersion
+  unfolding one
+  one-first = version-of firstVersion march (c ∷ []) first-known march-heads first-some
 
   pub one-reads : (headerAt (one c) ≡ march) × (callsOf (one c) ≡ c ∷ [])
   unfolding one
@@ -171,6 +176,13 @@ right-covers = record { all = λ b i. i; only = λ b i. i }
 pub few : keyCount three ≤ mostKeys
 unfolding three
 few = omega (arith, all-three)
+
+-- they are of the first version, and so is what they give
+pub three-first : versionOver three ≡ firstVersion
+unfolding three plant head-office spare
+three-first =
+    stays-first three (each (λ (b : List ℕ). versionAt b ≡ firstVersion) (one-first entered entered-within) (one-first withdrawal withdrawal-within) (one-first early early-within))
+    (first-fits (keyCount three) (omega (arith, all-three)))
 
 -- both groupings are accepted throughout, and give the book of the whole list
 pub left-book : AllAccepted left × (result left .number ≡ 0) × (written (result left) ≡ ruleBook march three)

@@ -22,6 +22,7 @@ use Rattle.rule.proofs.Merging.{join-long}
 use Rattle.rule.proofs.Bounds.{Calls, Sounds, tree-sound}
 use Rattle.rule.proofs.Orders.{Over}
 use Rattle.rule.proofs.Whole.{number-of-keys}
+use Rattle.rule.proofs.Without.{more-books}
 use Rattle.pair.specs.Screening.{sameMonth, screen}
 use Rattle.join.specs.Joining.{JoinOutcome, joinRefused, joinWrote, keyCount, keysOfBoth, joinedOf, pairVersion, joining}
 use Rattle.join.specs.Trees.{Plan, book, join, books, written, joinBoth, result, AllAccepted, Room, OneMonth, Covers}
@@ -89,7 +90,7 @@ module _ (h : Header) (g : Heading h) (v w : ℕ) (kv : Known v) (kw : Known w) 
 
 -- The tree over lists of calls
 
-pub treeOf : Plan → Tree
+unfoldable pub treeOf : Plan → Tree
 treeOf (book b) = leaf (callsOf b)
 treeOf (join l r out) = node (treeOf l) (treeOf r)
 
@@ -113,6 +114,13 @@ covers-over p bs c =
           Memᴰ·cast (sym (m .2)) (Memᴰ·map callsOf (c .only (m .0) (m .1)));
     }
 
+-- books that are all among others have no more different keys
+pub keys-of : (bs cs : List (List ℕ)) → ((b : List ℕ) → In b bs → In b cs) → keyCount bs ≤ keyCount cs
+unfolding keyCount
+keys-of bs cs h =
+    more-books (map callsOf bs) (map callsOf cs)
+    (λ d i. let m = Memᴰ·of-map callsOf bs i in Memᴰ·cast (sym (m .2)) (Memᴰ·map callsOf (h (m .0) (m .1))))
+
 own : (p : Plan) → Covers p (books p)
 own p = record { all = λ b i. i; only = λ b i. i }
 
@@ -123,11 +131,11 @@ module _ (h : Header) where
       let c = sound-calls (m .0) (o .sound (m .0) (m .1)) in
       rw (o .header (m .0) (m .1), m .2) at c
 
-  left-month : (l r : Plan) (out : List ℕ) → OneMonth h (books (join l r out)) → OneMonth h (books l)
+  pub left-month : (l r : Plan) (out : List ℕ) → OneMonth h (books (join l r out)) → OneMonth h (books l)
   unfolding books
   left-month l r out o = record { sound = λ b i. o .sound b (Memᴰ·append-left (books r) i); header = λ b i. o .header b (Memᴰ·append-left (books r) i) }
 
-  right-month : (l r : Plan) (out : List ℕ) → OneMonth h (books (join l r out)) → OneMonth h (books r)
+  pub right-month : (l r : Plan) (out : List ℕ) → OneMonth h (books (join l r out)) → OneMonth h (books r)
   unfolding books
   right-month l r out o = record { sound = λ b i. o .sound b (Memᴰ·append-right (books l) i); header = λ b i. o .header b (Memᴰ·append-right (books l) i) }
 
@@ -141,7 +149,7 @@ module _ (h : Header) where
   pub tree-calls : (p : Plan) → OneMonth h (books p) → Calls (headerMinutes h) (treeJoined (treeOf p))
   tree-calls p o = tree-sound (headerMinutes h) (treeOf p) (λ d i. month-sounds (books p) o d (covers-over p (books p) (own p) .only d i))
 
-  key-count : (p : Plan) → OneMonth h (books p) → length (treeJoined (treeOf p)) ≡ keyCount (books p)
+  pub key-count : (p : Plan) → OneMonth h (books p) → length (treeJoined (treeOf p)) ≡ keyCount (books p)
   unfolding keyCount
   key-count p o = number-of-keys (headerMinutes h) (treeOf p) (map callsOf (books p)) (covers-over p (books p) (own p)) (month-sounds (books p) o)
 

@@ -17,10 +17,11 @@ use Rattle.book.proofs.Without.{without-sound, without-reads, call-place}
 use Rattle.rule.specs.Keys.{differentKeys}
 use Rattle.rule.specs.Standing.{isWithdrawn}
 use Rattle.rule.specs.Whole.{ruleCalls}
-use Rattle.rule.proofs.Without.{rule-without, fewer-keys, more-books}
+use Rattle.rule.proofs.Without.{rule-without, fewer-keys}
 use Rattle.join.specs.Joining.{keyCount}
 use Rattle.join.specs.Trees.{Plan, book, join, books, written, result, Room, OneMonth, Covers}
 use Rattle.join.specs.Without.{planWithout}
+use Rattle.join.proofs.Trees.{keys-of}
 use Rattle.join.proofs.Orders.{result-reads, result-sound, stays-withdrawn}
 
 module _ (h : Header) (bs : List (List ℕ)) (month : OneMonth h bs) (k : ℕ) where
@@ -86,12 +87,6 @@ pub books-without : (k : ℕ) (p : Plan) → books (planWithout k p) ≡ map (bo
 unfolding books planWithout
 books-without k (book b) = refl
 books-without k (join l r out) = ap₂ (λ (x y : List (List ℕ)). x ++ y) (books-without k l) (books-without k r) ∙ sym (map-append k (books l) (books r))
-
-pub keys-of : (bs cs : List (List ℕ)) → ((b : List ℕ) → In b bs → In b cs) → keyCount bs ≤ keyCount cs
-unfolding keyCount
-keys-of bs cs h =
-    more-books (map callsOf bs) (map callsOf cs)
-    (λ d i. let m = Memᴰ·of-map callsOf bs i in Memᴰ·cast (sym (m .2)) (Memᴰ·map callsOf (h (m .0) (m .1))))
 
 part-month : (h : Header) (bs cs : List (List ℕ)) → ((b : List ℕ) → In b bs → In b cs) → OneMonth h cs → OneMonth h bs
 part-month h bs cs f o = record { sound = λ b i. o .sound b (f b i); header = λ b i. o .header b (f b i) }

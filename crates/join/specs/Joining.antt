@@ -1,12 +1,12 @@
 -- Joining two books of bytes: the first book's refusals, the second's, 7, 8, 9, else the joined book. Assumes nothing.
-use mathlib.Core.Bool.{cond}
+use mathlib.Core.Bool.{Bool, cond, _&&_}
 use mathlib.Core.List.{List, [], _∷_, _++_, map}
 use Prim.Native.Nat.{ℕ}
-use lib.Dec.{ltb}
+use lib.Dec.{eqb, ltb, leb}
 use lib.ListN.{length, drop}
 use Rattle.call.specs.declared.Call.{Call}
 use Rattle.book.specs.declared.Verdict.{Verdict}
-use Rattle.book.specs.Book.{firstVersion, mostKeys, sizeOf, versionAt, headerAt, callsOf, bookBytes}
+use Rattle.book.specs.Book.{firstVersion, secondVersion, mostRecords, mostKeys, sizeOf, versionAt, headerAt, callsOf, bookBytes}
 use Rattle.book.specs.Check.{refused, accepted}
 use Rattle.rule.specs.Keys.{differentKeys}
 use Rattle.rule.specs.Joined.{joinCalls}
@@ -55,9 +55,13 @@ overflow keys room =
 unfoldable pub joinedOf : List ℕ → List ℕ → List Call
 joinedOf first second = joinCalls (callsOf first) (callsOf second)
 
--- the version of what books of two versions give together, with so many keys: the first, and there is no other
+-- both books are of the first version, and there are no more keys than one of it has records
+abbrev pub staysFirst : ℕ → ℕ → ℕ → Bool
+staysFirst v w keys = eqb v firstVersion && eqb w firstVersion && leb keys (mostRecords firstVersion)
+
+-- the version of what books of two versions give together, with so many keys: the first exactly there, otherwise the second
 unfoldable pub pairVersion : ℕ → ℕ → ℕ → ℕ
-pairVersion v w keys = firstVersion
+pairVersion v w keys = cond (staysFirst v w keys) firstVersion secondVersion
 
 abbrev pub joinedVersion : List ℕ → List ℕ → ℕ
 joinedVersion first second = pairVersion (versionAt first) (versionAt second) (keysOfBoth first second)

@@ -5,3 +5,4 @@ pub mod Trees
 pub mod Changing
 pub mod Without
 pub mod Nothing
+pub mod FirstEdition

@@ -1,12 +1,12 @@
 -- Trees of joins over bytes: any order, any grouping, any repetition. Assumes nothing.
 use mathlib.Core.Path.{_≡_}
-use mathlib.Core.Bool.{cond}
+use mathlib.Core.Bool.{Bool, true, cond, _&&_}
 use mathlib.Core.List.{List, [], _∷_, _++_, map, List·Memᴰ as In}
 use Prim.Native.Nat.{ℕ, _≤_}
-use lib.Dec.{eqb}
+use lib.Dec.{eqb, leb}
 use lib.ListN.{length, take}
 use Rattle.book.specs.declared.Header.{Header}
-use Rattle.book.specs.Book.{firstVersion, mostKeys, sizeOf, headerAt, callsOf, bookBytes}
+use Rattle.book.specs.Book.{firstVersion, secondVersion, mostRecords, mostKeys, sizeOf, versionAt, headerAt, callsOf, bookBytes}
 use Rattle.book.specs.Sound.{Sound}
 use Rattle.rule.specs.Whole.{ruleCalls}
 use Rattle.join.specs.Joining.{JoinOutcome, lone, keyCount, joining}
@@ -54,9 +54,14 @@ pub record Covers (p : Plan) (bs : List (List ℕ)) : Type 0 where
   pub all : (b : List ℕ) → In b bs → In b (books p)
   pub only : (b : List ℕ) → In b (books p) → In b bs
 
--- the version over a whole list of books: the first, and there is no other
+-- every book of a list is of the first version
+unfoldable pub allFirst : List (List ℕ) → Bool
+allFirst [] = true
+allFirst (b ∷ bs) = eqb (versionAt b) firstVersion && allFirst bs
+
+-- the version over a whole list of books: the first exactly where every book is of it and the list has no more different keys than one of it has records
 unfoldable pub versionOver : List (List ℕ) → ℕ
-versionOver bs = firstVersion
+versionOver bs = cond (allFirst bs && leb (keyCount bs) (mostRecords firstVersion)) firstVersion secondVersion
 
 -- the book that the rule over the whole list gives
 unfoldable pub ruleBook : Header → List (List ℕ) → List ℕ

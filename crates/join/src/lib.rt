@@ -2,9 +2,11 @@
 use book::FIRST_VERSION;
 use book::HEADER_SIZE;
 use book::MOST_RECORDS;
+use book::SECOND_VERSION;
 use book::Verdict;
 use book::count_at;
 use book::header_at;
+use book::most_records;
 use book::refused;
 use book::size_of;
 use book::version_at;
@@ -274,7 +276,13 @@ fn put_records(first: &[u8], second: &[u8], out: &mut [u8]) -> usize
 fn pair_version(first: u16, second: u16, keys: usize) -> u16
     ensures { λ r. ⌜ r ≡ pairVersion first second keys ⌝ }
 {
-    FIRST_VERSION
+    if (first == FIRST_VERSION)
+        & (second == FIRST_VERSION)
+        & (keys <= most_records(FIRST_VERSION))
+    {
+        return FIRST_VERSION;
+    }
+    SECOND_VERSION
 }
 
 // The joined book: its records, and then the header, which has their number. The part of the output behind the header is lent

@@ -1,6 +1,9 @@
 // Books as files: checked, shown, joined, and one call looked up.
+use book::HEADER_SIZE;
+use book::SECOND_VERSION;
 use book::call_of;
 use book::header_of;
+use book::version_at;
 use call::RECORD_SIZE;
 use call::layout::call_at;
 use clerk::args::Held;
@@ -38,6 +41,12 @@ ghost use Rattle.book.specs.Check.{accepted, check};
 pub enum Key {
     Of(u16, u32),
     Nothing,
+}
+
+// The books that were read, joined, or nothing, and one line has said why; and whether one of those that were read is of the second version.
+pub struct Joined {
+    pub held: Held,
+    pub second: bool,
 }
 
 // Whether a file is one of those that arguments name: it is, it is none, or that is unknown since the one at a place cannot be looked at.
@@ -85,7 +94,7 @@ fn show(book: &[u8]) {
         return;
     }
     let mut page = io::large_buffer();
-    let at = print::put_header(&mut page, 0, o.header, o.calls);
+    let at = print::put_book(&mut page, 0, o.version, o.header, o.calls);
     let end = show_calls(book, o.calls, &mut page, at);
     print::finish(&mut page, end);
 }
@@ -118,7 +127,7 @@ fn tell_other_month(i: usize, one: &[u8], two: &[u8]) {
 fn tell_unjoined(i: usize, number: u32, one: &[u8], two: &[u8]) {
     match number {
         7 => tell_other_month(i, one, two),
-        8 => note_at(i, b"with it there would be more than 512 different calls"),
+        8 => note_at(i, b"with it there would be more than 2000 different calls"),
         _ => {}
     }
 }
@@ -135,30 +144,69 @@ pub fn join_bytes(i: usize, all: &mut [u8], n: usize, second: &[u8]) -> Held {
     keep(first(&out, w.length), all)
 }
 
+// Whether a book is of the second version.
+pub fn is_second(book: &[u8]) -> bool {
+    if book.len() < HEADER_SIZE {
+        return false;
+    }
+    version_at(book) == SECOND_VERSION
+}
+
+// No books: one line has said why.
+pub fn none_joined() -> Joined {
+    Joined {
+        held: Held::Nothing,
+        second: false,
+    }
+}
+
+// The book of argument i alone.
+fn join_first(i: usize, all: &mut [u8]) -> Joined {
+    let Held::Bytes(n) = open(i, all) else {
+        return none_joined();
+    };
+    let second = is_second(first(all, n));
+    Joined {
+        held: Held::Bytes(n),
+        second,
+    }
+}
+
 // The book of argument i joined to those before it.
-fn join_next(i: usize, all: &mut [u8], before: Held) -> Held {
-    let Held::Bytes(n) = before else {
-        return Held::Nothing;
+fn join_next(i: usize, all: &mut [u8], before: Joined) -> Joined {
+    let held = before.held;
+    let Held::Bytes(n) = held else {
+        return none_joined();
     };
-    let mut second = io::large_buffer();
-    let Held::Bytes(m) = open(i, &mut second) else {
-        return Held::Nothing;
+    let mut book = io::large_buffer();
+    let Held::Bytes(m) = open(i, &mut book) else {
+        return none_joined();
     };
-    join_bytes(i, all, n, first(&second, m))
+    let second = before.second | is_second(first(&book, m));
+    let held = join_bytes(i, all, n, first(&book, m));
+    Joined { held, second }
 }
 
 // All books that are named from argument `from` on, joined.
-pub fn join_all(from: usize, all: &mut [u8]) -> Held
+fn join_read(from: usize, all: &mut [u8]) -> Joined
     requires { ⌜ from < 10 ⌝ }
 {
     let count = os::arg_count();
-    let mut held = open(from, all);
+    let mut joined = join_first(from, all);
     let mut i = from + 1;
     while i < count {
-        held = join_next(i, all, held);
+        joined = join_next(i, all, joined);
         i += 1;
     }
-    held
+    joined
+}
+
+// The same, where nobody asks for the versions of those that were read.
+pub fn join_all(from: usize, all: &mut [u8]) -> Held
+    requires { ⌜ from < 10 ⌝ }
+{
+    let joined = join_read(from, all);
+    joined.held
 }
 
 // Call i of a sound book, on a page.
@@ -180,6 +228,28 @@ pub fn put_header(page: &mut [u8], at: usize, book: &[u8]) -> usize {
         return at;
     }
     print::put_header(page, at, o.header, o.calls)
+}
+
+// That the book which argument i names, and which is written now, is of the second version where none that was read is: on a page, before what stands in it.
+pub fn put_renewed(page: &mut [u8], i: usize, second: bool, book: &[u8]) -> usize {
+    if second | !is_second(book) {
+        return 0;
+    }
+    put_note_at(
+        page,
+        0,
+        i,
+        b"is of version 2 now, which programs of the old edition do not read",
+    )
+}
+
+// Whose month the book is of that was written, and how many calls it has, on a page.
+fn put_written(page: &mut [u8], at: usize, book: &[u8]) -> usize {
+    let o = header_of(book);
+    if o.number != 0 {
+        return at;
+    }
+    print::put_book(page, at, o.version, o.header, o.calls)
 }
 
 // Whether argument i names the file that is held, or one before it does. The first that cannot be looked at is kept.
@@ -213,19 +283,27 @@ fn named_in(hold: Hold, from: usize) -> Named
     named
 }
 
+// What the book has that argument i names and that was written, and `ok`.
+fn tell_joined(i: usize, second: bool, book: &[u8]) {
+    let mut page = io::buffer();
+    let note = put_renewed(&mut page, i, second, book);
+    let at = put_written(&mut page, note, book);
+    print::finish(&mut page, at);
+}
+
 // The books behind argument `out`, joined into the file that is held.
 fn join_held(hold: Hold, out: usize)
     requires { ⌜ out < 9 ⌝ }
 {
     let mut all = io::large_buffer();
-    let Held::Bytes(n) = join_all(out + 1, &mut all) else {
+    let joined = join_read(out + 1, &mut all);
+    let held = joined.held;
+    let Held::Bytes(n) = held else {
         files::release(hold);
         return;
     };
     if put(hold, out, first(&all, n)) {
-        let mut page = io::buffer();
-        let at = put_header(&mut page, 0, first(&all, n));
-        print::finish(&mut page, at);
+        tell_joined(out, joined.second, first(&all, n));
     }
 }
 

@@ -1,6 +1,10 @@
 // New books, and changes to one: each a book of one record, joined in. The file that is written is held from before the book is read until it is replaced.
+use crate::books::Joined;
 use crate::books::Key;
+use crate::books::is_second;
 use crate::books::join_bytes;
+use crate::books::none_joined;
+use crate::books::put_renewed;
 use crate::books::whose;
 use book::HEADER_SIZE;
 use book::Header;
@@ -222,19 +226,33 @@ fn is_in_month(wish: Wish, header: Header) -> bool {
     false
 }
 
+// The call joined into the book's first n bytes, which are sound and of a month.
+fn join_sound(
+    wish: Wish,
+    x: Call,
+    given: bool,
+    header: Header,
+    book: &mut [u8],
+    n: usize,
+) -> Joined {
+    let second = is_second(first(book, n));
+    let held = join_asked(wish, x, given, header, book, n);
+    Joined { held, second }
+}
+
 // The book that argument 3 names, with the call joined in.
-fn changed(wish: Wish, x: Call, given: bool, book: &mut [u8]) -> Held {
+fn changed(wish: Wish, x: Call, given: bool, book: &mut [u8]) -> Joined {
     let Held::Bytes(n) = load_at(BOOK, book) else {
-        return Held::Nothing;
+        return none_joined();
     };
     let o = opened_at(BOOK, first(book, n));
     if o.number != 0 {
-        return Held::Nothing;
+        return none_joined();
     }
     if !is_in_month(wish, o.header) {
-        return Held::Nothing;
+        return none_joined();
     }
-    join_asked(wish, x, given, o.header, book, n)
+    join_sound(wish, x, given, o.header, book, n)
 }
 
 // Whether the file that is held may be written: it is new, or it is the book that is read. Where it may not, one line has said why.
@@ -251,14 +269,19 @@ fn is_open(hold: Hold) -> bool {
     false
 }
 
-// What stands of the call now, and `ok`.
-fn tell_changed(old: Old) {
-    let Old::Stands(y) = old else {
-        print::done();
-        return;
-    };
+// What stands of the call now, on a page.
+fn put_old(page: &mut [u8], at: usize, old: Old) -> usize {
+    if let Old::Stands(y) = old {
+        return print::put_call(page, at, y);
+    }
+    at
+}
+
+// What stands of the call x in the book that was written, and `ok`.
+fn tell_changed(second: bool, book: &[u8], x: Call) {
     let mut page = io::buffer();
-    let at = print::put_call(&mut page, 0, y);
+    let note = put_renewed(&mut page, OUT, second, book);
+    let at = put_old(&mut page, note, old_of(book, x));
     print::finish(&mut page, at);
 }
 
@@ -273,12 +296,14 @@ fn apply(wish: Wish, x: Call, given: bool) {
         return;
     }
     let mut book = io::large_buffer();
-    let Held::Bytes(n) = changed(wish, x, given, &mut book) else {
+    let joined = changed(wish, x, given, &mut book);
+    let held = joined.held;
+    let Held::Bytes(n) = held else {
         files::release(hold);
         return;
     };
     if put(hold, OUT, first(&book, n)) {
-        tell_changed(old_of(first(&book, n), x));
+        tell_changed(joined.second, first(&book, n), x);
     }
 }
 

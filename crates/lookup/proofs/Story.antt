@@ -126,7 +126,8 @@ joins : joining plant head-office output .number ≡ 0
 unfolding plant head-office one entered withdrawal stop differentKeys putAll put
 joins =
     ap (λ (o : JoinOutcome). o .number)
-    (book-joined march march-heads firstVersion firstVersion first-known first-known (entered ∷ []) (withdrawal ∷ []) first-some first-some (calls entered-within) (calls withdrawal-within) output few room)
+    (book-joined march march-heads firstVersion firstVersion first-known first-known (entered ∷ []) (withdrawal ∷ []) first-some first-some
+    (calls entered-within) (calls withdrawal-within) output few room)
   where
     calls : {c : Call} → CallWithin (headerMinutes march) c → Calls (headerMinutes march) (c ∷ [])
     calls w = record { within = (w, tt); rises = (omega arith, tt) }

@@ -22,12 +22,12 @@ use Rattle.book.proofs.Exact.{sound-accepted}
 use Rattle.book.proofs.Records.{length-calls}
 use Rattle.rule.specs.Keys.{recordOf, also, put, putAll, differentKeys, recordsAt}
 use Rattle.rule.specs.Whole.{recordsOf, those, highest, withdrawnAt, ruling, ruleFor, ruleOver, ruleCalls}
-use Rattle.join.specs.Trees.{Plan, books, Room, Covers, versionOver, ruleBook}
+use Rattle.join.specs.Trees.{Plan, books, Room, Covers, ruleBook}
 use Rattle.join.specs.Without.{planWithout}
 use Rattle.join.proofs.Orders.{any-order}
 use Rattle.join.proofs.Without.{books-without, room-without}
 use Rattle.join.proofs.Story.{march, stop, entered, early, withdrawal, entered-within, early-within, withdrawal-within, one, one-sound, one-reads, plant, head-office, spare, three}
-use Rattle.join.proofs.Story.{one-month, few, left, right, left-room, right-room, left-covers, withdrawn-there}
+use Rattle.join.proofs.Story.{one-month, few, three-first, left, right, left-room, right-room, left-covers, withdrawn-there}
 use Rattle.join.proofs.NothingStory.{two, spare-month, spare-adds-nothing, without-spare, without-spare-room, without-spare-covers, left-covers-spare}
 use Rattle.join.proofs.NothingStory.{emptied, with-emptied, with-emptied-room, with-emptied-covers, few-first, early-there}
 use Rattle.join.proofs.NothingStory as spared
@@ -150,9 +150,9 @@ unfolding ruleCalls ruleOver ruleFor ruling recordsOf recordOf recordsAt also th
 rule-of-three x y z e f h = rw (e, f, h) refl
 
 joined-stop : ruleBook march three ≡ one withdrawal
-unfolding ruleBook versionOver one three plant head-office spare
+unfolding ruleBook one three plant head-office spare
 joined-stop =
-    ap (bookBytes firstVersion march)
+    ap₂ (λ (v : ℕ) (cs : List Call). bookBytes v march cs) three-first
     (rule-of-three _ _ _ (one-reads entered entered-within .1) (one-reads withdrawal withdrawal-within .1) (one-reads early early-within .1))
 
 -- Of a withdrawn stop nobody earns, of a live one its member earns 12,000,000 grains a kW

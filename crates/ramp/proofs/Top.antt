@@ -13,9 +13,9 @@ use Rattle.ramp.proofs.Bounds.{mostHour}
 abbrev pub mostHours : ℕ
 mostHours = 744
 
--- the most that 512 calls pay, with as many events' energy
+-- the most that 2,000 calls pay, with as many events' energy
 abbrev pub mostScore : ℕ
-mostScore = 512 * mostPay + 512 * mostMoved * 120000
+mostScore = 2000 * mostPay + 2000 * mostMoved * 120000
 
 -- each hour's grains are at most the most an hour pays
 abbrev pub EachHourMost : List ℕ → Type 0

@@ -63,7 +63,18 @@ low-of (p ∷ ps) h (suc i) = low-of ps (each (leb p mostOutput) (small ps ∷ [
 module _ (x : Call) (within : CallWithin (headerMinutes february) x) where
   is-sound : Sound (bookOf x)
   unfolding bookOf
-  is-sound = record { version = firstVersion; header = february; calls = x ∷ []; known = first-known; heading = heads; few = first-some; within = (within, tt); rising = (omega arith, tt); bytes = refl }
+  is-sound =
+      record {
+        version = firstVersion;
+        header = february;
+        calls = x ∷ [];
+        known = first-known;
+        heading = heads;
+        few = first-some;
+        within = (within, tt);
+        rising = (omega arith, tt);
+        bytes = refl;
+      }
 
   pub reads : (headerAt (bookOf x) ≡ february) × (callsOf (bookOf x) ≡ x ∷ [])
   unfolding bookOf

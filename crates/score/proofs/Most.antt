@@ -31,9 +31,9 @@ use Rattle.score.specs.Outcomes.{Ready, ScoreOutcome, bad-line, bad-book
 use Rattle.score.proofs.Checked.{all-sound, spans-month}
 use Rattle.score.proofs.Exact.{outcome}
 
--- 512 calls at the most that one pays, and as many events of 1,000,000,000 Wh at 120,000 grains each
+-- 2,000 calls at the most that one pays, and as many events of 1,000,000,000 Wh at 120,000 grains each
 abbrev pub mostScore : ℕ
-mostScore = 2109440000000000000
+mostScore = 8240000000000000000
 
 -- the most that one ramping hour pays, and the 744 hours of a month
 abbrev pub mostHour : ℕ

@@ -69,7 +69,17 @@ book = bookBytes firstVersion march (stop ∷ contest ∷ [])
 pub is-sound : Sound book
 unfolding book stop contest blank
 is-sound =
-    record { version = firstVersion; header = march; calls = stop ∷ contest ∷ []; known = first-known; heading = march-heads; few = first-fits _ (lit≤ tt); within = within; rising = (lit≤ tt, (lit≤ tt, tt)); bytes = refl }
+    record {
+      version = firstVersion;
+      header = march;
+      calls = stop ∷ contest ∷ [];
+      known = first-known;
+      heading = march-heads;
+      few = first-fits _ (lit≤ tt);
+      within = within;
+      rising = (lit≤ tt, (lit≤ tt, tt));
+      bytes = refl;
+    }
 
 reads : (headerAt book ≡ march) × (callsOf book ≡ stop ∷ contest ∷ [])
 unfolding book

@@ -6,7 +6,7 @@ use lib.ListN.{replicate}
 use Rattle.call.specs.declared.Call.{Call}
 use Rattle.call.specs.Revising.{withdrawn}
 use Rattle.book.specs.declared.Header.{Header}
-use Rattle.book.specs.Book.{firstVersion, mostRecords, mostKeys, sizeOf, bookBytes}
+use Rattle.book.specs.Book.{firstVersion, secondVersion, mostKeys, sizeOf, bookBytes}
 use Rattle.join.specs.Trees.{Plan, book, join}
 
 -- January 2026, area 1
@@ -23,17 +23,17 @@ unfoldable pub numbered : ℕ → ℕ → List Call
 numbered number zero = []
 numbered number (suc n) = gone number ∷ numbered (suc number) n
 
--- calls 0 to 511
+-- calls 0 to 1,999
 unfoldable pub manyCalls : List Call
-manyCalls = numbered 0 512
+manyCalls = numbered 0 2000
 
--- call 512
+-- call 2,000
 unfoldable pub lastCall : List Call
-lastCall = gone 512 ∷ []
+lastCall = numbered 2000 1
 
 -- the two books
 unfoldable pub full : List ℕ
-full = bookBytes firstVersion january manyCalls
+full = bookBytes secondVersion january manyCalls
 
 unfoldable pub oneMore : List ℕ
 oneMore = bookBytes firstVersion january lastCall

@@ -1,4 +1,5 @@
 pub mod Crowded
+pub mod Turning
 pub mod Worked
 pub mod Every
 pub mod Closing

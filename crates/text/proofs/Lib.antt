@@ -2,3 +2,4 @@ pub mod Names
 pub mod Statements
 pub mod ReadsBack
 pub mod Printed
+pub mod Books

@@ -5,6 +5,8 @@ use Prim.Native.Nat.{ℕ}
 use lib.Dec.{eqb, ltb}
 use Rattle.call.specs.declared.Call.{Call}
 use Rattle.call.specs.Revising.{live, contested}
+use Rattle.book.specs.Book.{secondVersion}
+use Rattle.book.specs.declared.Header.{Header}
 use Rattle.render.specs.Decimal.{word}
 use Rattle.form.specs.Form.{bits, flag}
 
@@ -86,6 +88,14 @@ callValues c =
 -- whose month a book is of, and how many calls it has
 abbrev pub headerForm : List ℕ
 headerForm = word "area %n year %n month %n calls %n\n"
+
+-- the same of a book that is shown or written, with its version where that is the second
+abbrev pub bookForm : List ℕ
+bookForm = word "area %n year %n month %n calls %n[ version 2]\n"
+
+-- its numbers, of a version, whose month and how many calls
+abbrev pub bookValues : ℕ → Header → ℕ → List ℕ
+bookValues version h calls = h .area ∷ h .year ∷ h .month ∷ calls ∷ flag (eqb version secondVersion) ∷ []
 
 -- a member's score
 abbrev pub scoreForm : List ℕ

@@ -26,10 +26,12 @@ pub const UNCHANGED: [u8; 13] = *b"unchanged %1\n";
 
 pub const NOT_HIGHER: [u8; 46] = *b"unchanged revision %n stands, give %n or more\n";
 
-// Records: a call, a book's header, a member's score.
+// Records: a call, a book's header, the same with its version, a member's score.
 pub const CALL: [u8; 125] =
     *b"[first ][second ]member %n call %n revision %n[ live %v start %n (%d) length %n (%l) a %i b %n c %n][ contested][ withdrawn]\n";
 
 pub const HEADER: [u8; 34] = *b"area %n year %n month %n calls %n\n";
+
+pub const BOOK: [u8; 46] = *b"area %n year %n month %n calls %n[ version 2]\n";
 
 pub const SCORE: [u8; 17] = *b"grains %n\nfen %n\n";

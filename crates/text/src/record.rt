@@ -1,8 +1,10 @@
 // What the desk prints of a call, a book's header and a member's score.
+use crate::forms::BOOK;
 use crate::forms::CALL;
 use crate::forms::HEADER;
 use crate::forms::SCORE;
 use book::Header;
+use book::SECOND_VERSION;
 use call::CONTESTED;
 use call::Call;
 use call::LIVE;
@@ -16,7 +18,7 @@ ghost use mathlib.Core.List.{[], _∷_};
 ghost use Rattle.io.specs.Counts.{Counts};
 ghost use Rattle.render.specs.Room.{Renders};
 ghost use Rattle.form.specs.Form.{flag, filled, mostOf};
-ghost use Rattle.text.specs.Forms.{callForm, callValues, headerForm, scoreForm};
+ghost use Rattle.text.specs.Forms.{callForm, callValues, headerForm, bookForm, bookValues, scoreForm};
 
 // A call, on one line, and whether the first of two books has it, or the second.
 fn say_call(first: u64, second: u64, x: Call, out: &mut [u8]) -> usize
@@ -76,6 +78,22 @@ pub fn header_text(h: Header, calls: usize, out: &mut [u8]) -> usize
         &[h.area as u64, h.year as u64, h.month as u64, calls as u64],
         out,
     )
+}
+
+// The same of a book that is shown or written, with its version where that is the second.
+pub fn book_text(version: u16, h: Header, calls: usize, out: &mut [u8]) -> usize
+    ensures { λ r. ⌜ Renders (mostOf bookForm) (filled bookForm (bookValues version h calls)) (now (out .entry)) (now (out .exit)) r ⌝ }
+    ensures { λ r. ⌜ Counts r (now (out .exit)) ⌝ }
+{
+    let second = flag(version == SECOND_VERSION);
+    let values = [
+        h.area as u64,
+        h.year as u64,
+        h.month as u64,
+        calls as u64,
+        second,
+    ];
+    say(&BOOK, &values, out)
 }
 
 // A member's score.

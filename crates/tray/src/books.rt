@@ -138,7 +138,7 @@ fn tell_unjoined(i: usize, number: u32, place: usize, one: &[u8], two: &[u8]) {
         tell_other_month(i, one, two);
     }
     if number == 8 {
-        note_at(i, b"with it there would be more than 512 different calls");
+        note_at(i, b"with it there would be more than 2000 different calls");
     }
     note_refused_at(i, number, place);
 }

@@ -2,17 +2,17 @@ use mathlib.Core.Path.{_≡_}
 use Prim.Native.Nat.{_-_}
 use lib.ListN.{length}
 use borrow.Author.Needs.{needs}
-use Rattle.ledger.proofs.books.join_all.Statement.{statement}
-use Rattle.ledger.proofs.books.join_all.Tie as tie
+use Rattle.ledger.proofs.books.join_read.Statement.{statement}
+use Rattle.ledger.proofs.books.join_read.Tie as tie
 
 abbrev Inv-loop : tie.InvT-loop
-Inv-loop from all₀ count held₀ i₀ all held i = length all ≡ length all₀
+Inv-loop from all₀ count joined₀ i₀ all joined i = length all ≡ length all₀
 
 abbrev μ-loop : tie.MeasureT-loop
-μ-loop from all₀ count held₀ i₀ all held i = count - i
+μ-loop from all₀ count joined₀ i₀ all joined i = count - i
 
-pub join-all-spec : {M : Type 1} → statement M
-join-all-spec =
+pub join-read-spec : {M : Type 1} → statement M
+join-read-spec =
     tie.close
     (tie.spec
     Inv-loop
