@@ -2,6 +2,7 @@ pub mod First
 pub mod Checked
 pub mod Turns
 pub mod Energy
+pub mod Ends
 pub mod Parts
 pub mod Own
 pub mod Exact

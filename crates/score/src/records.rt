@@ -2,17 +2,17 @@
 ghost use mathlib.Core.Path.{_≡_};
 ghost use mathlib.Core.Bool.{true, false};
 ghost use mathlib.Core.List.{List};
-ghost use Prim.Native.Nat.{ℕ, _<_, _≤_};
+ghost use Prim.Native.Nat.{ℕ, _+_, _<_, _≤_};
 ghost use lib.ListN.{length};
 ghost use Rattle.book.specs.Book.{HasRecord, sizeOf, recordAt};
 ghost use Rattle.pay.specs.declared.open.Month.{Month as MonthOf};
 ghost use Rattle.pay.specs.Inner.{isByEnergy};
 ghost use Rattle.score.specs.Scoring.{isOwnLive, recordsEarned};
-ghost use Rattle.score.specs.Inner.{Small, RecordIsSound, NoneBefore, ScoreTurned};
+ghost use Rattle.score.specs.Inner.{Small, RecordIsSound, NoneBefore, EndsKept, ScoreTurned};
 use crate::answer::Earned;
 use crate::refusal::first_own;
 use crate::refusal::idle_refusal;
-use crate::refusal::refusal_at;
+use crate::refusal::refusal_by_ends;
 use book::record_at;
 use call::Call;
 use call::LIVE;
@@ -56,7 +56,7 @@ fn energy_turn(member: Member, b: &[u8], i: usize) -> ScoreTurn
     }
 }
 
-// Any other live call of the member.
+// Any other live call of the member; `ends` as in turn_of.
 fn live_turn(
     month: Month,
     member: Member,
@@ -64,17 +64,20 @@ fn live_turn(
     first: usize,
     i: usize,
     series: &[u32],
+    ends: &mut [u32; 5],
 ) -> ScoreTurn
     requires { ⌜ Small member (now series) ⌝ }
     requires { ⌜ HasRecord (now b) i ⌝ }
     requires { ⌜ RecordIsSound (now b) (now series) i ⌝ }
     requires { ⌜ NoneBefore (member .number) (recordAt (now b)) first ⌝ }
+    requires { ⌜ EndsKept (member .number) (recordAt (now b)) i (now ends) ⌝ }
     requires { ⌜ isOwnLive member (recordAt (now b) i) ≡ true ⌝ }
     requires { ⌜ isByEnergy (member .kind) (recordAt (now b) i) ≡ false ⌝ }
     ensures { λ r. ⌜ ScoreTurned month member (now (series .entry)) (recordAt (now (b .entry))) i (r .number) (r .grains .0) (r .wh .0) ⌝ }
+    ensures { λ r. ⌜ (r .number ≡ 0 → EndsKept (member .number) (recordAt (now (b .entry))) (i + 1) (now (ends .exit))) ⌝ }
 {
     let x = record_at(b, i);
-    let number = refusal_at(month, member, b, first, i, x);
+    let number = refusal_by_ends(month, member, b, first, i, x, ends);
     if number != 0 {
         return ScoreTurn {
             number,
@@ -90,7 +93,8 @@ fn live_turn(
     }
 }
 
-// Record i's turn; no record before `first` is the member's.
+// Record i's turn; no record before `first` is the member's. `ends` are the latest ends of those before i and then, unless it is refused,
+// of record i too.
 fn turn_of(
     month: Month,
     member: Member,
@@ -98,12 +102,15 @@ fn turn_of(
     first: usize,
     i: usize,
     series: &[u32],
+    ends: &mut [u32; 5],
 ) -> ScoreTurn
     requires { ⌜ Small member (now series) ⌝ }
     requires { ⌜ HasRecord (now b) i ⌝ }
     requires { ⌜ RecordIsSound (now b) (now series) i ⌝ }
     requires { ⌜ NoneBefore (member .number) (recordAt (now b)) first ⌝ }
+    requires { ⌜ EndsKept (member .number) (recordAt (now b)) i (now ends) ⌝ }
     ensures { λ r. ⌜ ScoreTurned month member (now (series .entry)) (recordAt (now (b .entry))) i (r .number) (r .grains .0) (r .wh .0) ⌝ }
+    ensures { λ r. ⌜ (r .number ≡ 0 → EndsKept (member .number) (recordAt (now (b .entry))) (i + 1) (now (ends .exit))) ⌝ }
 {
     let x = record_at(b, i);
     if !is_own_live(member, x) {
@@ -117,7 +124,7 @@ fn turn_of(
     if is_by_energy(member, x) {
         return energy_turn(member, b, i);
     }
-    live_turn(month, member, b, first, i, series)
+    live_turn(month, member, b, first, i, series, ends)
 }
 
 // One pass over the records, from the member's first on. Watt-hours are summed with their sign, and clamped at zero once, at the end.
@@ -137,9 +144,10 @@ pub fn records_earned(
     let first = first_own(b, count, member.number);
     let mut grains: u64 = 0;
     let mut wh = Wh(0);
+    let mut ends = [0u32; 5];
     let mut i = first;
     while i < count {
-        let t = turn_of(month, member, b, first, i, series);
+        let t = turn_of(month, member, b, first, i, series, &mut ends);
         let number = t.number;
         if number != 0 {
             return Earned::Refused(number, i);

@@ -1,12 +1,12 @@
 // Refusals 14, 12 and 13 of one record.
 ghost use mathlib.Core.Path.{_≡_};
 ghost use mathlib.Core.Bool.{true};
-ghost use Prim.Native.Nat.{_≤_};
+ghost use Prim.Native.Nat.{_+_, _≤_};
 ghost use lib.ListN.{length};
 ghost use Rattle.book.specs.Book.{sizeOf, recordAt};
 ghost use Rattle.score.specs.Refusing.{overlaps, isOnce, clashes, clashBefore, firstOwn, numberOf, refusalAt};
 ghost use Rattle.score.specs.Scoring.{isOwnLive};
-ghost use Rattle.score.specs.Inner.{NoneBefore, idleRefusal};
+ghost use Rattle.score.specs.Inner.{NoneBefore, idleRefusal, later, EndsKept, withEnd, startsAfter};
 use book::record_at;
 use call::CONTESTED;
 use call::Call;
@@ -89,6 +89,52 @@ fn clash_before(b: &[u8], first: usize, i: usize, number: u16, x: Call) -> bool
     false
 }
 
+// The later of two minutes.
+fn later(from: u32, to: u32) -> u32
+    ensures { λ r. ⌜ r ≡ later from to ⌝ }
+{
+    if from < to { to } else { from }
+}
+
+// Whether x, of a service whose calls may not overlap, starts no earlier than the latest end of its service; its own end is then among
+// the ends. They stand at the numbers of services 1 to 4, so that none is searched for; no call has service 0.
+fn starts_after(x: Call, ends: &mut [u32; 5]) -> bool
+    ensures { λ r. ⌜ r ≡ startsAfter x (now (ends .entry)) ⌝ }
+    ensures { λ _. ⌜ now (ends .exit) ≡ withEnd x (now (ends .entry)) ⌝ }
+{
+    if STANDBY < x.service {
+        return false;
+    }
+    let service = x.service as usize;
+    let start = x.start as u32;
+    let end = start + x.length as u32;
+    let latest = ends[service];
+    ends[service] = later(latest, end);
+    latest <= start
+}
+
+// As clash_before, and the end of x is then among the latest ends. For speed earlier records are not searched where x starts no earlier
+// than the latest end of its service, as it then overlaps none: of calls in the order of time none is searched for.
+fn clash_by_ends(
+    b: &[u8],
+    first: usize,
+    i: usize,
+    number: u16,
+    x: Call,
+    ends: &mut [u32; 5],
+) -> bool
+    requires { ⌜ sizeOf i ≤ length (now b) ⌝ }
+    requires { ⌜ NoneBefore number (recordAt (now b)) first ⌝ }
+    requires { ⌜ EndsKept number (recordAt (now b)) i (now ends) ⌝ }
+    ensures { λ r. ⌜ r ≡ clashBefore number x (recordAt (now (b .entry))) i ⌝ }
+    ensures { λ _. ⌜ now (ends .exit) ≡ withEnd x (now (ends .entry)) ⌝ }
+{
+    if starts_after(x, ends) {
+        return false;
+    }
+    clash_before(b, first, i, number, x)
+}
+
 // 12 is asked before 13.
 fn number_of(fit: bool, clash: bool) -> u32
     ensures { λ r. ⌜ r ≡ numberOf fit clash ⌝ }
@@ -123,4 +169,32 @@ pub fn refusal_at(month: Month, member: Member, b: &[u8], first: usize, i: usize
     let fit = open_to(month, member, x);
     let clash = clash_before(b, first, i, member.number, x);
     number_of(fit, clash)
+}
+
+// As refusal_at, on a walk over the records that keeps the latest ends: at first of the records before i and then, unless x is refused,
+// of record i too. For speed 12 leaves at once, so that nothing is kept over the search.
+pub fn refusal_by_ends(
+    month: Month,
+    member: Member,
+    b: &[u8],
+    first: usize,
+    i: usize,
+    x: Call,
+    ends: &mut [u32; 5],
+) -> u32
+    requires { ⌜ sizeOf i ≤ length (now b) ⌝ }
+    requires { ⌜ x ≡ recordAt (now b) i ⌝ }
+    requires { ⌜ NoneBefore (member .number) (recordAt (now b)) first ⌝ }
+    requires { ⌜ isOwnLive member x ≡ true ⌝ }
+    requires { ⌜ EndsKept (member .number) (recordAt (now b)) i (now ends) ⌝ }
+    ensures { λ r. ⌜ r ≡ refusalAt month member (recordAt (now (b .entry))) i ⌝ }
+    ensures { λ r. ⌜ (r ≡ 0 → EndsKept (member .number) (recordAt (now (b .entry))) (i + 1) (now (ends .exit))) ⌝ }
+{
+    if !open_to(month, member, x) {
+        return 12;
+    }
+    if clash_by_ends(b, first, i, member.number, x, ends) {
+        return 13;
+    }
+    0
 }

@@ -7,6 +7,7 @@ use Rattle.pay.specs.Inner.{isByEnergy}
 use Rattle.score.specs.Scoring.{isOwnLive}
 use Rattle.score.proofs.Turns.{state-low}
 use Rattle.score.proofs.Energy.{idle-turned}
+use Rattle.score.proofs.Ends.{kept-idle, kept-event}
 use borrow.Author.Needs.{needs}
 use Rattle.score.proofs.records.turn_of.Statement.{statement}
 use Rattle.score.proofs.records.turn_of.Tie as tie
@@ -29,21 +30,28 @@ returns : tie.Need-returns
 returns c =
     let s = c .before .before .before .before .before .before in
     let a = s .args in
-    let o = c .before .before .is-own-live in
-    idle-turned (a .month) (a .member) (a .series .now) (recordAt (a .b .now)) (a .i) (state-low _ _ (s .pre .1 .1 .0))
-    (sym (own (c .before .before)) ∙ not-true (o .result) (c .before .if1 .taken)) _
-    (rw (← c .before .before .before .record-at .ensures) (c .idle-refusal .ensures))
+    let o = sym (own (c .before .before)) ∙ not-true (c .before .before .is-own-live .result) (c .before .if1 .taken) in (
+      idle-turned (a .month) (a .member) (a .series .now) (recordAt (a .b .now)) (a .i) (state-low _ _ (s .pre .1 .1 .0)) o _
+          (rw (← c .before .before .before .record-at .ensures) (c .idle-refusal .ensures)),
+      λ z. kept-idle (a .member) (recordAt (a .b .now)) (a .i) (a .ends .now) (s .pre .1 .1 .1 .1) o,
+    )
 
 energy-turn-requires : tie.Need-energy-turn-requires
 energy-turn-requires c κs = (c .before .before .before .before .before .before .before .pre .1 .0, (is-own (c .before .before), sym (energy (c .before)) ∙ c .if2 .taken))
 
 returns-2 : tie.Need-returns-2
-returns-2 c = let a = c .before .before .before .before .before .before .before .before .args in c .energy-turn .ensures (a .month) (a .series .now)
+returns-2 c =
+    let s = c .before .before .before .before .before .before .before .before in
+    let a = s .args in (
+      c .energy-turn .ensures (a .month) (a .series .now),
+      λ z. kept-event (a .member) (recordAt (a .b .now)) (a .i) (a .ends .now) (s .pre .1 .1 .1 .1) (sym (energy (c .before .before)) ∙ c .before .if2 .taken),
+    )
 
 live-turn-requires : tie.Need-live-turn-requires
 live-turn-requires c κs =
-    let p = c .before .before .before .before .before .before .before .pre in
-    (p .0, (p .1 .0, (p .1 .1 .0, (p .1 .1 .1, (is-own (c .before .before), sym (energy (c .before)) ∙ c .if2 .left)))))
+    let e = c .before in
+    let p = e .before .before .before .before .before .before .before .pre in
+    (p .0, (p .1 .0, (p .1 .1 .0, (p .1 .1 .1 .0, (p .1 .1 .1 .1, (is-own (e .before .before), sym (energy (e .before)) ∙ e .if2 .left))))))
 
 pub turn-of-spec : {M : Type 1} → statement M
 turn-of-spec =
