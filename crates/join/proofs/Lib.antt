@@ -1,6 +1,8 @@
+pub mod Turns
 pub mod WaysOut
 pub mod Steps
 pub mod Books
+pub mod Taken
 pub mod Copies
 pub mod Writes
 pub mod Versions

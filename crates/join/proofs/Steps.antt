@@ -1,4 +1,4 @@
--- One step of a join, the run of steps, and the rest of a book behind it. Assumes nothing.
+-- What is left of a book, and the count of different keys: a step for each key while both books have records, and then the rest of one. Assumes nothing.
 use mathlib.Core.Path.{_≡_, refl, sym, _∙_, ap, ap₂}
 use mathlib.Core.Bool.{Bool, true, false, _&&_}
 use mathlib.Core.Logic.{_⊎_, inl, inr}
@@ -37,22 +37,20 @@ use Rattle.rule.proofs.Merging.{
   merge-eq,
   merge-joins,
 }
-use Rattle.join.specs.declared.Next.{Next}
-use Rattle.join.specs.declared.Reached.{Reached}
 use Rattle.pair.specs.Screening.{IsAccepted}
 use Rattle.join.specs.Joining.{keyCount, keysOfBoth, joinedOf}
-use Rattle.join.specs.Steps.{leftOf, KeySettled, lower, upper, equal, KeyPut, Merged}
+use Rattle.join.specs.Steps.{leftOf, KeySettled, lower, upper, equal}
 use Rattle.join.proofs.Books.{keys-rise}
 
 -- What is left of a book
 
-left-cons : (b : List ℕ) (n i : ℕ) → i < n → leftOf b n i ≡ recordAt b i ∷ leftOf b n (i + 1)
+pub left-cons : (b : List ℕ) (n i : ℕ) → i < n → leftOf b n i ≡ recordAt b i ∷ leftOf b n (i + 1)
 unfolding leftOf callsFrom
 left-cons b n i h =
     let e : n - i ≡ suc (n - (i + 1)) = omega arith in
     ap (callsFrom b i) e ∙ ap (λ (k : ℕ). recordAt b i ∷ callsFrom b k (n - (i + 1))) (omega arith)
 
-left-end : (b : List ℕ) (n i : ℕ) → n ≤ i → leftOf b n i ≡ []
+pub left-end : (b : List ℕ) (n i : ℕ) → n ≤ i → leftOf b n i ≡ []
 unfolding leftOf callsFrom
 left-end b n i h = let e : n - i ≡ 0 = omega arith in ap (callsFrom b i) e
 
@@ -65,7 +63,7 @@ unfolding merge
 merge-none xs = refl
 
 -- a merge has at most the records of both lists
-merges-short : {xs ys zs : List Call} → Merges xs ys zs → length zs ≤ length xs + length ys
+pub merges-short : {xs ys zs : List Call} → Merges xs ys zs → length zs ≤ length xs + length ys
 merges-short gives-second = omega arith
 merges-short gives-first = omega arith
 merges-short (gives-lower h j) = let i = merges-short j in omega arith
@@ -170,8 +168,8 @@ further (lower h e f g) = omega arith
 further (upper h e f g) = omega arith
 further (equal h e f g) = omega arith
 
--- The run: so many keys are settled, their records are `done`, and the rest is the join of what is left
-pub record Run (s : List ℕ) (n : ℕ) (t : List ℕ) (m a b k : ℕ) : Type 0 where
+-- So many keys are settled, their records are `done`, and the rest is the join of what is left
+pub record Counting (s : List ℕ) (n : ℕ) (t : List ℕ) (m a b k : ℕ) : Type 0 where
   pub first : ℕ
   pub second : ℕ
   pub at-first : a ≡ sizeOf first
@@ -183,11 +181,11 @@ pub record Run (s : List ℕ) (n : ℕ) (t : List ℕ) (m a b k : ℕ) : Type 0 
   pub count : k ≡ length done
   pub joins : done ++ merge (leftOf s n first) (leftOf t m second) ≡ merge (leftOf s n 0) (leftOf t m 0)
 
-pub start : (s : List ℕ) (n : ℕ) (t : List ℕ) (m : ℕ) → Run s n t m 16 16 0
+pub start : (s : List ℕ) (n : ℕ) (t : List ℕ) (m : ℕ) → Counting s n t m 16 16 0
 start s n t m =
     record { first = 0; second = 0; at-first = refl; at-second = refl; in-first = omega arith; in-second = omega arith; few = omega arith; done = []; count = refl; joins = refl }
 
-module _ {s : List ℕ} {n : ℕ} {t : List ℕ} {m a b k : ℕ} (g : Run s n t m a b k) where
+module _ {s : List ℕ} {n : ℕ} {t : List ℕ} {m a b k : ℕ} (g : Counting s n t m a b k) where
   pub stepped : {p q : ℕ} {z : Call} → a < sizeOf n → b < sizeOf m → KeySettled (callAt s a) (callAt t b) a b p q z
       → Stepped s n (g .first) t m (g .second) p q z
   unfolding recordAt
@@ -196,16 +194,7 @@ module _ {s : List ℕ} {n : ℕ} {t : List ℕ} {m a b k : ℕ} (g : Run s n t 
       let f = g .at-second in
       step s n (g .first) t m (g .second) (omega arith) (omega arith) (rw (e, f) at d)
 
-  -- the next record has its place
-  pub room : a < sizeOf n → b < sizeOf m → k < length (merge (leftOf s n 0) (leftOf t m 0))
-  room h l =
-      let e = g .at-first in
-      let f = g .count in
-      let rest = merge (leftOf s n (g .first)) (leftOf t m (g .second)) in
-      let some = merges-long (merges (leftOf s n (g .first)) (leftOf t m (g .second))) in
-      omega (arith, ap length (g .joins), length-append (g .done) rest, length-left s n (g .first))
-
-  pub again : {p q : ℕ} {z : Call} → Stepped s n (g .first) t m (g .second) p q z → Run s n t m p q (k + 1)
+  pub again : {p q : ℕ} {z : Call} → Stepped s n (g .first) t m (g .second) p q z → Counting s n t m p q (k + 1)
   again {p} {q} {z} d =
       let f = g .count in
       record {
@@ -243,8 +232,8 @@ one-over a e b f h = go (ltb a e) refl h
     go true p q = inr (ltb-false b f q)
     go false p q = inl (ltb-false a e p)
 
--- the keys of a run, and what is left of both books
-pub counts-all : {s t : List ℕ} {a b k e f : ℕ} → IsAccepted s → IsAccepted t → Run s (countAt s) t (countAt t) a b k
+-- the keys that are counted, and what is left of both books
+pub counts-all : {s t : List ℕ} {a b k e f : ℕ} → IsAccepted s → IsAccepted t → Counting s (countAt s) t (countAt t) a b k
     → e ≡ sizeOf (countAt s) → f ≡ sizeOf (countAt t) → (ltb a e && ltb b f) ≡ false → k + (e - a) / 32 + (f - b) / 32 ≡ keysOfBoth s t
 counts-all {s} {t} {a} {b} {k} {e} {f} ps pt g p q h = go (one-over a e b f h)
   where
@@ -270,146 +259,3 @@ counts-all {s} {t} {a} {b} {k} {e} {f} ps pt g p q h = go (one-over a e b f h)
         ends : (e ≤ a) ⊎ (f ≤ b) → (countAt s ≤ g .first) ⊎ (countAt t ≤ g .second)
         ends (inl z) = let x = g .at-first in inl (omega arith)
         ends (inr z) = let y = g .at-second in inr (omega arith)
-
--- Records behind records
-
-record-append : (cs ds : List Call) → recordBytes (cs ++ ds) ≡ recordBytes cs ++ recordBytes ds
-unfolding recordBytes
-record-append [] ds = refl
-record-append (c ∷ cs) ds = ap (λ (l : List ℕ). callBytes c ++ l) (record-append cs ds) ∙ sym (append-assoc (callBytes c) (recordBytes cs) (recordBytes ds))
-
-no-records : (out : List ℕ) (at : ℕ) → Stores out at (recordBytes []) out
-unfolding recordBytes
-no-records out at = record { is = refl }
-
-one-record : (c : Call) {out out′ : List ℕ} {at : ℕ} → Stores out at (callBytes c) out′ → Stores out at (recordBytes (c ∷ [])) out′
-unfolding recordBytes
-one-record c s = rw (append-nil (callBytes c)) s
-
-more-records : (cs ds : List Call) (at at′ : ℕ) {out₀ out out′ : List ℕ} → at′ ≡ at + 32 * length cs → Stores out₀ at (recordBytes cs) out
-    → Stores out at′ (recordBytes ds) out′ → Stores out₀ at (recordBytes (cs ++ ds)) out′
-more-records cs ds at at′ e s t = rw (record-append cs ds) (then at′ (omega (arith, length-records cs)) s t)
-
-pub same-long : {out₀ out : List ℕ} {at : ℕ} {v : List ℕ} → Stores out₀ at v out → length out ≡ length out₀
-same-long {out₀} {out} {at} {v} s = ap length (s .is) ∙ length-sets out₀ at v
-
--- a run, and the output in which what it settled stands
-pub record Writing (s t out₀ out : List ℕ) (a b at : ℕ) : Type 0 where
-  pub keys : ℕ
-  pub place : at ≡ 32 * keys
-  pub run : Run s (countAt s) t (countAt t) a b keys
-  pub written : Stores out₀ 0 (recordBytes (run .done)) out
-
-pub begin : (s t out : List ℕ) → Writing s t out out 16 16 0
-unfolding start
-begin s t out = record { keys = 0; place = refl; run = start s (countAt s) t (countAt t); written = no-records out 0 }
-
-module _ {s t out₀ out : List ℕ} {a b at : ℕ} (w : Writing s t out₀ out a b at) where
-  module _ (h : a < sizeOf (countAt s)) (l : b < sizeOf (countAt t)) where
-    pub writes-again : {r : Next} {out′ : List ℕ} → KeyPut s a t b r out at out′ → Writing s t out₀ out′ (r .first) (r .second) (at + 32)
-    unfolding again
-    writes-again p =
-        let e = w .place in
-        let f = w .run .count in
-        record {
-          keys = w .keys + 1;
-          place = omega arith;
-          run = again (w .run) (stepped (w .run) h l (p .settled));
-          written = more-records (w .run .done) (p .call ∷ []) 0 at (omega arith) (w .written) (one-record (p .call) (p .stored));
-        }
-
-    pub place-left : IsAccepted s → IsAccepted t → 32 * keysOfBoth s t ≤ length out₀ → at + 32 ≤ length out
-    place-left p q k = let e = w .place in omega (arith, room (w .run) h l, count-left s t p q, same-long (w .written))
-
-  pub merged : {r : Reached} {e f : ℕ} → e ≡ sizeOf (countAt s) → f ≡ sizeOf (countAt t) → (ltb a e && ltb b f) ≡ false
-      → r .first ≡ (a - 16) / 32 → r .second ≡ (b - 16) / 32 → r .done ≡ at / 32 → Merged s t out₀ r out
-  merged {r} {e} {f} p q h x y z =
-      let g = w .run in
-      let u = g .at-first in
-      let v = g .at-second in
-      let c = w .place in
-      let i : r .first ≡ g .first = omega arith in
-      let j : r .second ≡ g .second = omega arith in
-      let k : r .done ≡ w .keys = omega arith in
-      let l = g .in-first in
-      let m = g .in-second in
-      record {
-        in-first = omega arith;
-        in-second = omega arith;
-        over = ends (one-over a e b f h);
-        done = g .done;
-        count = k ∙ g .count;
-        joins = rw (i, j) (g .joins);
-        stored = w .written;
-      }
-    where
-      ends : (e ≤ a) ⊎ (f ≤ b) → (countAt s ≤ r .first) ⊎ (countAt t ≤ r .second)
-      ends (inl o) = let u = w .run .at-first in inl (omega arith)
-      ends (inr o) = let v = w .run .at-second in inr (omega arith)
-
--- The rest of a book
-
-calls-snoc : (b : List ℕ) (l i : ℕ) → callsFrom b i (l + 1) ≡ callsFrom b i l ++ (recordAt b (i + l) ∷ [])
-unfolding callsFrom
-calls-snoc b zero i = let e : i ≡ i + 0 = omega arith in ap (λ (k : ℕ). recordAt b k ∷ []) e
-calls-snoc b (suc l) i =
-    let e : suc l + 1 ≡ suc (l + 1) = omega arith in
-    let f : suc i + l ≡ i + suc l = omega arith in
-    ap (callsFrom b i) e ∙ ap (λ (cs : List Call). recordAt b i ∷ cs) (calls-snoc b l (suc i) ∙ ap (λ (k : ℕ). callsFrom b (suc i) l ++ (recordAt b k ∷ [])) f)
-
--- so many records from record i on stand behind the k that the output had
-pub record Rest (s : List ℕ) (i k : ℕ) (out₀ out : List ℕ) (l : ℕ) : Type 0 where
-  pub within : i + l ≤ countAt s
-  pub stored : Stores out₀ (32 * k) (recordBytes (callsFrom s i l)) out
-
-pub rest-none : (s : List ℕ) (i k : ℕ) (out : List ℕ) → i ≤ countAt s → Rest s i k out out 0
-unfolding callsFrom
-rest-none s i k out h = record { within = omega arith; stored = no-records out (32 * k) }
-
-module _ {s : List ℕ} {i k : ℕ} {out₀ out : List ℕ} {l : ℕ} (g : Rest s i k out₀ out l) where
-  pub rest-more : {out′ : List ℕ} → i + l < countAt s → Stores out (32 * (k + l)) (callBytes (callAt s (sizeOf (i + l)))) out′ → Rest s i k out₀ out′ (l + 1)
-  unfolding recordAt
-  rest-more h t =
-      record {
-        within = omega arith;
-        stored =
-            rw (calls-snoc s l i)
-            (more-records (callsFrom s i l) (recordAt s (i + l) ∷ []) (32 * k) (32 * (k + l)) (omega (arith, length-calls s l i)) (g .stored)
-            (one-record (recordAt s (i + l)) t));
-      }
-
-  pub rest-all : countAt s ≤ i + l → (k + l ≡ k + (countAt s - i)) × Stores out₀ (32 * k) (recordBytes (leftOf s (countAt s) i)) out
-  unfolding leftOf
-  rest-all h =
-      let w = g .within in
-      let e : l ≡ countAt s - i = omega arith in
-      (ap (λ (n : ℕ). k + n) e, rw e at (g .stored))
-
--- the join up to the end of one book, and the rest of both
-module _ {s t out₀ : List ℕ} {r : Reached} {out : List ℕ} (p : IsAccepted s) (q : IsAccepted t) (g : Merged s t out₀ r out) where
-  rests : List Call
-  rests = leftOf s (countAt s) (r .first) ++ leftOf t (countAt t) (r .second)
-
-  whole-join : g .done ++ rests ≡ joinedOf s t
-  unfolding rests
-  whole-join = ap (λ (l : List Call). g .done ++ l) (sym (last-left s (countAt s) (r .first) t (countAt t) (r .second) (g .over))) ∙ g .joins ∙ all-left s t p q
-
-  pub total : r .done + (countAt s - r .first) + (countAt t - r .second) ≡ keysOfBoth s t
-  unfolding rests
-  total =
-      let x = leftOf s (countAt s) (r .first) in
-      let y = leftOf t (countAt t) (r .second) in
-      let c = g .count in
-      omega (arith, ap length whole-join ∙ joined-length s t, length-append (g .done) (x ++ y), length-append x y, length-left s (countAt s) (r .first), length-left t (countAt t) (r .second))
-
-  pub puts-all : {k n : ℕ} {mid after : List ℕ} → k ≡ r .done + (countAt s - r .first) → Stores out (32 * r .done) (recordBytes (leftOf s (countAt s) (r .first))) mid
-      → n ≡ k + (countAt t - r .second) → Stores mid (32 * k) (recordBytes (leftOf t (countAt t) (r .second))) after
-      → (n ≡ keysOfBoth s t) × Stores out₀ 0 (recordBytes (joinedOf s t)) after
-  unfolding rests
-  puts-all {k} {n} e u f v =
-      let x = leftOf s (countAt s) (r .first) in
-      let y = leftOf t (countAt t) (r .second) in
-      let c = g .count in
-      let both = more-records (g .done) x 0 (32 * r .done) (omega arith) (g .stored) u in
-      let all = more-records (g .done ++ x) y 0 (32 * k) (omega (arith, length-append (g .done) x, length-left s (countAt s) (r .first))) both v in
-      (omega (arith, total), rw (append-assoc (g .done) x y ∙ whole-join) at all)

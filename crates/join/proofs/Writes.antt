@@ -1,14 +1,12 @@
 -- The outcome of a join, from its parts. Assumes nothing.
 use mathlib.Core.Path.{_≡_, sym, _∙_, ap}
 use mathlib.Core.List.{List, _++_, append-assoc}
-use Prim.Native.Nat.{ℕ, _+_, _-_, _≤_}
+use Prim.Native.Nat.{ℕ, _+_, _≤_}
 use native.Mathlib.Nat.{zero-add}
 use native.Mathlib.Omega.{arith}
 use lib.ListN.{length, take, drop, length-append}
 use lib.Seq.{sets, sets-eq, length-sets, drop-at, length-take-le}
-use borrow.Rule.Slice.PartMut.{putMid, midOf}
 use Rattle.le.specs.Le.{Stores}
-use Rattle.le.proofs.Laws.{whole}
 use Rattle.call.specs.declared.Call.{Call}
 use Rattle.book.specs.declared.Header.{Header}
 use Rattle.book.specs.Book.{sizeOf, headBytes, recordBytes, bookBytes}
@@ -29,20 +27,17 @@ front-last xs ys l h =
     ∙ ap (λ (k : ℕ). (xs ++ ys) ++ drop k l) (sym (zero-add (length (xs ++ ys)) ∙ length-append xs ys))
     ∙ sym (sets-eq (xs ++ ys) l 0 (omega (arith, length-append xs ys)))
 
--- the records in the part of the output behind the header, and then a header with their number, are a book
-pub stores-book : (v : ℕ) (h : Header) (cs : List Call) (n : ℕ) (out part after : List ℕ) → n ≡ length cs → sizeOf (length cs) ≤ length out
-    → Stores (midOf 16 (length out - 16) out) 0 (recordBytes cs) part → Stores (putMid 16 (length out - 16) out part) 0 (headBytes v h n) after
-    → Stores out 0 (bookBytes v h cs) after
+-- the records behind the header's place, and then a header with their number, are a book
+pub stores-book : (v : ℕ) (h : Header) (cs : List Call) (n : ℕ) (out mid after : List ℕ) → n ≡ length cs → sizeOf (length cs) ≤ length out
+    → Stores out 16 (recordBytes cs) mid → Stores mid 0 (headBytes v h n) after → Stores out 0 (bookBytes v h cs) after
 unfolding bookBytes
-stores-book v h cs n out part after e room s t =
+stores-book v h cs n out mid after e room s t =
     let head = headBytes v h (length cs) in
-    let mid = putMid 16 (length out - 16) out part in
-    let behind : Stores out 16 (recordBytes cs) mid = whole 16 (length out - 16) 0 out (recordBytes cs) part (omega (arith, length-records cs)) s in
     let long : length head ≡ 16 = length-head v h (length cs) in
     record {
       is =
           t .is ∙ ap (λ (k : ℕ). sets mid 0 (headBytes v h k)) e
-          ∙ ap (λ (l : List ℕ). sets l 0 head) (behind .is ∙ ap (λ (k : ℕ). sets out k (recordBytes cs)) (sym long))
+          ∙ ap (λ (l : List ℕ). sets l 0 head) (s .is ∙ ap (λ (k : ℕ). sets out k (recordBytes cs)) (sym long))
           ∙ front-last head (recordBytes cs) out (omega (arith, length-records cs));
     }
 

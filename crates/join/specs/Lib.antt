@@ -1,3 +1,4 @@
+pub mod Turns
 pub mod Joining
 pub mod Verdict
 pub mod Steps

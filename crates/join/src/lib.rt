@@ -22,15 +22,16 @@ use rule::Decision;
 use rule::decide_at;
 ghost use mathlib.Core.Path.{_≡_};
 ghost use mathlib.Core.List.{List};
-ghost use Prim.Native.Nat.{ℕ, _+_, _*_, _-_, _≤_};
+ghost use Prim.Native.Nat.{ℕ, _+_, _-_, _<_, _≤_};
 ghost use lib.ListN.{length};
 ghost use Rattle.le.specs.Le.{Stores};
 ghost use Rattle.call.specs.Layout.{recordSize, callAt, callBytes};
-ghost use Rattle.book.specs.Book.{mostKeys, sizeOf, countAt, recordBytes};
+ghost use Rattle.book.specs.Book.{mostKeys, sizeOf, placeOf};
 ghost use Rattle.rule.specs.Standing.{given};
 ghost use Rattle.pair.specs.Screening.{IsAccepted};
-ghost use Rattle.join.specs.Joining.{joinOutcome, joinRefused, keysOfBoth, overflow, joinedOf, pairVersion, joinedBook, joinSound, joining};
-ghost use Rattle.join.specs.Steps.{leftOf, RecordLies, Spells, wordBytes, KeyCounted, KeyPut, Merged};
+ghost use Rattle.join.specs.Turns.{turnsRun, begun};
+ghost use Rattle.join.specs.Joining.{joinOutcome, joinRefused, keysOfBoth, overflow, pairVersion, joinedBook, joinSound, joining};
+ghost use Rattle.join.specs.Steps.{RecordLies, Spells, wordBytes, KeyCounted, ReadTo, TurnTaken, TurnsTaken, LastTurn, LastTurns, over};
 
 // A refusal's number and place, or zeros, and the length of the joined book.
 pub struct Joined {
@@ -163,54 +164,57 @@ fn put_given(
     }
 }
 
-// The record of the next key, to its place.
-fn put_next(first: &[u8], a: usize, second: &[u8], b: usize, out: &mut [u8], at: usize) -> Next
-    requires { ⌜ RecordLies (now first) a ⌝ }
-    requires { ⌜ RecordLies (now second) b ⌝ }
-    requires { ⌜ at + recordSize ≤ length (now out) ⌝ }
-    ensures { λ r. ⌜ KeyPut (now (first .entry)) a (now (second .entry)) b r (now (out .entry)) at (now (out .exit)) ⌝ }
+// How far a join has come: the places of the next records of both books, and how many turns it has taken.
+pub struct Reached {
+    pub first: usize,
+    pub second: usize,
+    pub turns: usize,
+}
+
+// A turn while both books have records: the record of the lower key, or of the key that both have, to its place behind those written.
+fn put_next(first: &[u8], a: usize, second: &[u8], b: usize, out: &mut [u8], t: usize) -> Reached
+    requires { ⌜ ReadTo (now first) a ⌝ }
+    requires { ⌜ ReadTo (now second) b ⌝ }
+    requires { ⌜ a < length (now first) ⌝ }
+    requires { ⌜ b < length (now second) ⌝ }
+    requires { ⌜ placeOf t + recordSize ≤ length (now out) ⌝ }
+    ensures { λ r. ⌜ TurnTaken (now (first .entry)) a (now (second .entry)) b (now (out .entry)) t r (now (out .exit)) ⌝ }
 {
+    let at = HEADER_SIZE + RECORD_SIZE * t;
+    let turns = t + 1;
     let lower = precedes(first, a, second, b);
     if lower {
         copy_record(first, a, out, at);
-        let p = a + RECORD_SIZE;
-        return Next {
-            first: p,
+        return Reached {
+            first: a + RECORD_SIZE,
             second: b,
+            turns,
         };
     }
     let upper = precedes(second, b, first, a);
     if upper {
         copy_record(second, b, out, at);
-        let q = b + RECORD_SIZE;
-        return Next {
+        return Reached {
             first: a,
-            second: q,
+            second: b + RECORD_SIZE,
+            turns,
         };
     }
     let decision = decide_at(first, a, second, b);
     put_given(decision, first, a, second, b, out, at);
-    let p = a + RECORD_SIZE;
-    let q = b + RECORD_SIZE;
-    Next {
-        first: p,
-        second: q,
+    Reached {
+        first: a + RECORD_SIZE,
+        second: b + RECORD_SIZE,
+        turns,
     }
 }
 
-// How far a join has come: the next records of both books, and how many records it has.
-pub struct Reached {
-    pub first: usize,
-    pub second: usize,
-    pub done: usize,
-}
-
-// The records of the join, each straight to its place, while both books have records.
+// Turn by turn while both books have records.
 fn put_both(first: &[u8], second: &[u8], out: &mut [u8]) -> Reached
     requires { ⌜ IsAccepted (now first) ⌝ }
     requires { ⌜ IsAccepted (now second) ⌝ }
-    requires { ⌜ recordSize * keysOfBoth (now first) (now second) ≤ length (now out) ⌝ }
-    ensures { λ r. ⌜ Merged (now (first .entry)) (now (second .entry)) (now (out .entry)) r (now (out .exit)) ⌝ }
+    requires { ⌜ sizeOf (keysOfBoth (now first) (now second)) ≤ length (now out) ⌝ }
+    ensures { λ r. ⌜ TurnsTaken (now (first .entry)) (now (second .entry)) (now (out .entry)) r (now (out .exit)) ⌝ }
 {
     let n = count_at(first);
     let e = size_of(n);
@@ -218,58 +222,59 @@ fn put_both(first: &[u8], second: &[u8], out: &mut [u8]) -> Reached
     let f = size_of(m);
     let mut a = HEADER_SIZE;
     let mut b = HEADER_SIZE;
-    let mut at = 0;
+    let mut turns = 0;
     while (a < e) & (b < f) {
-        let s = put_next(first, a, second, b, out, at);
+        let s = put_next(first, a, second, b, out, turns);
         a = s.first;
         b = s.second;
-        at += RECORD_SIZE;
+        turns = s.turns;
     }
-    let i = (a - HEADER_SIZE) / RECORD_SIZE;
-    let j = (b - HEADER_SIZE) / RECORD_SIZE;
-    let k = at / RECORD_SIZE;
     Reached {
-        first: i,
-        second: j,
-        done: k,
+        first: a,
+        second: b,
+        turns,
     }
 }
 
-// The rest of a book, from record i on, behind the k records that the output has.
-fn put_rest(s: &[u8], i: usize, out: &mut [u8], k: usize) -> usize
-    requires { ⌜ IsAccepted (now s) ⌝ }
-    requires { ⌜ i ≤ countAt (now s) ⌝ }
-    requires { ⌜ recordSize * (k + (countAt (now s) - i)) ≤ length (now out) ⌝ }
-    ensures { λ r. ⌜ (r ≡ k + (countAt (now (s .entry)) - i))
-        × Stores (now (out .entry)) (recordSize * k) (recordBytes (leftOf (now (s .entry)) (countAt (now (s .entry))) i)) (now (out .exit)) ⌝ }
+// A turn where the other book is used up: no key is compared, and the next record goes to its place. Answers with the turns so far.
+fn put_last(s: &[u8], a: usize, out: &mut [u8], turns: usize) -> usize
+    requires { ⌜ ReadTo (now s) a ⌝ }
+    requires { ⌜ a < length (now s) ⌝ }
+    requires { ⌜ placeOf turns + recordSize ≤ length (now out) ⌝ }
+    ensures { λ r. ⌜ LastTurn (now (s .entry)) a (now (out .entry)) turns r (now (out .exit)) ⌝ }
 {
-    let n = count_at(s);
-    let mut l = 0;
-    while i + l < n {
-        copy_record(
-            s,
-            HEADER_SIZE + RECORD_SIZE * (i + l),
-            out,
-            RECORD_SIZE * (k + l),
-        );
-        l += 1;
-    }
-    k + l
+    copy_record(s, a, out, HEADER_SIZE + RECORD_SIZE * turns);
+    turns + 1
 }
 
-// All records of the join. Answers with how many there are.
+// Turn by turn through the rest of a book, from a place on, where the other is used up. Answers with the turns so far.
+fn put_rest(s: &[u8], from: usize, out: &mut [u8], before: usize) -> usize
+    requires { ⌜ ReadTo (now s) from ⌝ }
+    requires { ⌜ placeOf before + (length (now s) - from) ≤ length (now out) ⌝ }
+    ensures { λ r. ⌜ LastTurns (now (s .entry)) from (now (out .entry)) before (length (now (s .entry))) r (now (out .exit)) ⌝ }
+{
+    let e = size_of(count_at(s));
+    let mut a = from;
+    let mut turns = before;
+    while a < e {
+        turns = put_last(s, a, out, turns);
+        a += RECORD_SIZE;
+    }
+    turns
+}
+
+// Turn by turn until no key is left. Answers with how many turns it took.
 fn put_records(first: &[u8], second: &[u8], out: &mut [u8]) -> usize
     requires { ⌜ IsAccepted (now first) ⌝ }
     requires { ⌜ IsAccepted (now second) ⌝ }
-    requires { ⌜ recordSize * keysOfBoth (now first) (now second) ≤ length (now out) ⌝ }
-    ensures { λ r. ⌜ (r ≡ keysOfBoth (now (first .entry)) (now (second .entry)))
-        × Stores (now (out .entry)) 0 (recordBytes (joinedOf (now (first .entry)) (now (second .entry)))) (now (out .exit)) ⌝ }
+    requires { ⌜ sizeOf (keysOfBoth (now first) (now second)) ≤ length (now out) ⌝ }
+    ensures { λ r. ⌜ turnsRun r (begun (now (first .entry)) (now (second .entry)) (now (out .entry))) ≡ over (now (out .exit)) r ⌝ }
 {
     let b = put_both(first, second, out);
     let i = b.first;
     let j = b.second;
-    let k = put_rest(first, i, out, b.done);
-    put_rest(second, j, out, k)
+    let turns = put_rest(first, i, out, b.turns);
+    put_rest(second, j, out, turns)
 }
 
 // The version of what books of two versions give together, with so many keys.
@@ -285,8 +290,7 @@ fn pair_version(first: u16, second: u16, keys: usize) -> u16
     SECOND_VERSION
 }
 
-// The joined book: its records, and then the header, which has their number. The part of the output behind the header is lent
-// to the writer of the records. Answers with their number.
+// The joined book: its records, turn by turn, and then the header, which has their number. Answers with the turns.
 fn put_book(first: &[u8], second: &[u8], out: &mut [u8]) -> usize
     requires { ⌜ IsAccepted (now first) ⌝ }
     requires { ⌜ IsAccepted (now second) ⌝ }
@@ -295,11 +299,11 @@ fn put_book(first: &[u8], second: &[u8], out: &mut [u8]) -> usize
     ensures { λ r. ⌜ (r ≡ keysOfBoth (now (first .entry)) (now (second .entry)))
         × Stores (now (out .entry)) 0 (joinedBook (now (first .entry)) (now (second .entry))) (now (out .exit)) ⌝ }
 {
-    let keys = put_records(first, second, &mut out[HEADER_SIZE..]);
-    let version = pair_version(version_at(first), version_at(second), keys);
-    let count = keys as u16;
+    let turns = put_records(first, second, out);
+    let version = pair_version(version_at(first), version_at(second), turns);
+    let count = turns as u16;
     put_header(out, version, header_at(first), count);
-    keys
+    turns
 }
 
 // 8 and 9. The keys are counted only where the records of both books together are too many, or too long for the output.
@@ -346,8 +350,8 @@ pub fn join_sound(first: &[u8], second: &[u8], out: &mut [u8]) -> Joined
     if w.number != 0 {
         return join_refused(w);
     }
-    let keys = put_book(first, second, out);
-    let size = size_of(keys);
+    let turns = put_book(first, second, out);
+    let size = size_of(turns);
     Joined {
         number: 0,
         place: 0,

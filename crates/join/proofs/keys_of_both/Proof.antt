@@ -2,14 +2,14 @@ use mathlib.Core.Path.{_≡_, _∙_, ap}
 use Prim.Native.Nat.{_+_, _-_, _<_}
 use native.Mathlib.Omega.{arith}
 use Rattle.book.specs.Book.{sizeOf, countAt}
-use Rattle.join.proofs.Steps.{Run, start, both-left, further, stepped, again, counts-all}
+use Rattle.join.proofs.Steps.{Counting, start, both-left, further, stepped, again, counts-all}
 use Rattle.join.proofs.Books.{long, size}
 use borrow.Author.Needs.{needs}
 use Rattle.join.proofs.keys_of_both.Statement.{statement}
 use Rattle.join.proofs.keys_of_both.Tie as tie
 
 abbrev Inv-loop : tie.InvT-loop
-Inv-loop first second e f a₀ b₀ k₀ a b k = Run first (countAt first) second (countAt second) a b k
+Inv-loop first second e f a₀ b₀ k₀ a b k = Counting first (countAt first) second (countAt second) a b k
 
 abbrev μ-loop : tie.MeasureT-loop
 μ-loop first second e f a₀ b₀ k₀ a b k = (e + f) - (a + b)
