@@ -20,6 +20,7 @@ use Rattle.rule.specs.Joined.{joinedAt, joinCalls}
 use Rattle.rule.proofs.Joins.{join-find}
 use Rattle.rule.proofs.Bounds.{Calls, join-sound}
 use Rattle.pair.specs.Screening.{sameMonth}
+use Rattle.join.specs.Turns.{ran}
 use Rattle.join.specs.Joining.{JoinOutcome, joinRefused, joinWrote, keysOfBoth, joinedOf, joinedVersion, joinedBook, joining}
 use Rattle.join.specs.Trees.{written}
 use Rattle.pair.proofs.Screening.{Screened}
@@ -31,7 +32,7 @@ use Rattle.join.proofs.Trees.{sound-calls, book-sound}
 pub record Accepts (a b out : List ℕ) : Type 0 where
   pub screen : Screened a b
   pub few : length (joinedOf a b) ≤ mostRecords (joinedVersion a b)
-  pub is : joining a b out ≡ joinWrote (joinedBook a b) out
+  pub is : joining a b out ≡ joinWrote (joinedBook a b) (ran a b out .turns) out
 
 pub accepts : (a b out : List ℕ) → joining a b out .number ≡ 0 → Accepts a b out
 accepts a b out z = go (way a b out)

@@ -14,12 +14,12 @@ use Rattle.join.specs.declared.Joined.{Joined}
 use Rattle.join.specs.Joining.{JoinOutcome, joinOutcome, joining}
 use Rattle.join.proofs.WaysOut.{Way, screened, many, short, joins, way}
 
--- a join: number, place and length, and every byte of the output
+-- a join: number, place, length and turns, and every byte of the output
 pub join-determined : (first second before : List ℕ) (r s : Joined) (after again : List ℕ)
     → joinOutcome r after ≡ joining first second before → joinOutcome s again ≡ joining first second before → (r ≡ s) × (after ≡ again)
 join-determined first second before r s after again e f =
     let g = e ∙ sym f in (
-      λ i. record { number = ap (λ (x : JoinOutcome). x .number) g i; place = ap (λ (x : JoinOutcome). x .place) g i; length = ap (λ (x : JoinOutcome). x .size) g i },
+      λ i. record { number = g i .number; place = g i .place; length = g i .size; turns = g i .turns },
       ap (λ (x : JoinOutcome). x .out) g,
     )
 

@@ -349,15 +349,16 @@ module _ (a : List ℕ) (sound : Sound a) (w : Call) (numbered : Numbered (w ∷
           let f = room (c .fits) in
           ap (λ (o : JoinOutcome). o .number) (joined-in (says-none (c .within) (c .page-long))) ∙ joins-where (c .within) (f .0) (f .1)
 
--- a refused change tells no length, and leaves the output as it was
+-- a refused change tells no length and no turn, and leaves the output as it was
 pub change-kept : (a : List ℕ) (w : Call) (page out : List ℕ) → changing a w page out .number ≢ 0
-    → (changing a w page out .size ≡ 0) × (changing a w page out .out ≡ out)
+    → (changing a w page out .size ≡ 0) × (changing a w page out .turns ≡ 0) × (changing a w page out .out ≡ out)
 unfolding changing
 change-kept a w page out n = go (ℕ-discrete (one .number) 0) n
   where
     one : BookOutcome
     one = writing (headerAt a) (w ∷ []) page
 
-    go : Dec (one .number ≡ 0) → joinWritten a one out .number ≢ 0 → (joinWritten a one out .size ≡ 0) × (joinWritten a one out .out ≡ out)
+    go : Dec (one .number ≡ 0) → joinWritten a one out .number ≢ 0
+        → (joinWritten a one out .size ≡ 0) × (joinWritten a one out .turns ≡ 0) × (joinWritten a one out .out ≡ out)
     go (yes z) n = let e = join-written a one out z in rw e (join-kept a (take (one .size) (one .out)) out (rw e at n))
-    go (no z) n = rw (refused-written a one out z) (refl, refl)
+    go (no z) n = rw (refused-written a one out z) (refl, refl, refl)

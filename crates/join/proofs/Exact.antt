@@ -112,14 +112,14 @@ module _ (a b out : List ℕ) (small-a : IsBytes a) (small-b : IsBytes b) where
   pub join-exact : (o : JoinOutcome) → (joining a b out ≡ o) ↔ JoinVerdict a b out o
   join-exact o = ((λ e. let s = some in rw (sym (from-row (s .0) (s .1)) ∙ e) at (s .1)), from-row o)
 
--- a refused join tells no length, and leaves the output as it was
-pub join-kept : (a b out : List ℕ) → joining a b out .number ≢ 0 → (joining a b out .size ≡ 0) × (joining a b out .out ≡ out)
+-- a refused join tells no length and no turn, and leaves the output as it was
+pub join-kept : (a b out : List ℕ) → joining a b out .number ≢ 0 → (joining a b out .size ≡ 0) × (joining a b out .turns ≡ 0) × (joining a b out .out ≡ out)
 join-kept a b out n = go (way a b out)
   where
-    of : {v : Verdict} → joinRefused v out ≡ joining a b out → (joining a b out .size ≡ 0) × (joining a b out .out ≡ out)
-    of e = (ap (λ (o : JoinOutcome). o .size) (sym e), ap (λ (o : JoinOutcome). o .out) (sym e))
+    of : {v : Verdict} → joinRefused v out ≡ joining a b out → (joining a b out .size ≡ 0) × (joining a b out .turns ≡ 0) × (joining a b out .out ≡ out)
+    of e = (ap (λ (o : JoinOutcome). o .size) (sym e), ap (λ (o : JoinOutcome). o .turns) (sym e), ap (λ (o : JoinOutcome). o .out) (sym e))
 
-    go : Way a b out → (joining a b out .size ≡ 0) × (joining a b out .out ≡ out)
+    go : Way a b out → (joining a b out .size ≡ 0) × (joining a b out .turns ≡ 0) × (joining a b out .out ≡ out)
     go (screened s e) = of e
     go (many s f e) = of e
     go (short s r e) = of e

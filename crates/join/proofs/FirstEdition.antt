@@ -9,7 +9,7 @@ use lib.Dec.{eqb, ltb}
 use lib.ListN.{length}
 use borrow.Author.Tests.{eqb-true, ltb-false, le-ltb, le-leb, eq-eqb}
 use Rattle.book.specs.declared.Verdict.{Verdict}
-use Rattle.book.specs.Book.{firstVersion, secondVersion, mostRecords, mostKeys, versionAt}
+use Rattle.book.specs.Book.{firstVersion, secondVersion, mostRecords, mostKeys, sizeOf, versionAt}
 use Rattle.book.specs.Check.{accepted, check}
 use Rattle.book.specs.Sound.{Known}
 use Rattle.book.proofs.Heads.{versioned-is, first-fits}
@@ -42,7 +42,7 @@ module _ (a b : List ℕ) (not-a : versionAt a ≡ secondVersion → ⊥) (not-b
 
   module _ (out : List ℕ) where
     -- where a book is refused for itself, or the two for 7
-    turned-away : passes (screen a b) ≡ false → joining a b out ≡ before.joining a b out
+    turned-away : passes (screen a b) ≡ false → before.toldThen (joining a b out) ≡ before.joining a b out
     unfolding joining before.joining before.joinFault
     turned-away e = rw (← screen-as-before, e) (rw e refl)
 
@@ -56,17 +56,22 @@ module _ (a b : List ℕ) (not-a : versionAt a ≡ secondVersion → ⊥) (not-b
       was-eight e = rw (passed, e) refl
 
       -- up to 512 keys give the same book, or 9
-      few-as-before : keysOfBoth a b ≤ 512 → joining a b out ≡ before.joining a b out
+      few-as-before : keysOfBoth a b ≤ 512 → before.toldThen (joining a b out) ≡ before.joining a b out
       unfolding joining joinSound overflow before.joining before.joinFault before.overflow joinedOf before.joinedOf
-      few-as-before l =
-          let k : keysOfBoth a b ≤ mostKeys = omega arith in
-          rw (passed, zero-screened a b z, both-first z l, le-ltb 512 (keysOfBoth a b) l, le-ltb mostKeys (keysOfBoth a b) k) refl
+      few-as-before l = go (ltb (length out) (sizeOf (keysOfBoth a b))) refl
+        where
+          most : keysOfBoth a b ≤ mostKeys
+          most = omega arith
 
-    -- where neither version field is 2 and the join then was not refused with 8, the outcome is the same, every byte of it
-    pub join-as-before : (before.joining a b out .number ≡ 8 → ⊥) → joining a b out ≡ before.joining a b out
+          go : (t : Bool) → ltb (length out) (sizeOf (keysOfBoth a b)) ≡ t → before.toldThen (joining a b out) ≡ before.joining a b out
+          go true r = rw (passed, zero-screened a b z, both-first z l, le-ltb 512 (keysOfBoth a b) l, le-ltb mostKeys (keysOfBoth a b) most, r) refl
+          go false r = rw (passed, zero-screened a b z, both-first z l, le-ltb 512 (keysOfBoth a b) l, le-ltb mostKeys (keysOfBoth a b) most, r) refl
+
+    -- where neither version field is 2 and the join then was not refused with 8, the outcome is the same, every byte of it, but for the turns that it did not tell
+    pub join-as-before : (before.joining a b out .number ≡ 8 → ⊥) → before.toldThen (joining a b out) ≡ before.joining a b out
     join-as-before n = go (passes (screen a b)) refl (ltb 512 (keysOfBoth a b)) refl
       where
-        go : (t : Bool) → passes (screen a b) ≡ t → (u : Bool) → ltb 512 (keysOfBoth a b) ≡ u → joining a b out ≡ before.joining a b out
+        go : (t : Bool) → passes (screen a b) ≡ t → (u : Bool) → ltb 512 (keysOfBoth a b) ≡ u → before.toldThen (joining a b out) ≡ before.joining a b out
         go false e u d = turned-away e
         go true e true d = absurd (n (was-eight (eqb-true _ _ e) d))
         go true e false d = few-as-before (eqb-true _ _ e) (ltb-false _ _ d)

@@ -24,11 +24,13 @@ use Rattle.rule.proofs.Orders.{Over}
 use Rattle.rule.proofs.Whole.{number-of-keys}
 use Rattle.rule.proofs.Without.{more-books}
 use Rattle.pair.specs.Screening.{sameMonth, screen}
+use Rattle.join.specs.Turns.{ran}
 use Rattle.join.specs.Joining.{JoinOutcome, joinRefused, joinWrote, keyCount, keysOfBoth, joinedOf, pairVersion, joining}
 use Rattle.join.specs.Trees.{Plan, book, join, books, written, joinBoth, result, AllAccepted, Room, OneMonth, Covers}
 use Rattle.pair.proofs.Screening.{screen-passes}
 use Rattle.join.proofs.WaysOut.{over-many, over-short, refuse-over, joins-both}
 use Rattle.join.proofs.Steps.{joined-length}
+use Rattle.join.proofs.Taken.{ran-turns}
 use Rattle.join.proofs.Versions.{pair-known, pair-most, treeVersion}
 
 -- Sound books
@@ -74,11 +76,15 @@ module _ (h : Header) (g : Heading h) (v w : ℕ) (kv : Known v) (kw : Known w) 
   version-joined : pairVersion (versionAt one) (versionAt two) (keysOfBoth one two) ≡ pairVersion v w (length (joinCalls xs ys))
   version-joined = λ i. pairVersion (version-of v h xs kv g fx i) (version-of w h ys kw g fy i) (keys-joined i)
 
+  turns-joined : ran one two out .turns ≡ length (joinCalls xs ys)
+  turns-joined =
+      ran-turns one two out (rw (reads-back v h xs kv g fx (cx .within) .1) (cx .rises)) (rw (reads-back w h ys kw g fy (cy .within) .1) (cy .rises)) ∙ keys-joined
+
   pub book-joined : length (joinCalls xs ys) ≤ mostKeys → sizeOf (length (joinCalls xs ys)) ≤ length out
-      → joining one two out ≡ joinWrote (bookBytes (pairVersion v w (length (joinCalls xs ys))) h (joinCalls xs ys)) out
+      → joining one two out ≡ joinWrote (bookBytes (pairVersion v w (length (joinCalls xs ys))) h (joinCalls xs ys)) (length (joinCalls xs ys)) out
   book-joined f r =
       sym (joins-both one two out none-refused (omega (arith, keys-joined)) (omega (arith, keys-joined)))
-      ∙ (λ i. joinWrote (bookBytes (version-joined i) (reads-back v h xs kv g fx (cx .within) .0 i) (calls-joined i)) out)
+      ∙ (λ i. joinWrote (bookBytes (version-joined i) (reads-back v h xs kv g fx (cx .within) .0 i) (calls-joined i)) (turns-joined i) out)
 
   pub book-refused : mostKeys < length (joinCalls xs ys) → joining one two out ≡ joinRefused (refused 8 0) out
   book-refused f = sym (refuse-over one two out none-refused _ (over-many (keysOfBoth one two) (length out) (omega (arith, keys-joined))) (λ z. omega arith))
@@ -251,7 +257,7 @@ module _ (h : Header) where
           record {
             few = λ f.
                 let e = at ∙ book-joined h g (treeVersion l) (treeVersion r) kl kr xs ys (fx p) (fy q) cx cy out f (omega (arith, count, room (omega (arith, count))))
-                ∙ ap (λ (n : ℕ). joinWrote (bookBytes (pairVersion (treeVersion l) (treeVersion r) n) h (joinCalls xs ys)) out) count in (
+                ∙ ap (λ (n : ℕ). joinWrote (bookBytes (pairVersion (treeVersion l) (treeVersion r) n) h (joinCalls xs ys)) n out) count in (
                   (a .0, b .0, ap (λ (x : JoinOutcome). x .number) e),
                   ap (λ (x : JoinOutcome). x .number) (two ∙ e),
                   ap written (two ∙ e) ∙ take-append-seam (bookBytes (treeVersion (join l r out)) h (joinCalls xs ys)) _,
@@ -340,7 +346,7 @@ module _ (h : Header) where
       go (yes f) (no w) = stops (inr (ap (λ (x : JoinOutcome). x .number) (at ∙ book-short h g (treeVersion l) (treeVersion r) kl kr xs ys few-l few-r cx cy out f (omega arith))))
       go (yes f) (yes w) =
           let e = at ∙ book-joined h g (treeVersion l) (treeVersion r) kl kr xs ys few-l few-r cx cy out f w
-          ∙ ap (λ (n : ℕ). joinWrote (bookBytes (pairVersion (treeVersion l) (treeVersion r) n) h zs) out) count in
+          ∙ ap (λ (n : ℕ). joinWrote (bookBytes (pairVersion (treeVersion l) (treeVersion r) n) h zs) n out) count in
           through f (ap (λ (x : JoinOutcome). x .number) e) (ap written e ∙ take-append-seam (bookBytes (treeVersion (join l r out)) h zs) _)
 
   pub ends : (p : Plan) → OneMonth h (books p) → Ends p

@@ -11,6 +11,7 @@ use Rattle.book.specs.Book.{mostKeys, sizeOf}
 use Rattle.book.specs.Check.{refused, accepted}
 use Rattle.pair.specs.Screening.{screen}
 use Rattle.pair.proofs.Screening.{Screened, passed-screen, zero-screened}
+use Rattle.join.specs.Turns.{ran}
 use Rattle.join.specs.Joining.{joinRefused, joinWrote, keysOfBoth, overflow, joinedBook, joinSound, joining}
 
 -- 8 and 9 by the number of keys
@@ -41,7 +42,7 @@ module _ (a b out : List ℕ) where
   unfolding joinSound
   refuse-sound v e z = rw (← e, ne-eqb (v .number) 0 z) refl
 
-  pub joins-sound : keysOfBoth a b ≤ mostKeys → sizeOf (keysOfBoth a b) ≤ length out → joinWrote (joinedBook a b) out ≡ joinSound a b out
+  pub joins-sound : keysOfBoth a b ≤ mostKeys → sizeOf (keysOfBoth a b) ≤ length out → joinWrote (joinedBook a b) (ran a b out .turns) out ≡ joinSound a b out
   unfolding joinSound
   joins-sound f r = rw (← over-none (keysOfBoth a b) (length out) f r) refl
 
@@ -58,7 +59,7 @@ module _ (a b out : List ℕ) where
     pub refuse-over : (v : Verdict) → v ≡ overflow (keysOfBoth a b) (length out) → (v .number ≡ 0 → ⊥) → joinRefused v out ≡ joining a b out
     refuse-over v e z = refuse-sound v e z ∙ goes-on
 
-    pub joins-both : keysOfBoth a b ≤ mostKeys → sizeOf (keysOfBoth a b) ≤ length out → joinWrote (joinedBook a b) out ≡ joining a b out
+    pub joins-both : keysOfBoth a b ≤ mostKeys → sizeOf (keysOfBoth a b) ≤ length out → joinWrote (joinedBook a b) (ran a b out .turns) out ≡ joining a b out
     joins-both f r = joins-sound f r ∙ goes-on
 
   -- one of them is the outcome
@@ -67,7 +68,7 @@ module _ (a b out : List ℕ) where
     many : Screened a b → mostKeys < keysOfBoth a b → joinRefused (refused 8 0) out ≡ joining a b out → Way
     short : Screened a b → length out < sizeOf (keysOfBoth a b) → joinRefused (refused 9 0) out ≡ joining a b out → Way
     joins : Screened a b → keysOfBoth a b ≤ mostKeys
-        → joinWrote (joinedBook a b) out ≡ joining a b out → Way
+        → joinWrote (joinedBook a b) (ran a b out .turns) out ≡ joining a b out → Way
 
   pub way : Way
   way = go (ℕ-discrete (screen a b .number) 0) (decLe n mostKeys) (decLe (sizeOf n) (length out))

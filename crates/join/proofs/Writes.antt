@@ -41,10 +41,11 @@ stores-book v h cs n out mid after e room s t =
           ∙ front-last head (recordBytes cs) out (omega (arith, length-records cs));
     }
 
-pub as-written : (v : ℕ) (h : Header) (cs : List Call) (n : ℕ) (out after : List ℕ) → n ≡ length cs → sizeOf n ≤ length out → Stores out 0 (bookBytes v h cs) after
-    → joinOutcome (record { number = 0; place = 0; length = sizeOf n }) after ≡ joinWrote (bookBytes v h cs) out
-as-written v h cs n out after e room s =
+pub as-written : (v : ℕ) (h : Header) (cs : List Call) (n : ℕ) (out after : List ℕ) (t : ℕ) → n ≡ length cs → n ≡ t → sizeOf n ≤ length out
+    → Stores out 0 (bookBytes v h cs) after
+    → joinOutcome (record { number = 0; place = 0; length = sizeOf n; turns = n }) after ≡ joinWrote (bookBytes v h cs) t out
+as-written v h cs n out after t e f room s =
     let size = length-book v h cs in
     let bytes : after ≡ bookBytes v h cs ++ drop (length (bookBytes v h cs)) out =
     s .is ∙ sets-eq (bookBytes v h cs) out 0 (omega (arith, size)) ∙ ap (λ (j : ℕ). bookBytes v h cs ++ drop j out) (zero-add (length (bookBytes v h cs))) in
-    λ i. joinOutcome (record { number = 0; place = 0; length = (ap sizeOf e ∙ sym size) i }) (bytes i)
+    λ i. joinOutcome (record { number = 0; place = 0; length = (ap sizeOf e ∙ sym size) i; turns = f i }) (bytes i)

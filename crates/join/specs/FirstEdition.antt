@@ -1,9 +1,9 @@
 -- The join of the first edition, letter for letter, as it stood before there was a second version: kept for comparison, and no code cites it. Assumes nothing.
 use mathlib.Core.Bool.{Bool, cond, not, _&&_}
-use mathlib.Core.List.{List}
+use mathlib.Core.List.{List, _++_}
 use Prim.Native.Nat.{ℕ}
 use lib.Dec.{eqb, ltb}
-use lib.ListN.{length}
+use lib.ListN.{length, drop}
 use Rattle.call.specs.declared.Call.{Call}
 use Rattle.book.specs.declared.Header.{Header}
 use Rattle.book.specs.declared.Verdict.{Verdict}
@@ -12,7 +12,23 @@ use Rattle.book.specs.Check.{refused, accepted}
 use Rattle.book.specs.FirstEdition.{version, mostRecords, check}
 use Rattle.rule.specs.Joined.{joinCalls}
 use Rattle.pair.specs.Screening.{passes, raised}
-use Rattle.join.specs.Joining.{JoinOutcome, joinRefused, joinWrote, keysOfBoth}
+use Rattle.join.specs.Joining.{keysOfBoth}
+use Rattle.join.specs.Joining as now
+
+-- what a join leaves: a refusal's number and place, or zeros; the joined book's length; the lent output
+pub record JoinOutcome : Type 0 where
+  pub number : ℕ
+  pub place : ℕ
+  pub size : ℕ
+  pub out : List ℕ
+
+-- a refusal: number and place, otherwise zeros; the output keeps its contents
+abbrev pub joinRefused : Verdict → List ℕ → JoinOutcome
+joinRefused v out = record { number = v .number; place = v .place; size = 0; out = out }
+
+-- accepted: the book stands at the start of the output, and the bytes after it stay
+abbrev pub joinWrote : List ℕ → List ℕ → JoinOutcome
+joinWrote book out = record { number = 0; place = 0; size = length book; out = book ++ drop (length book) out }
 
 -- first book, second book
 unfoldable pub bothSound : List ℕ → List ℕ → Verdict
@@ -54,3 +70,7 @@ unfoldable pub joining : List ℕ → List ℕ → List ℕ → JoinOutcome
 joining first second out =
     cond (passes (joinFault first second (length out))) (joinWrote (bookBytes version (headerAt first) (joinedOf first second)) out)
     (joinRefused (joinFault first second (length out)) out)
+
+-- for the comparison: what of an outcome of today the first edition told, all but the turns
+abbrev pub toldThen : now.JoinOutcome → JoinOutcome
+toldThen o = record { number = o .number; place = o .place; size = o .size; out = o .out }

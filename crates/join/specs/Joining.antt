@@ -12,29 +12,31 @@ use Rattle.rule.specs.Keys.{differentKeys}
 use Rattle.rule.specs.Joined.{joinCalls}
 use Rattle.pair.specs.Screening.{passes, screen}
 use Rattle.join.specs.declared.Joined.{Joined}
+use Rattle.join.specs.Turns.{ran}
 
--- what a join leaves: a refusal's number and place, or zeros; the joined book's length; the lent output
+-- what a join leaves: a refusal's number and place, or zeros; the joined book's length; the turns that it took; the lent output
 pub record JoinOutcome : Type 0 where
   pub number : ℕ
   pub place : ℕ
   pub size : ℕ
+  pub turns : ℕ
   pub out : List ℕ
 
 -- the answer and the output at exit, as one outcome
 abbrev pub joinOutcome : Joined → List ℕ → JoinOutcome
-joinOutcome answer after = record { number = answer .number; place = answer .place; size = answer .length; out = after }
+joinOutcome answer after = record { number = answer .number; place = answer .place; size = answer .length; turns = answer .turns; out = after }
 
 -- a refusal: number and place, otherwise zeros; the output keeps its contents
 abbrev pub joinRefused : Verdict → List ℕ → JoinOutcome
-joinRefused v out = record { number = v .number; place = v .place; size = 0; out = out }
+joinRefused v out = record { number = v .number; place = v .place; size = 0; turns = 0; out = out }
 
--- accepted: the book stands at the start of the output, and the bytes after it stay
-abbrev pub joinWrote : List ℕ → List ℕ → JoinOutcome
-joinWrote book out = record { number = 0; place = 0; size = length book; out = book ++ drop (length book) out }
+-- accepted after so many turns: the book stands at the start of the output, and the bytes after it stay
+abbrev pub joinWrote : List ℕ → ℕ → List ℕ → JoinOutcome
+joinWrote book turns out = record { number = 0; place = 0; size = length book; turns = turns; out = book ++ drop (length book) out }
 
--- a lone book, which nothing was joined with
+-- a lone book, which nothing was joined with: no turn
 abbrev pub lone : List ℕ → JoinOutcome
-lone book = record { number = 0; place = 0; size = length book; out = book }
+lone book = record { number = 0; place = 0; size = length book; turns = 0; out = book }
 
 -- how many different keys books have
 unfoldable pub keyCount : List (List ℕ) → ℕ
@@ -70,10 +72,11 @@ joinedVersion first second = pairVersion (versionAt first) (versionAt second) (k
 abbrev pub joinedBook : List ℕ → List ℕ → List ℕ
 joinedBook first second = bookBytes (joinedVersion first second) (headerAt first) (joinedOf first second)
 
--- two sound books of one month and area: 8, 9, or the joined book at the start of the output, and the bytes after it stay; a refusal changes nothing
+-- two sound books of one month and area: 8, 9, or the joined book at the start of the output, and the bytes after it stay; a refusal changes nothing.
+-- The turns are those of the run
 unfoldable pub joinSound : List ℕ → List ℕ → List ℕ → JoinOutcome
 joinSound first second out =
-    cond (passes (overflow (keysOfBoth first second) (length out))) (joinWrote (joinedBook first second) out)
+    cond (passes (overflow (keysOfBoth first second) (length out))) (joinWrote (joinedBook first second) (ran first second out .turns) out)
     (joinRefused (overflow (keysOfBoth first second) (length out)) out)
 
 -- any two books: the first book's refusal, the second's, 7, or what they give

@@ -10,6 +10,7 @@ use Rattle.book.specs.Book.{mostKeys, sizeOf, headerAt}
 use Rattle.book.specs.Check.{refused, accepted}
 use Rattle.book.specs.Sound.{Sound}
 use Rattle.book.specs.Refusals.{Refusal}
+use Rattle.join.specs.Turns.{ran}
 use Rattle.join.specs.Joining.{JoinOutcome, joinRefused, joinWrote, keysOfBoth, joinedBook}
 
 -- year, month or area differ
@@ -24,7 +25,8 @@ pub record Alike (first second : List ℕ) : Type 0 where
   pub month : headerAt first .month ≡ headerAt second .month
   pub area : headerAt first .area ≡ headerAt second .area
 
--- the first book's refusal; the second's, its number raised by 20 and its place counting in the second book; 7; 8; 9; the joined book
+-- the first book's refusal; the second's, its number raised by 20 and its place counting in the second book; 7; 8; 9, each without a turn;
+-- the joined book, with the turns of the run
 pub data JoinVerdict (first second out : List ℕ) (o : JoinOutcome) : Type 0 where
   first-refused : (v : Verdict) → Refusal first v → v ≢ accepted → o ≡ joinRefused v out → JoinVerdict first second out o
   second-refused : (v : Verdict) → Sound first → Refusal second v → v ≢ accepted
@@ -34,4 +36,4 @@ pub data JoinVerdict (first second out : List ℕ) (o : JoinOutcome) : Type 0 wh
   nine : Alike first second → keysOfBoth first second ≤ mostKeys → length out < sizeOf (keysOfBoth first second)
       → o ≡ joinRefused (refused 9 0) out → JoinVerdict first second out o
   joined : Alike first second → keysOfBoth first second ≤ mostKeys → sizeOf (keysOfBoth first second) ≤ length out
-      → o ≡ joinWrote (joinedBook first second) out → JoinVerdict first second out o
+      → o ≡ joinWrote (joinedBook first second) (ran first second out .turns) out → JoinVerdict first second out o

@@ -29,15 +29,16 @@ ghost use Rattle.call.specs.Layout.{recordSize, callAt, callBytes};
 ghost use Rattle.book.specs.Book.{mostKeys, sizeOf, placeOf};
 ghost use Rattle.rule.specs.Standing.{given};
 ghost use Rattle.pair.specs.Screening.{IsAccepted};
-ghost use Rattle.join.specs.Turns.{turnsRun, begun};
+ghost use Rattle.join.specs.Turns.{turnsRun, begun, ran};
 ghost use Rattle.join.specs.Joining.{joinOutcome, joinRefused, keysOfBoth, overflow, pairVersion, joinedBook, joinSound, joining};
 ghost use Rattle.join.specs.Steps.{RecordLies, Spells, wordBytes, KeyCounted, ReadTo, TurnTaken, TurnsTaken, LastTurn, LastTurns, over};
 
-// A refusal's number and place, or zeros, and the length of the joined book.
+// A refusal's number and place, or zeros, the length of the joined book, and the turns that the join took.
 pub struct Joined {
     pub number: u32,
     pub place: usize,
     pub length: usize,
+    pub turns: usize,
 }
 
 // The places of the next records in both books.
@@ -296,7 +297,7 @@ fn put_book(first: &[u8], second: &[u8], out: &mut [u8]) -> usize
     requires { ⌜ IsAccepted (now second) ⌝ }
     requires { ⌜ keysOfBoth (now first) (now second) ≤ mostKeys ⌝ }
     requires { ⌜ sizeOf (keysOfBoth (now first) (now second)) ≤ length (now out) ⌝ }
-    ensures { λ r. ⌜ (r ≡ keysOfBoth (now (first .entry)) (now (second .entry)))
+    ensures { λ r. ⌜ (r ≡ ran (now (first .entry)) (now (second .entry)) (now (out .entry)) .turns)
         × Stores (now (out .entry)) 0 (joinedBook (now (first .entry)) (now (second .entry))) (now (out .exit)) ⌝ }
 {
     let turns = put_records(first, second, out);
@@ -337,6 +338,7 @@ fn join_refused(v: Verdict) -> Joined
         number: v.number,
         place: v.place,
         length: 0,
+        turns: 0,
     }
 }
 
@@ -356,6 +358,7 @@ pub fn join_sound(first: &[u8], second: &[u8], out: &mut [u8]) -> Joined
         number: 0,
         place: 0,
         length: size,
+        turns,
     }
 }
 

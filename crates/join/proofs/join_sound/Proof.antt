@@ -7,6 +7,8 @@ use Rattle.book.specs.Book.{mostKeys, sizeOf}
 use Rattle.join.specs.Joining.{keysOfBoth}
 use Rattle.join.proofs.WaysOut.{refuse-sound, joins-sound, never-over}
 use Rattle.join.proofs.Steps.{joined-length}
+use Rattle.join.proofs.Books.{keys-rise}
+use Rattle.join.proofs.Taken.{ran-turns}
 use Rattle.join.proofs.Writes.{as-written}
 use borrow.Author.Needs.{needs}
 use Rattle.join.proofs.join_sound.Statement.{statement}
@@ -29,15 +31,24 @@ put-book-requires c κs =
     let f = fits (c .before) in
     (s .0, (s .1, (f .0, f .1)))
 
+-- a turn for each key
+turns : (c : tie.After-put-book)
+    → let s = c .before .before .before .before .before .before .before .before .args in
+    c .put-book .result ≡ keysOfBoth (s .first .now) (s .second .now)
+turns c =
+    let pre = c .before .before .before .before .before .before .before .before .pre in
+    c .put-book .ensures .0 ∙ ran-turns _ _ _ (keys-rise _ (pre .0)) (keys-rise _ (pre .1))
+
 size-of-requires : tie.Need-size-of-requires
-size-of-requires c κs = let f = fits (c .before .before .before .before) in omega (arith, c .before .before .put-book .ensures .0)
+size-of-requires c κs = let f = fits (c .before .before .before .before) in omega (arith, turns (c .before .before))
 
 returns-2 : tie.Need-returns-2
 returns-2 c =
     let b = c .before .before .before in
-    let e = b .put-book .ensures .0 in
+    let e = turns b in
     let f = fits (b .before .before) in
-    rw (c .size-of .ensures) (as-written _ _ _ (b .put-book .result) _ _ (e ∙ sym (joined-length _ _)) (omega arith) (b .put-book .ensures .1))
+    rw (c .size-of .ensures)
+    (as-written _ _ _ (b .put-book .result) _ _ _ (e ∙ sym (joined-length _ _)) (b .put-book .ensures .0) (omega arith) (b .put-book .ensures .1))
     ∙ joins-sound _ _ _ (f .0) (f .1)
 
 pub join-sound-spec : {M : Type 1} → statement M

@@ -1,9 +1,9 @@
 use mathlib.Core.Path.{_≡_, sym, _∙_}
 use native.Mathlib.Omega.{arith}
 use Rattle.join.specs.Joining.{keysOfBoth, pairVersion, joinedVersion}
-use Rattle.join.proofs.Books.{long}
+use Rattle.join.proofs.Books.{long, keys-rise}
 use Rattle.join.proofs.Steps.{joined-length}
-use Rattle.join.proofs.Taken.{run-over}
+use Rattle.join.proofs.Taken.{run-over, ran-turns}
 use Rattle.join.proofs.Writes.{stores-book}
 use borrow.Author.Needs.{needs}
 use Rattle.join.proofs.put_book.Statement.{statement}
@@ -39,7 +39,7 @@ returns c =
     let v : pair .pair-version .result ≡ joinedVersion (s .args .first .now) (s .args .second .now) =
     pair .pair-version .ensures
     ∙ (λ i. pairVersion (pair .before .before .version-at .ensures i) (pair .before .version-at2 .ensures i) (put .0 i)) in (
-      put .0,
+      put .0 ∙ sym (ran-turns _ _ _ (keys-rise _ (s .pre .0)) (keys-rise _ (s .pre .1 .0))),
       stores-book _ _ _ _ _ _ _ (put .0 ∙ sym (joined-length _ _)) (omega (arith, s .pre .1 .1 .1, joined-length (s .args .first .now) (s .args .second .now))) (put .1)
           (rw (head .before .header-at .ensures, v) at (head .put-header .ensures)),
     )
