@@ -13,6 +13,8 @@ pub mod Accepted
 pub mod Entering
 pub mod Determined
 pub mod Exact
+pub mod Turning
+pub mod Chains
 pub mod Story
 pub mod Without
 pub mod WithoutStory

@@ -29,7 +29,7 @@ use Rattle.join.proofs.OneVersion.{leaves-version, version-same}
 use Rattle.join.proofs.Trees.{book-sound, treeOf, covers-over, month-sounds, heading, tree-calls, tree-known, tree-few, Gives, gives, Ends, through, stops, ends}
 
 -- a tree's leaves are sound books of the month, as the books are that it covers
-leaves-month : (h : Header) (bs : List (List ℕ)) (p : Plan) → Covers p bs → OneMonth h bs → OneMonth h (books p)
+pub leaves-month : (h : Header) (bs : List (List ℕ)) (p : Plan) → Covers p bs → OneMonth h bs → OneMonth h (books p)
 leaves-month h bs p c o = record { sound = λ b i. o .sound b (c .only b i); header = λ b i. o .header b (c .only b i) }
 
 module _ (h : Header) (bs : List (List ℕ)) (month : OneMonth h bs) (p : Plan) (covers : Covers p bs) where

@@ -3,6 +3,7 @@ pub mod Joining
 pub mod Verdict
 pub mod Steps
 pub mod Trees
+pub mod Chain
 pub mod Changing
 pub mod Without
 pub mod Nothing

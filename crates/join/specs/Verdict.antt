@@ -25,6 +25,12 @@ pub record Alike (first second : List ℕ) : Type 0 where
   pub month : headerAt first .month ≡ headerAt second .month
   pub area : headerAt first .area ≡ headerAt second .area
 
+-- two such books with no more keys together than a book may have, and an output with room for them
+pub record Joinable (first second out : List ℕ) : Type 0 where
+  pub alike : Alike first second
+  pub few : keysOfBoth first second ≤ mostKeys
+  pub room : sizeOf (keysOfBoth first second) ≤ length out
+
 -- the first book's refusal; the second's, its number raised by 20 and its place counting in the second book; 7; 8; 9, each without a turn;
 -- the joined book, with the turns of the run
 pub data JoinVerdict (first second out : List ℕ) (o : JoinOutcome) : Type 0 where

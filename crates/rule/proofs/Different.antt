@@ -1,12 +1,12 @@
 -- The different keys of books, and a record for each of them. Assumes nothing.
-use mathlib.Core.Path.{_≡_, refl, sym, _∙_, ap, subst}
+use mathlib.Core.Path.{_≡_, refl, sym, _∙_, ap, ap₂, subst}
 use mathlib.Core.Logic.{_⊎_, inl, inr, ⊎-elim}
-use mathlib.Core.List.{List, [], _∷_, List·Memᴰ as In, List·Memᴰ·head as here, List·Memᴰ·tail as there, List·Memᴰ·cases-cons as in-cons, List·Memᴰ·not-nil as in-nil}
+use mathlib.Core.List.{List, [], _∷_, map, List·Memᴰ as In, List·Memᴰ·head as here, List·Memᴰ·tail as there, List·Memᴰ·cases-cons as in-cons, List·Memᴰ·not-nil as in-nil}
 use mathlib.Core.Option.{Option, none, some}
-use Prim.Native.Nat.{ℕ, suc, _≤_, _<_}
+use Prim.Native.Nat.{ℕ, zero, suc, _≤_, _<_}
 use native.Mathlib.Omega.{arith}
 use native.Mathlib.Decide.{ℕ-discrete}
-use lib.ListN.{length}
+use lib.ListN.{length, take, drop}
 use borrow.Author.Tests.{le-ltb, lt-ltb}
 use Rattle.call.specs.declared.Call.{Call}
 use Rattle.call.specs.Key.{callKey}
@@ -126,6 +126,22 @@ different-in (d ∷ bs) i m = go (different-in bs i) (all-in d (differentKeys bs
     go ih (inl h) = (d, here refl, h)
     go ih (inr j) = let h = ih j in (h .0, there (h .1), h .2)
 
+-- In two parts
+
+in-drop : (t : ℕ) (ks : List ℕ) (k : ℕ) → In k (drop t ks) → In k ks
+in-drop zero ks k i = i
+in-drop (suc t) [] k i = i
+in-drop (suc t) (j ∷ ks) k i = there (in-drop t ks k i)
+
+-- of rising keys each of the first so many is below each of the others
+pub first-below : (n t : ℕ) (ks : List ℕ) → Rising self n ks → (k l : ℕ) → In k (take t ks) → In l (drop t ks) → k < l
+unfolding self
+first-below n zero ks r k l i j = absurd (in-nil i)
+first-below n (suc t) [] r k l i j = absurd (in-nil i)
+first-below n (suc t) (h ∷ ks) r k l i j =
+    ⊎-elim (λ (e : k ≡ h). let a = in-above self (suc h) ks l (r .1) (in-drop t ks l j) in omega arith)
+    (λ m. first-below (suc h) t ks (r .1) k l m j) (in-cons i)
+
 -- How many they are, of calls whose keys rise and of one call more
 
 put-had : (n k : ℕ) (js : List ℕ) → Rising self n js → In k js → length (put k js) ≡ length js
@@ -224,3 +240,11 @@ pub at-length : (f : ℕ → Option Call) (ks : List ℕ) → ((k : ℕ) → In 
 unfolding recordsAt also
 at-length f [] h = refl
 at-length f (k ∷ ks) h = rw (h k (here refl) .1) (ap suc (at-length f ks (λ j i. h j (there i))))
+
+-- and theirs are those keys
+pub at-keys : (f : ℕ → Option Call) → Keyed f → (ks : List ℕ) → ((k : ℕ) → In k ks → (c : Call) × (f k ≡ some c)) → map callKey (recordsAt f ks) ≡ ks
+unfolding recordsAt also
+at-keys f keyed [] h = refl
+at-keys f keyed (k ∷ ks) h =
+    let c = h k (here refl) in
+    rw (c .1) (ap₂ (λ (j : ℕ) (js : List ℕ). j ∷ js) (keyed k (c .0) (c .1)) (at-keys f keyed ks (λ j i. h j (there i))))

@@ -1,7 +1,7 @@
 -- The join of two lists, key by key: what a key finds in it, that its keys rise, and how many they are. Assumes nothing.
 use mathlib.Core.Path.{_≡_, refl, sym, _∙_, ap}
 use mathlib.Core.Logic.{_⊎_, inl, inr, ⊎-elim}
-use mathlib.Core.List.{List, [], _∷_, List·Memᴰ as In, List·Memᴰ·head as here, List·Memᴰ·tail as there, List·Memᴰ·cases-cons as in-cons, List·Memᴰ·eq-of-singleton as eq-of-one}
+use mathlib.Core.List.{List, [], _∷_, map, List·Memᴰ as In, List·Memᴰ·head as here, List·Memᴰ·tail as there, List·Memᴰ·cases-cons as in-cons, List·Memᴰ·eq-of-singleton as eq-of-one}
 use mathlib.Core.Option.{Option, none, some}
 use Prim.Native.Nat.{ℕ}
 use native.Mathlib.Omega.{arith}
@@ -14,7 +14,7 @@ use Rattle.rule.specs.Keys.{recordOf, differentKeys, recordsAt}
 use Rattle.rule.specs.Joined.{joinedAt, joinedFor, joinCalls}
 use Rattle.rule.proofs.Keyed.{find-in}
 use Rattle.rule.proofs.Lattice.{stand-key}
-use Rattle.rule.proofs.Different.{Keyed, Has, different-rise, in-different, different-in, at-find, at-rises, at-length}
+use Rattle.rule.proofs.Different.{Keyed, Has, different-rise, in-different, different-in, at-find, at-rises, at-length, at-keys}
 
 module _ (xs ys : List Call) where
   -- the joined record of a key is of that key
@@ -67,3 +67,8 @@ module _ (xs ys : List Call) where
   pub join-length : length (joinCalls xs ys) ≡ length (differentKeys (xs ∷ ys ∷ []))
   unfolding joinCalls
   join-length = at-length (joinedFor xs ys) (differentKeys (xs ∷ ys ∷ [])) joined-some
+
+  -- whose keys they are
+  pub join-keys : map callKey (joinCalls xs ys) ≡ differentKeys (xs ∷ ys ∷ [])
+  unfolding joinCalls
+  join-keys = at-keys (joinedFor xs ys) joined-keyed (differentKeys (xs ∷ ys ∷ [])) joined-some
