@@ -1,8 +1,9 @@
 -- The turns of a chain of joins, and of the last join of a tree: the different keys, and what they come to at most. Assumes nothing.
 use mathlib.Core.Path.{_≡_, refl, sym, _∙_, ap, ap₂, subst}
-use mathlib.Core.Logic.{inl, inr, ⊎-elim}
-use mathlib.Core.List.{List, [], _∷_, _++_, map, Memᴰ·append-left, List·Memᴰ as In, List·Memᴰ·head as here, List·Memᴰ·tail as there, List·Memᴰ·append-cases as in-append, List·Memᴰ·eq-of-singleton as eq-of-one}
-use Prim.Native.Nat.{ℕ, zero, suc, _+_, _*_, _≤_, min}
+use mathlib.Core.Logic.{⊎-elim}
+use mathlib.Core.List.{List, [], _∷_, _++_, map}
+use mathlib.Core.List.{List·Memᴰ as In, List·Memᴰ·head as here, List·Memᴰ·tail as there, List·Memᴰ·append-cases as in-append, List·Memᴰ·eq-of-singleton as eq-of-one}
+use Prim.Native.Nat.{ℕ, suc, _+_, _*_, _≤_, min}
 use native.Mathlib.Nat.{mul-add, suc-mul}
 use native.Mathlib.Omega.{arith}
 use native.Mathlib.Decide.{ℕ-discrete}
@@ -15,18 +16,16 @@ use Rattle.book.specs.declared.Header.{Header}
 use Rattle.book.specs.Book.{firstVersion, mostKeys, headerAt, countAt, callsOf, recordBytes, bookBytes}
 use Rattle.book.specs.Sound.{Sound}
 use Rattle.book.specs.Write.{BookOutcome, writeFault, writing}
-use Rattle.book.proofs.Heads.{known-most, first-known, first-some, count-back}
+use Rattle.book.proofs.Heads.{first-known, first-some, count-back}
 use Rattle.book.proofs.Writing.{book-written, refused-kept, written-sound}
 use Rattle.rule.specs.Keys.{putAll, differentKeys}
 use Rattle.rule.specs.Whole.{treeJoined}
-use Rattle.join.specs.Joining.{JoinOutcome, keyCount, joinedVersion, joining}
+use Rattle.join.specs.Joining.{JoinOutcome, keyCount, joining}
 use Rattle.join.specs.Trees.{Plan, book, join, books, written, joinBoth, result, OneMonth, Covers}
 use Rattle.join.specs.Chain.{Link, linked, chain, emptyBook, sum, turnsOf, keysUpTo, mostTurns, countedAgain}
-use Rattle.join.proofs.Steps.{joined-length}
-use Rattle.join.proofs.Versions.{pair-known, treeVersion}
+use Rattle.join.proofs.Versions.{treeVersion}
 use Rattle.join.proofs.Trees.{treeOf, keys-of, key-count, tree-known, tree-few, Ends, through, stops, ends}
 use Rattle.join.proofs.Orders.{leaves-month}
-use Rattle.join.proofs.Accepted.{accepts}
 use Rattle.join.proofs.Turning.{count-told, turns-are-keys, turns-few, turns-most, refused-no-turns}
 
 -- The last join of a tree

@@ -15,6 +15,7 @@ pub mod Determined
 pub mod Exact
 pub mod Turning
 pub mod Chains
+pub mod TurnCases
 pub mod Story
 pub mod Without
 pub mod WithoutStory

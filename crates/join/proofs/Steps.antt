@@ -2,22 +2,19 @@
 use mathlib.Core.Path.{_≡_, refl, sym, _∙_, ap, ap₂}
 use mathlib.Core.Bool.{Bool, true, false, _&&_}
 use mathlib.Core.Logic.{_⊎_, inl, inr}
-use mathlib.Core.List.{List, [], _∷_, _++_, append-nil, append-assoc}
-use Prim.Native.Nat.{ℕ, zero, suc, _+_, _*_, _-_, _/_, _<_, _≤_}
+use mathlib.Core.List.{List, [], _∷_, _++_, append-nil}
+use Prim.Native.Nat.{ℕ, suc, _+_, _-_, _/_, _<_, _≤_}
 use native.Mathlib.Nat.{sub-zero}
 use native.Mathlib.Omega.{arith}
 use lib.Dec.{ltb}
 use lib.ListN.{length, length-append}
-use lib.Seq.{append-snoc, length-sets}
+use lib.Seq.{append-snoc}
 use borrow.Author.Tests.{ltb-true, ltb-false}
-use Rattle.le.specs.Le.{Stores}
-use Rattle.le.proofs.Laws.{then}
 use Rattle.le.proofs.Tests.{each}
 use Rattle.call.specs.declared.Call.{Call}
 use Rattle.call.specs.Key.{callKey}
-use Rattle.call.specs.Layout.{recordSize, callAt, callBytes}
-use Rattle.book.specs.Book.{sizeOf, countAt, recordAt, callsFrom, callsOf, recordBytes}
-use Rattle.book.proofs.Lengths.{length-records}
+use Rattle.call.specs.Layout.{recordSize, callAt}
+use Rattle.book.specs.Book.{sizeOf, countAt, recordAt, callsFrom, callsOf}
 use Rattle.book.proofs.Records.{length-calls}
 use Rattle.rule.specs.Standing.{standing}
 use Rattle.rule.specs.Inner.{merge}
@@ -30,7 +27,6 @@ use Rattle.rule.proofs.Merging.{
   upper as gives-upper,
   both as gives-both,
   merges,
-  merges-long,
   merge-nil,
   merge-lt,
   merge-gt,

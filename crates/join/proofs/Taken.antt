@@ -5,15 +5,14 @@ use mathlib.Core.List.{List, [], _∷_}
 use Prim.Native.Nat.{ℕ, zero, suc, _+_, _*_, _-_, _/_, _<_, _≤_}
 use native.Mathlib.Nat.{le-refl, sub-zero, zero-add}
 use native.Mathlib.Omega.{arith}
-use lib.ListN.{length, take}
+use lib.ListN.{length}
 use lib.Seq.{sets, take-all}
 use Rattle.le.specs.Le.{Stores}
 use Rattle.call.specs.declared.Call.{Call}
 use Rattle.call.specs.Key.{callKey}
-use Rattle.call.specs.Layout.{recordSize, callAt, callBytes}
+use Rattle.call.specs.Layout.{callAt, callBytes}
 use Rattle.book.specs.Book.{sizeOf, placeOf, countAt, recordAt, callsFrom, callsOf, recordBytes}
 use Rattle.book.specs.Sound.{Rises}
-use Rattle.rule.specs.Standing.{standing}
 use Rattle.rule.specs.Inner.{merge}
 use Rattle.rule.proofs.Keyed.{weaken}
 use Rattle.rule.proofs.Merging.{merges, merges-long, merge-joins}

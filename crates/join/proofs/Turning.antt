@@ -14,7 +14,6 @@ use Rattle.call.specs.declared.Call.{Call}
 use Rattle.call.specs.Key.{callKey}
 use Rattle.call.specs.Layout.{callBytes}
 use Rattle.call.proofs.Exact.{within-sized}
-use Rattle.book.specs.declared.Header.{Header}
 use Rattle.book.specs.Book.{mostKeys, headerSize, sizeOf, placeOf, headerAt, countAt, callsFrom, callsOf, headBytes, recordBytes, bookBytes}
 use Rattle.book.specs.Check.{accepted, headerMinutes}
 use Rattle.book.specs.Sound.{CallsWithin, Rises}
@@ -23,7 +22,6 @@ use Rattle.book.proofs.Heads.{month-most, known-most, count-back}
 use Rattle.book.proofs.Exact.{sound-accepted}
 use Rattle.book.proofs.Records.{record-back, regroup, longer}
 use Rattle.rule.specs.Keys.{differentKeys}
-use Rattle.rule.specs.Inner.{merge}
 use Rattle.rule.proofs.Different.{different-rise, first-below}
 use Rattle.rule.proofs.Joins.{join-keys}
 use Rattle.rule.proofs.Merging.{merge-joins}
@@ -32,7 +30,7 @@ use Rattle.pair.specs.Screening.{screen}
 use Rattle.pair.proofs.Screening.{screen-passes}
 use Rattle.join.specs.Turns.{Run, turnsRun, begun, ran}
 use Rattle.join.specs.Joining.{JoinOutcome, joinWrote, keysOfBoth, joinedOf, joinedVersion, joinedBook, joining}
-use Rattle.join.specs.Verdict.{Alike, Joinable}
+use Rattle.join.specs.Verdict.{Joinable}
 use Rattle.join.specs.Trees.{written}
 use Rattle.join.proofs.Books.{keys-rise}
 use Rattle.join.proofs.Steps.{joined-length, most-joined}
@@ -139,7 +137,7 @@ module _ (first second out : List ℕ) (fit : Joinable first second out) where
   pub lowest-first : (t : ℕ) → t ≤ keysOfBoth first second
       → (map callKey (callsFrom (turnsRun t (begun first second out) .out) 0 t) ≡ take t (differentKeys (callsOf first ∷ callsOf second ∷ [])))
       × (differentKeys (turnsRun t (begun first second out) .first ∷ turnsRun t (begun first second out) .second ∷ [])
-          ≡ drop t (differentKeys (callsOf first ∷ callsOf second ∷ [])))
+      ≡ drop t (differentKeys (callsOf first ∷ callsOf second ∷ [])))
       × ((k l : ℕ) → In k (take t (differentKeys (callsOf first ∷ callsOf second ∷ []))) → In l (drop t (differentKeys (callsOf first ∷ callsOf second ∷ []))) → k < l)
   unfolding begun joinedOf
   lowest-first t h =
@@ -198,7 +196,7 @@ module _ (first second out : List ℕ) (fit : Joinable first second out) where
   pub run-ends : (ran first second out .first ≡ [])
       × (ran first second out .second ≡ [])
       × (sets (ran first second out .out) 0 (headBytes (joinedVersion first second) (headerAt first) (ran first second out .turns))
-          ≡ joinWrote (joinedBook first second) (ran first second out .turns) out .out)
+      ≡ joinWrote (joinedBook first second) (ran first second out .turns) out .out)
   run-ends =
       let e = ran-over first second out first-rises second-rises in
       let zs = joinedOf first second in

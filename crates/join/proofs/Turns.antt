@@ -1,6 +1,6 @@
 -- One turn over lists whose keys rise, and so many turns: what they write, what they leave, and that they end. Assumes nothing.
 use mathlib.Core.Path.{_≡_, refl, sym, _∙_, ap}
-use mathlib.Core.Logic.{_⊎_, inl, inr, ⊎-elim}
+use mathlib.Core.Logic.{inl, inr, ⊎-elim}
 use mathlib.Core.List.{
   List,
   [],

@@ -5,7 +5,7 @@ use Prim.Native.Nat.{ℕ, suc, _+_, _*_, min}
 use lib.Dec.{eqb}
 use lib.ListN.{length, take}
 use Rattle.book.specs.declared.Header.{Header}
-use Rattle.book.specs.Book.{mostKeys, countAt}
+use Rattle.book.specs.Book.{mostKeys}
 use Rattle.book.specs.Write.{writing}
 use Rattle.join.specs.Joining.{JoinOutcome, keyCount, joining}
 use Rattle.join.specs.Trees.{written}

@@ -4,6 +4,7 @@ pub mod Verdict
 pub mod Steps
 pub mod Trees
 pub mod Chain
+pub mod TurnCases
 pub mod Changing
 pub mod Without
 pub mod Nothing
