@@ -1,4 +1,4 @@
--- What a sound book is: the bytes of a header and a list of calls within the paper's limits, keys rising. Assumes nothing.
+-- What a sound book is: the bytes of a version, a header and a list of calls within the paper's limits, keys rising. Assumes nothing.
 use mathlib.Core.Path.{_≡_}
 use mathlib.Core.Logic.{_⊎_}
 use mathlib.Core.List.{List, [], _∷_}

@@ -2,7 +2,7 @@
 use mathlib.Core.Path.{_≡_, refl, sym, _∙_, ap, subst}
 use mathlib.Core.Bool.{true, false}
 use mathlib.Core.List.{List, [], _∷_, List·Memᴰ as In, List·Memᴰ·head as here}
-use Prim.Native.Nat.{ℕ, _<_}
+use Prim.Native.Nat.{ℕ, _<_, _≤_}
 use native.Mathlib.Omega.{arith}
 use lib.Dec.{lit<, lit≤}
 use lib.IntN.{pos}
@@ -18,18 +18,21 @@ use Rattle.call.specs.Service.{CallWithin}
 use Rattle.call.specs.Layout.{callAt, keyBytes, timeBytes, termBytes, callBytes}
 use Rattle.call.proofs.Exact.{sound-within}
 use Rattle.book.specs.declared.Header.{Header}
-use Rattle.book.specs.Book.{firstVersion, headerAt, countAt, recordAt, callsFrom, callsOf, markBytes, dateBytes, countBytes, headBytes, recordBytes, bookBytes}
+use Rattle.book.specs.Book.{firstVersion, mostRecords, headerAt, countAt, recordAt, callsFrom, callsOf, markBytes, dateBytes, countBytes, headBytes, recordBytes, bookBytes}
 use Rattle.book.specs.Check.{headerMinutes}
-use Rattle.book.specs.Sound.{Heading, CallsWithin, Sound, SaysSame}
+use Rattle.book.specs.Sound.{Heading, CallsWithin, Sound}
 use Rattle.book.proofs.Heads.{first-known, first-fits}
 use Rattle.book.proofs.Exact.{sound-accepted, reads-back}
 use Rattle.book.proofs.Records.{length-calls}
 use Rattle.rule.specs.Standing.{sameCall, decide, given, standing}
 use Rattle.rule.specs.Keys.{recordOf, also, put, putAll, differentKeys, recordsAt}
 use Rattle.rule.specs.Whole.{recordsOf, those, all, highest, withdrawnAt, ruling, ruleFor, ruleOver, ruleCalls}
+use Rattle.join.specs.Joining.{keyCount}
 use Rattle.join.specs.Trees.{book as leaf, books, written, result, Covers}
 use Rattle.join.proofs.Story.{march, stop, entered, early, withdrawal, entered-within, early-within, withdrawal-within, one, one-reads, plant, head-office, spare, three}
-use Rattle.join.proofs.Story.{one-month, left, left-room, left-covers, few}
+use Rattle.join.proofs.Trees.{keys-of}
+use Rattle.join.proofs.OneVersion.{stays-first}
+use Rattle.join.proofs.Story.{one-month, each-first, few-in-first, three-first, left, left-room, left-covers, few}
 use Rattle.lookup.specs.declared.Index.the-variants.{At}
 use Rattle.lookup.specs.Lookup.{indexFrom, indexOf}
 use Rattle.pay.specs.declared.Member.{Member}
@@ -51,7 +54,7 @@ use Rattle.drawer.specs.Refused.{againstAt, firstAgainst, isRefusedAt, r
 use Rattle.drawer.specs.Nothing.{standsAgainst, isCovered, isSpare, orStays, staying}
 use Rattle.drawer.proofs.Agreeing.{joined-calls, nothing-listed}
 use Rattle.drawer.proofs.Scored.{first-is-score, accepted-exactly}
-use Rattle.drawer.proofs.Staying.{says-same}
+use Rattle.drawer.proofs.Staying.{stays-in, bytes-same}
 
 -- The three books, joined: the stop is withdrawn
 
@@ -127,10 +130,13 @@ pub office-stays : staying [] three ≡ head-office ∷ []
 unfolding staying orStays three
 office-stays = rw (spare-listed, office-unlisted, plant-listed) refl
 
--- it by itself is the book of all three
-pub office-alone : SaysSame (written (result (leaf head-office))) (written (result left))
+-- it by itself is the book of all three, byte for byte: all are of the first version
+pub office-alone : written (result (leaf head-office)) ≡ written (result left)
 unfolding books
-office-alone = says-same march three one-month few left (leaf head-office) left-covers covers left-room tt
+office-alone =
+    let l : keyCount (staying [] three) ≤ mostRecords firstVersion = omega (arith, keys-of (staying [] three) three (λ b i. stays-in march [] three b i), few-in-first) in
+    bytes-same march three one-month few left (leaf head-office) left-covers covers left-room tt .1
+    (stays-first (staying [] three) (λ b i. each-first b (stays-in march [] three b i)) l ∙ sym three-first)
   where
     covers : Covers (leaf head-office) (staying [] three)
     covers =

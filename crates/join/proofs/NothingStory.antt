@@ -7,19 +7,20 @@ use Prim.Native.Nat.{ℕ, _≤_}
 use native.Mathlib.Omega.{arith}
 use Rattle.call.specs.declared.Call.{Call}
 use Rattle.call.specs.Key.{callKey}
-use Rattle.book.specs.Book.{mostKeys, callsOf}
-use Rattle.book.specs.Sound.{SaysSame}
+use Rattle.book.specs.Book.{firstVersion, mostRecords, mostKeys, callsOf}
 use Rattle.book.specs.Without.{without, bookWithout}
 use Rattle.book.proofs.Without.{without-hit, without-reads}
 use Rattle.rule.specs.Standing.{sameCall, decide, given, standing}
 use Rattle.rule.specs.Keys.{recordOf, also, put, putAll, differentKeys}
 use Rattle.rule.specs.Whole.{recordsOf, those, all, highest, withdrawnAt, ruling, ruleFor, ruleOver}
 use Rattle.join.specs.Joining.{keyCount}
-use Rattle.join.specs.Trees.{Plan, book, join, books, written, result, Room, OneMonth, Covers}
+use Rattle.join.specs.Trees.{Plan, book, join, books, written, result, Room, OneMonth, Covers, versionOver}
 use Rattle.join.specs.Nothing.{AddsNothing}
-use Rattle.join.proofs.Nothing.{no-key-more, left-out, entry-out, withdrawn-stands}
+use Rattle.join.proofs.Trees.{keys-of}
+use Rattle.join.proofs.OneVersion.{stays-first}
+use Rattle.join.proofs.Nothing.{no-key-more, left-out-bytes, entry-out, withdrawn-stands}
 use Rattle.join.proofs.Story.{march, stop, entered, early, withdrawal, entered-within, early-within, withdrawal-within, one, one-sound, one-reads, plant, head-office, spare, three}
-use Rattle.join.proofs.Story.{one-month, plant-and-office, output, output-long, left, left-room, left-covers, withdrawn-there}
+use Rattle.join.proofs.Story.{one-month, each-first, few-in-first, plant-and-office, output, output-long, left, left-room, left-covers, withdrawn-there}
 
 -- the plant's book and head office's
 unfoldable pub two : List (List ℕ)
@@ -88,9 +89,18 @@ pub few : keyCount two ≤ mostKeys
 unfolding two
 few = omega (arith, plant-and-office)
 
--- with the spare terminal or without it: the same book
-pub spare-left-out : SaysSame (written (result left)) (written (result without-spare))
-spare-left-out = left-out march spare two spare-month spare-adds-nothing left without-spare left-covers-spare without-spare-covers few left-room without-spare-room
+-- with the spare terminal or without it all books are of the first version, and there are few keys
+part-first : (bs : List (List ℕ)) → ((b : List ℕ) → In b bs → In b three) → versionOver bs ≡ firstVersion
+part-first bs f =
+    let l : keyCount bs ≤ mostRecords firstVersion = omega (arith, keys-of bs three f, few-in-first) in
+    stays-first bs (λ b i. each-first b (f b i)) l
+
+-- so it is the same book, byte for byte
+pub spare-left-out : written (result left) ≡ written (result without-spare)
+unfolding three two
+spare-left-out =
+    left-out-bytes march spare two spare-month spare-adds-nothing left without-spare left-covers-spare without-spare-covers few left-room without-spare-room .1
+    (part-first (spare ∷ two) (behind spare) ∙ sym (part-first two (λ b i. behind spare b (there i))))
 
 -- The spare terminal's book without the early entry
 

@@ -18,7 +18,7 @@ use Rattle.call.specs.Revising.{callWithdrawn}
 use Rattle.call.specs.Service.{CallWithin}
 use Rattle.call.proofs.Exact.{sound-within}
 use Rattle.book.specs.declared.Header.{Header}
-use Rattle.book.specs.Book.{firstVersion, mostKeys, versionAt, headerAt, countAt, callsOf, bookBytes}
+use Rattle.book.specs.Book.{firstVersion, mostRecords, mostKeys, versionAt, headerAt, countAt, callsOf, bookBytes}
 use Rattle.book.specs.Check.{headerMinutes}
 use Rattle.book.specs.Sound.{Heading, Sound}
 use Rattle.book.proofs.Heads.{first-known, first-some, first-fits}
@@ -178,11 +178,16 @@ unfolding three
 few = omega (arith, all-three)
 
 -- they are of the first version, and so is what they give
+pub each-first : (b : List ℕ) → In b three → versionAt b ≡ firstVersion
+unfolding plant head-office spare
+each-first = each (λ (b : List ℕ). versionAt b ≡ firstVersion) (one-first entered entered-within) (one-first withdrawal withdrawal-within) (one-first early early-within)
+
+pub few-in-first : keyCount three ≤ mostRecords firstVersion
+unfolding three
+few-in-first = first-fits (keyCount three) (omega (arith, all-three))
+
 pub three-first : versionOver three ≡ firstVersion
-unfolding three plant head-office spare
-three-first =
-    stays-first three (each (λ (b : List ℕ). versionAt b ≡ firstVersion) (one-first entered entered-within) (one-first withdrawal withdrawal-within) (one-first early early-within))
-    (first-fits (keyCount three) (omega (arith, all-three)))
+three-first = stays-first three each-first few-in-first
 
 -- both groupings are accepted throughout, and give the book of the whole list
 pub left-book : AllAccepted left × (result left .number ≡ 0) × (written (result left) ≡ ruleBook march three)

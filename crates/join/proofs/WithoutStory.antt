@@ -131,6 +131,6 @@ stop-gone =
     withdrawn-place march (books both) one-month both (record { all = λ b i. i; only = λ b i. i }) few room office
     (rw both-books (there (here refl))) gone (rw (office-read .1) (here refl)) refl
 
--- and the two books without it give the joined book without it
+-- and the two books without it give header and calls of the joined book without it
 pub stop-taken-out : SaysSame (written (result (planWithout (callKey gone) both))) (bookWithout (callKey gone) (written (result both)))
 stop-taken-out = same-tree march (callKey gone) both one-month few room

@@ -29,12 +29,21 @@ otherOrder = join (book nextCall) (book fullFirst) output
 unfoldable pub repeatedOne : Plan
 repeatedOne = join (join (book fullFirst) (book nextCall) output) (book fullFirst) output
 
--- a book of the first version and the empty one of the second
+-- two books of one call, of the first version, and the empty one of the second among them
+unfoldable pub lateCall : List ℕ
+lateCall = bookBytes firstVersion january (numbered 600 1)
+
+unfoldable pub pair : List (List ℕ)
+pair = nextCall ∷ lateCall ∷ []
+
+unfoldable pub pairOrder : Plan
+pairOrder = join (book nextCall) (book lateCall) output
+
 unfoldable pub mixed : List (List ℕ)
-mixed = nextCall ∷ emptySecond ∷ []
+mixed = emptySecond ∷ pair
 
 unfoldable pub mixedOrder : Plan
-mixedOrder = join (book nextCall) (book emptySecond) output
+mixedOrder = join (book nextCall) (join (book emptySecond) (book lateCall) output) output
 
 unfoldable pub mixedBack : Plan
-mixedBack = join (book emptySecond) (book nextCall) output
+mixedBack = join (join (book lateCall) (book nextCall) output) (book emptySecond) output
