@@ -17,7 +17,7 @@
 
 struct side {
     uint32_t (*check)(const uint8_t *, size_t, uint64_t *);
-    uint32_t (*join)(const uint8_t *, size_t, const uint8_t *, size_t, uint8_t *, size_t, uint64_t *, uint64_t *);
+    uint32_t (*join)(const uint8_t *, size_t, const uint8_t *, size_t, uint8_t *, size_t, uint64_t *, uint64_t *, uint64_t *);
     uint32_t (*find)(const uint8_t *, size_t, const uint8_t *, size_t, uint16_t, uint32_t, uint64_t *);
     uint32_t (*score)(uint16_t, uint8_t, uint32_t, const uint8_t *, size_t, const uint32_t *, size_t, uint64_t *, uint64_t *, uint64_t *);
     uint32_t (*share)(uint32_t, const uint8_t *, size_t, uint8_t *, size_t, uint64_t *, int64_t *);
@@ -41,7 +41,7 @@ static uint8_t random_books[TURNS][FEW_BYTES], random_first[TURNS][FEW_BYTES], r
 static uint8_t random_lines[TURNS][64 * 24], random_equal[TURNS][64 * 24];
 
 static uint8_t out[BOOK_MOST];
-static uint64_t place, length, grains, fen;
+static uint64_t place, length, taken, grains, fen;
 static int64_t gap;
 
 /* One sound call of each service in turn; eight calls to a participant. */
@@ -221,11 +221,11 @@ static void build(void)
 /* With room for a full book of version 1, or of version 2: so that 512 + 512 keys have to be counted beforehand, as 2,000 + 2,000 have. */
 static uint32_t join(const struct side *s, const struct book *x, const struct book *y)
 {
-    return s->join(x->bytes, x->len, y->bytes, y->len, out, BOOK_MOST_1, &place, &length);
+    return s->join(x->bytes, x->len, y->bytes, y->len, out, BOOK_MOST_1, &place, &length, &taken);
 }
 static uint32_t join_2(const struct side *s, const struct book *x, const struct book *y)
 {
-    return s->join(x->bytes, x->len, y->bytes, y->len, out, BOOK_MOST, &place, &length);
+    return s->join(x->bytes, x->len, y->bytes, y->len, out, BOOK_MOST, &place, &length, &taken);
 }
 
 /* One key of a book that is lent twice. */
@@ -248,7 +248,7 @@ static uint32_t join_one(const struct side *s, uint32_t t) { (void)t; return joi
 static uint32_t join_refused(const struct side *s, uint32_t t) { (void)t; return join(s, &full, &full_bad); }
 static uint32_t join_random(const struct side *s, uint32_t t)
 {
-    return s->join(random_first[t], FEW_BYTES, random_second[t], FEW_BYTES, out, BOOK_MOST_1, &place, &length);
+    return s->join(random_first[t], FEW_BYTES, random_second[t], FEW_BYTES, out, BOOK_MOST_1, &place, &length, &taken);
 }
 static uint32_t check_full(const struct side *s, uint32_t t) { (void)t; return s->check(full.bytes, full.len, &place); }
 static uint32_t check_random(const struct side *s, uint32_t t) { return s->check(random_books[t], FEW_BYTES, &place); }
@@ -319,13 +319,13 @@ static void calls_of(int row, int side, uint32_t calls)
 }
 
 /* What a call leaves: all cells, and the output. */
-static void answer_of(int row, int side, uint32_t turn, uint64_t cells[6])
+static void answer_of(int row, int side, uint32_t turn, uint64_t cells[7])
 {
     memset(out, 0xee, sizeof out);
-    place = length = grains = fen = 0x5555;
+    place = length = taken = grains = fen = 0x5555;
     gap = 0x5555;
     uint32_t no = rows[row].call(&sides[side], turn);
-    uint64_t c[6] = {no, place, length, grains, fen, (uint64_t)gap};
+    uint64_t c[7] = {no, place, length, taken, grains, fen, (uint64_t)gap};
     memcpy(cells, c, sizeof c);
 }
 
@@ -334,7 +334,7 @@ static void same_answers(void)
     static uint8_t first_out[BOOK_MOST];
     for (int r = 0; r < ROWS; r++)
         for (uint32_t t = 0; t < rows[r].turns; t++) {
-            uint64_t cells[2][6];
+            uint64_t cells[2][7];
             answer_of(r, 0, t, cells[0]);
             memcpy(first_out, out, sizeof out);
             answer_of(r, 1, t, cells[1]);

@@ -128,7 +128,7 @@ static void refused(const char *path, uint32_t number, uint64_t place)
 int main(int argc, char **argv)
 {
     size_t own_len, month_len;
-    uint64_t place, length;
+    uint64_t place, length, turns;
 
     if (argc != 4 || same_file(argv[2], argv[3]) || same_file(argv[1], argv[3])) {
         fprintf(stderr, "usage: plant OWN MONTH RESULT (RESULT is a file of its own)\n");
@@ -142,7 +142,7 @@ int main(int argc, char **argv)
         refused(argv[1], number, place);
         return 1;
     }
-    number = nwb_join(month, month_len, own, own_len, joined, sizeof joined, &place, &length);
+    number = nwb_join(month, month_len, own, own_len, joined, sizeof joined, &place, &length, &turns);
     if (number != 0) {
         /* The second book is the plant's own and was checked above, so 21 to 26 do not come; 7 and 8 concern both. */
         refused(number >= 7 ? "joining" : argv[2], number > 20 ? number - 20 : number, place);

@@ -4,6 +4,7 @@
  *  1  the base.
  *  2  nwb_share takes the generator part and gives the user's amount besides: a tool built with edition 1 must be built anew.
  *  3  books of version 2, of up to 2,000 records. No signature is changed; "Two versions", below, says what a caller has to know.
+ *  4  nwb_join tells its turns in a cell more: a tool built with an earlier header must be built anew.
  *
  * What holds for every function:
  *
@@ -36,7 +37,7 @@
 #include <stddef.h>
 #include <stdint.h>
 
-#define NWB_EDITION 3
+#define NWB_EDITION 4
 
 /* The most records of a version 1 book, and of a version 2 book; the longest book of either version in bytes, 16 + 32 * 2,000. */
 #define NWB_MOST_RECORDS_1 512
@@ -70,10 +71,12 @@ uint32_t nwb_one(uint8_t area, uint16_t year, uint8_t month,
  * The joined book is of version 1 exactly where both books are and it has at most 512 keys, otherwise of version 2.
  * In this order: 1 to 6 for the first book as nwb_check has them, 21 to 26 for the second (its place counts in the second book),
  * 7 (year, month or area differ; the version is not asked), 8 (more than 2,000 keys, whatever the versions), 9.
- * `length` is the joined book's, 16 + 32 for each different key, or 0 on a refusal.
+ * `length` is the joined book's, 16 + 32 for each different key, or 0 on a refusal. `turns` is how much work the join was: it settles
+ * one key a turn, the lowest that either book still has, and writes its record once, so that they are the different keys of both books;
+ * two empty books take none. On a refusal it is 0.
  * Bytes of `out` after the book stay; on a refusal all of them do. `out` must not overlap either book. */
 uint32_t nwb_join(const uint8_t *first, size_t first_len, const uint8_t *second, size_t second_len,
-                  uint8_t *out, size_t out_len, uint64_t *place, uint64_t *length);
+                  uint8_t *out, size_t out_len, uint64_t *place, uint64_t *length, uint64_t *turns);
 
 /* Asks for one key, participant and call number, in two books: the record that stands, as it lies in the first or the second book.
  * Gives 1 where it lies in the first (also where both are equal), 2 where it lies in the second, and in `offset` where its

@@ -240,10 +240,10 @@ static void both_join(const uint8_t *first, size_t len1, const uint8_t *second, 
     with_bytes("first", first, len1), with_bytes("second", second, len2), with("out_len", (int64_t)out_len);
     struct answer a = ref = soiled();
     uint8_t *out = lend(out_len);
-    ref.no = ref_join(first, len1, second, len2, ref_lent.at, out_len, &ref.cell[0], &ref.cell[1]);
+    ref.no = ref_join(first, len1, second, len2, ref_lent.at, out_len, &ref.cell[0], &ref.cell[1], &ref.cell[2]);
     const uint8_t *x = lay(&in1, where1, first, len1), *y = lay(&in2, where2, second, len2);
-    a.no = nwb_join(x, len1, y, len2, out, out_len, &cells[0].cell, &cells[1].cell);
-    compare(JOIN, &a, &ref, 2, input_kept(&in1, first, len1) && input_kept(&in2, second, len2), 1);
+    a.no = nwb_join(x, len1, y, len2, out, out_len, &cells[0].cell, &cells[1].cell, &cells[2].cell);
+    compare(JOIN, &a, &ref, 3, input_kept(&in1, first, len1) && input_kept(&in2, second, len2), 1);
 }
 
 static void both_find(const uint8_t *first, size_t len1, const uint8_t *second, size_t len2, uint16_t participant, uint32_t number)
@@ -664,8 +664,8 @@ static void case_one(void)
 static void join_with_room(size_t len1, size_t len2)
 {
     static uint8_t out[BOOK_MOST];
-    uint64_t place, length;
-    uint32_t no = ref_join(book1, len1, book2, len2, out, sizeof out, &place, &length);
+    uint64_t place, length, turns;
+    uint32_t no = ref_join(book1, len1, book2, len2, out, sizeof out, &place, &length, &turns);
     if (versions == 1 && (no == 8 || length > BOOK_MOST_1))
         return;
     both_join(book1, len1, book2, len2, no == 0 ? room_for(length) : percent(50) ? 0 : no == 8 ? BOOK_MOST + below(100) : below(2000));
@@ -745,8 +745,8 @@ static void case_find(void)
         bad = 1, len2 = damage(book2, len2);
     both_find(book1, len1, book2, len2, participant, number);
     if (bad) { /* which of joining's numbers stands behind the empty answer; those from 3 on do not meet the answers 0, 1 and 2 */
-        uint64_t place, length;
-        uint32_t no = ref_join(book1, len1, book2, len2, out, sizeof out, &place, &length);
+        uint64_t place, length, turns;
+        uint32_t no = ref_join(book1, len1, book2, len2, out, sizeof out, &place, &length, &turns);
         if (no == 1 || no == 2)
             reached[FIND][no + 9]++; /* kept apart, at 10 and 11 */
         else if (no != 0 && no != 8)
@@ -1037,6 +1037,7 @@ static void case_tree(void)
     }
     struct answer expected = soiled(), got = expected;
     expected.no = ref_join_all(list, n, all, sizeof all, &expected.cell[0], &expected.cell[1]);
+    expected.cell[2] = expected.no == 0 ? (expected.cell[1] - 16) / 32 : 0; /* the last join takes a turn for each key of the whole list */
     if (versions == 1 && (expected.no == 8 || expected.cell[1] > BOOK_MOST_1))
         return;
 
@@ -1049,8 +1050,8 @@ static void case_tree(void)
         got = soiled();
         const uint8_t *x = lay(&in1, where1, items[i], item_len[i]), *y = lay(&in2, where2, items[j], item_len[j]);
         uint8_t *out = area_lend(&lent, where_out, NULL, room, salt);
-        got.no = nwb_join(x, item_len[i], y, item_len[j], out, room, &cells[0].cell, &cells[1].cell);
-        got.cell[0] = cells[0].cell, got.cell[1] = cells[1].cell;
+        got.no = nwb_join(x, item_len[i], y, item_len[j], out, room, &cells[0].cell, &cells[1].cell, &cells[2].cell);
+        got.cell[0] = cells[0].cell, got.cell[1] = cells[1].cell, got.cell[2] = cells[2].cell;
         if (got.no != 0)
             break;
         if (got.cell[1] > room || !area_holds(&lent, out, got.cell[1], salt)) {
@@ -1068,6 +1069,8 @@ static void case_tree(void)
     reached[JOIN][expected.no]++;
     if (got.no != expected.no || (got.no != 0 && (got.cell[0] != 0 || got.cell[1] != 0)))
         different("a tree's number against the whole list's", &got, &expected, 0);
+    else if (got.cell[2] != expected.cell[2])
+        different("the turns of a tree's last join against the whole list's keys", &got, &expected, 0);
     else if (got.no == 0 && (item_len[0] != expected.cell[1] || memcmp(items[0], all, item_len[0]) != 0)) {
         if (differences == 0) {
             for (size_t i = 0; i < n; i++)

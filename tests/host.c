@@ -168,10 +168,11 @@ static void expect_join(int line, const uint8_t *first, size_t first_len, const 
         uint8_t *out = area_lend(&lent, placed_now, NULL, out_len, 0xe7);
         soil_cells();
         want("number", nwb_join(first ? x : NULL, first_len, second ? y : NULL, second_len, out_len ? out : NULL, out_len,
-                                CELL(0), CELL(1)), no);
+                                CELL(0), CELL(1), CELL(2)), no);
         want("place", *CELL(0), place);
         want("length", *CELL(1), no == 0 ? joined_len : 0);
-        want_cells_kept(2);
+        want("turns", *CELL(2), no == 0 ? (joined_len - 16) / 32 : 0);
+        want_cells_kept(3);
         want("bytes as promised and nothing else touched",
              (uint64_t)area_holds(&lent, joined, no == 0 ? joined_len : 0, 0xe7), 1);
         want_input_kept(&in1, first, first_len);
@@ -1036,6 +1037,7 @@ static void every_tree(int line, const uint8_t *const books[], const size_t lens
         begin(line, "a tree of joins");
         want("number", 0, no);
         want("length", lens[0], expected_len);
+        want("turns of the last join", *CELL(2), (expected_len - 16) / 32);
         want("bytes", (uint64_t)(lens[0] == expected_len && memcmp(books[0], expected, expected_len) == 0), 1);
         end();
         return;
@@ -1044,10 +1046,11 @@ static void every_tree(int line, const uint8_t *const books[], const size_t lens
         for (size_t j = 0; j < n; j++) {
             if (i == j)
                 continue;
-            uint32_t got = nwb_join(books[i], lens[i], books[j], lens[j], out[n], BOOK_MOST, CELL(0), CELL(1));
+            uint32_t got = nwb_join(books[i], lens[i], books[j], lens[j], out[n], BOOK_MOST, CELL(0), CELL(1), CELL(2));
             if (got != 0) {
                 begin(line, "a tree of joins");
                 want("number", got, no);
+                want("turns", *CELL(2), 0);
                 end();
                 continue;
             }
@@ -1098,6 +1101,110 @@ static void join_trees(void)
         every_tree(__LINE__, list, lens, 4, 8, NULL, 0);
     }
     group("every tree of joins over a list: one version, or 8");
+}
+
+/* Two books joined: number, length and turns as told, each worked out by hand. */
+static void expect_turns(int line, const uint8_t *first, size_t first_len, const uint8_t *second, size_t second_len, size_t out_len,
+                         uint32_t no, uint64_t length, uint64_t turns)
+{
+    begin(line, "turns");
+    FOR_PLACEMENTS {
+        const uint8_t *x = lay(&in1, placed_now, first, first_len), *y = lay(&in2, placed_now, second, second_len);
+        uint8_t *out = area_lend(&lent, placed_now, NULL, out_len, 0xe7);
+        soil_cells();
+        want("number", nwb_join(x, first_len, y, second_len, out, out_len, CELL(0), CELL(1), CELL(2)), no);
+        want("length", *CELL(1), length);
+        want("turns", *CELL(2), turns);
+        want_cells_kept(3);
+        if (no != 0)
+            want("output as lent", (uint64_t)area_holds(&lent, NULL, 0, 0xe7), 1);
+    }
+    end();
+}
+
+/* Book after book joined with what those before it gave, from an empty book on: the turns of each join, what they come to, and the bound from the books' counts, the sum over i of the
+ * smaller of 2,000 and n1 + .. + ni. The first `joins` of them are accepted; the next, if there is one, is refused with 8, takes no turn, and ends the chain. */
+static void expect_chain(int line, const uint8_t *const books[], const size_t lens[], size_t n, size_t joins, const uint64_t turns[], uint64_t all, uint64_t bound)
+{
+    static uint8_t so_far[2][BOOK_MOST];
+    size_t len = put_book(so_far[0], 7, 2025, 1, NULL, 0);
+    uint64_t sum = 0;
+    placed_now = ALIGNED;
+    begin(line, "a chain of joins");
+    for (size_t i = 0; i < n; i++) {
+        soil_cells();
+        uint32_t no = nwb_join(so_far[i % 2], len, books[i], lens[i], so_far[(i + 1) % 2], BOOK_MOST, CELL(0), CELL(1), CELL(2));
+        want("number", no, i < joins ? 0 : 8);
+        want("turns", *CELL(2), i < joins ? turns[i] : 0);
+        sum += *CELL(2);
+        if (no != 0 || *CELL(1) > BOOK_MOST)
+            break;
+        len = (size_t)*CELL(1);
+    }
+    want("all turns", sum, all);
+    want("all turns within the bound", (uint64_t)(sum <= bound), 1);
+    end();
+}
+
+/* A book of calls by their keys, participant and number. */
+static size_t keyed(uint8_t *book, const uint32_t (*keys)[2], size_t n)
+{
+    struct call calls[8];
+    for (size_t i = 0; i < n; i++)
+        calls[i] = live((uint16_t)keys[i][0], keys[i][1], 1, 10, 0, 0, 0, 0, 0);
+    return put_book(book, 7, 2025, 1, calls, n);
+}
+
+static void join_turns(void)
+{
+    /* The numbers 0 to n - 1, and m from `from` on. */
+    static const struct { uint32_t n, from, m; size_t room; uint32_t no; uint64_t length, turns; } rows[] = {
+        {2, 1, 3, MUCH, 0, 144, 4}, {2, 2, 3, MUCH, 0, 176, 5}, {2, 1, 3, 143, 9, 0, 0}, {0, 0, 0, 16, 0, 16, 0}, {512, 0, 512, MUCH, 0, 16400, 512},
+        {512, 0, 511, 16400, 0, 16400, 512}, {0, 0, 2000, MUCH, 0, 64016, 2000}, {2000, 0, 0, 64016, 0, 64016, 2000}, {2000, 0, 2000, 64016, 0, 64016, 2000},
+        {2000, 2000, 1, MUCH, 8, 0, 0}, {1000, 1000, 1000, 64015, 9, 0, 0}};
+    static uint8_t books[6][BOOK_MOST];
+    const uint8_t *list[6] = {books[0], books[1], books[2], books[3], books[4], books[5]};
+    size_t lens[6];
+    for (size_t i = 0; i < ROWS(rows); i++) {
+        uint32_t v = rows[i].n > 512 ? 2 : 1, w = rows[i].m > 512 ? 2 : 1;
+        row = (int)i;
+        if (v > versions || w > versions)
+            continue;
+        size_t l1 = numbered(v, book1, 0, rows[i].n), l2 = numbered(w, book2, rows[i].from, rows[i].m);
+        expect_turns(__LINE__, book1, l1, book2, l2, rows[i].room, rows[i].no, rows[i].length, rows[i].turns);
+    }
+    row = -1;
+    /* A struck key, and a withdrawn one against a live one: a turn each. */
+    struct call c = live(3, 1, 1, 3, 600, 300, 0, 0, 0), d = live(3, 1, 1, 3, 600, 240, 0, 0, 0), gone = empty(3, 1, 1, 2);
+    lens[0] = put_book(books[0], 7, 2025, 1, &c, 1), lens[1] = put_book(books[1], 7, 2025, 1, &d, 1), lens[2] = put_book(books[2], 7, 2025, 1, &gone, 1);
+    expect_turns(__LINE__, books[0], lens[0], books[1], lens[1], 48, 0, 48, 1);
+    expect_turns(__LINE__, books[2], lens[2], books[1], lens[1], 48, 0, 48, 1);
+    expect_turns(__LINE__, books[0], lens[0], books[2], lens[2], 48, 0, 48, 1);
+    /* 2, 3 and 1 calls, the last one known. */
+    lens[0] = numbered(1, books[0], 0, 2), lens[1] = numbered(1, books[1], 2, 3), lens[2] = numbered(1, books[2], 3, 1);
+    expect_chain(__LINE__, list, lens, 3, 3, (const uint64_t[]){2, 5, 5}, 12, 13);
+    /* The keys of the example month, book by book in the order of their names. */
+    lens[0] = keyed(books[0], (const uint32_t[][2]){{1, 1}, {1, 2}, {1, 3}, {1, 4}, {1, 9}}, 5);
+    lens[1] = keyed(books[1], (const uint32_t[][2]){{3, 4}, {4, 7}}, 2);
+    lens[2] = keyed(books[2], (const uint32_t[][2]){{2, 1}, {2, 2}, {2, 3}, {3, 1}, {3, 2}, {3, 3}}, 6);
+    lens[3] = keyed(books[3], (const uint32_t[][2]){{1, 9}, {1, 10}, {4, 7}}, 3);
+    lens[4] = keyed(books[4], (const uint32_t[][2]){{1, 9}}, 1);
+    lens[5] = keyed(books[5], (const uint32_t[][2]){{4, 7}, {4, 8}, {5, 1}, {5, 2}}, 4);
+    expect_chain(__LINE__, list, lens, 6, 6, (const uint64_t[]){5, 7, 13, 14, 14, 17}, 70, 79);
+    if (versions == 2) {
+        /* 1,000 even numbers and 1,000 odd ones, interleaved. */
+        static struct call calls[2][1000];
+        for (uint32_t k = 0; k < 2000; k++)
+            calls[k % 2][k / 2] = live(5, k, 1, 10, 0, 0, 0, 0, 0);
+        lens[0] = put_book_of(2, books[0], 7, 2025, 1, calls[0], 1000), lens[1] = put_book_of(2, books[1], 7, 2025, 1, calls[1], 1000);
+        expect_turns(__LINE__, books[0], lens[0], books[1], lens[1], 64016, 0, 64016, 2000);
+        expect_turns(__LINE__, books[1], lens[1], books[0], lens[0], MUCH, 0, 64016, 2000);
+        /* Four books of 600 calls: the fourth is one too many. */
+        for (uint32_t k = 0; k < 4; k++)
+            lens[k] = numbered(2, books[k], 600 * k, 600);
+        expect_chain(__LINE__, list, lens, 4, 3, (const uint64_t[]){600, 1200, 1800}, 3600, 5600);
+    }
+    group("turns of a join and of a chain");
 }
 
 static void join_order(void)
@@ -1920,6 +2027,7 @@ int main(void)
     join_rule();
     join_limits();
     join_trees();
+    join_turns();
     join_order();
     find();
     score_refusals();

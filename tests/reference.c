@@ -238,8 +238,9 @@ static uint32_t joined_version(const uint8_t *first, const uint8_t *second, size
 }
 
 uint32_t ref_join(const uint8_t *first, size_t first_len, const uint8_t *second, size_t second_len,
-                  uint8_t *out, size_t out_len, uint64_t *place, uint64_t *length)
+                  uint8_t *out, size_t out_len, uint64_t *place, uint64_t *length, uint64_t *turns)
 {
+    *turns = 0;
     *length = 0;
     uint32_t no = check_two(first, first_len, second, second_len, place);
     if (no != 0)
@@ -255,6 +256,8 @@ uint32_t ref_join(const uint8_t *first, size_t first_len, const uint8_t *second,
             return 9;
     }
 
+    /* A key a step, the lowest that is left, and the steps are counted by themselves, apart from the bytes that they write. */
+    uint64_t steps = 0;
     uint8_t *to = out + HEADER;
     const uint8_t *x = record(first, 0), *x_end = record(first, m);
     const uint8_t *y = record(second, 0), *y_end = record(second, n);
@@ -276,13 +279,16 @@ uint32_t ref_join(const uint8_t *first, size_t first_len, const uint8_t *second,
             y += RECORD;
         }
         to += RECORD;
+        steps++;
     }
     memcpy(to, x, (size_t)(x_end - x));
     to += x_end - x;
     memcpy(to, y, (size_t)(y_end - y));
     to += y_end - y;
+    steps += (uint64_t)(x_end - x) / RECORD + (uint64_t)(y_end - y) / RECORD; /* one of the two has none left */
 
     size_t keys = (size_t)(to - out - HEADER) / RECORD;
+    *turns = steps;
     *length = size(keys);
     write_header(out, joined_version(first, second, keys), first[3], get16(first + 6), first[8], keys);
     return 0;

@@ -16,7 +16,7 @@ uint32_t ref_one(uint8_t area, uint16_t year, uint8_t month,
                  uint8_t *out, size_t out_len, uint64_t *place, uint64_t *length);
 
 uint32_t ref_join(const uint8_t *first, size_t first_len, const uint8_t *second, size_t second_len,
-                  uint8_t *out, size_t out_len, uint64_t *place, uint64_t *length);
+                  uint8_t *out, size_t out_len, uint64_t *place, uint64_t *length, uint64_t *turns);
 
 uint32_t ref_find(const uint8_t *first, size_t first_len, const uint8_t *second, size_t second_len,
                   uint16_t participant, uint32_t number, uint64_t *offset);

@@ -11,7 +11,7 @@ static struct call calls[FULL + 1];
 static uint8_t first[BOOK_MOST], second[BOOK_MOST], spoilt[BOOK_MOST + 32], out[2 * BOOK_MOST], lines[24 * (LINES + 1)], actions[24 * (ACTIONS + 1)];
 static size_t first_len, second_len;
 static uint32_t series[QUARTERS];
-static uint64_t place, length, grains, fen, offset;
+static uint64_t place, length, turns, grains, fen, offset;
 static int64_t gap;
 static int failed, line_now;
 
@@ -142,33 +142,33 @@ static void two_books(void)
 {
     static uint8_t odd[BOOK_MOST], even[BOOK_MOST], last[BOOK_MOST];
     size_t odd_len = part(odd, 1, 2), even_len = part(even, 0, 2), last_len = part(last, FULL - 1, 1);
-    WANT(0, nwb_join(first, first_len, first, first_len, out, sizeof out, &place, &length));
-    WANT(0, nwb_join(first, first_len, second, second_len, out, 16 + 32 * FULL, &place, &length));
-    WANT(0, nwb_join(second, second_len, first, first_len, out, sizeof out, &place, &length));
-    WANT(0, nwb_join(odd, odd_len, even, even_len, out, sizeof out, &place, &length));
-    WANT(0, nwb_join(last, last_len, second, second_len, out, sizeof out, &place, &length));
+    WANT(0, nwb_join(first, first_len, first, first_len, out, sizeof out, &place, &length, &turns));
+    WANT(0, nwb_join(first, first_len, second, second_len, out, 16 + 32 * FULL, &place, &length, &turns));
+    WANT(0, nwb_join(second, second_len, first, first_len, out, sizeof out, &place, &length, &turns));
+    WANT(0, nwb_join(odd, odd_len, even, even_len, out, sizeof out, &place, &length, &turns));
+    WANT(0, nwb_join(last, last_len, second, second_len, out, sizeof out, &place, &length, &turns));
     for (uint32_t n = 1; n <= 7; n++) {
-        WANT(n, nwb_join(spoilt, spoil(n), second, second_len, out, sizeof out, &place, &length));
-        WANT(n < 7 ? n + 20 : 7, nwb_join(first, first_len, spoilt, spoil(n), out, sizeof out, &place, &length));
+        WANT(n, nwb_join(spoilt, spoil(n), second, second_len, out, sizeof out, &place, &length, &turns));
+        WANT(n < 7 ? n + 20 : 7, nwb_join(first, first_len, spoilt, spoil(n), out, sizeof out, &place, &length, &turns));
         WANT(0, nwb_find(spoilt, spoil(n), second, second_len, 64, FULL - 1, &offset));
         WANT(0, nwb_find(first, first_len, spoilt, spoil(n), 64, FULL - 1, &offset));
     }
     put_bytes(last + 16 + 4, UINT32_MAX, 4); /* a call more than 2,000 */
-    WANT(8, nwb_join(first, first_len, last, last_len, out, sizeof out, &place, &length));
-    WANT(9, nwb_join(first, first_len, second, second_len, out, 15 + 32 * FULL, &place, &length));
-    WANT(9, nwb_join(odd, odd_len, even, even_len, NULL, 0, &place, &length));
+    WANT(8, nwb_join(first, first_len, last, last_len, out, sizeof out, &place, &length, &turns));
+    WANT(9, nwb_join(first, first_len, second, second_len, out, 15 + 32 * FULL, &place, &length, &turns));
+    WANT(9, nwb_join(odd, odd_len, even, even_len, NULL, 0, &place, &length, &turns));
     /* A full book of version 1: with itself, and with one call more, into room for version 2 and for version 1 alone. */
     static uint8_t small[BOOK_MOST_1];
     size_t small_len = put_book(small, 1, 2026, 1, NULL, 0) + 32 * MOST_1;
     memcpy(small + 16, first + 16, 32 * MOST_1);
     put_bytes(small + 10, MOST_1, 2);
     WANT(0, nwb_check(small, small_len, &place));
-    WANT(0, nwb_join(small, small_len, small, small_len, out, 16 + 32 * MOST_1, &place, &length));
+    WANT(0, nwb_join(small, small_len, small, small_len, out, 16 + 32 * MOST_1, &place, &length, &turns));
     WANT(1, out[4]);
     last[4] = 1;
-    WANT(0, nwb_join(small, small_len, last, last_len, out, sizeof out, &place, &length));
+    WANT(0, nwb_join(small, small_len, last, last_len, out, sizeof out, &place, &length, &turns));
     WANT(2, out[4]);
-    WANT(9, nwb_join(small, small_len, last, last_len, out, 16 + 32 * MOST_1, &place, &length));
+    WANT(9, nwb_join(small, small_len, last, last_len, out, 16 + 32 * MOST_1, &place, &length, &turns));
     put_bytes(small + 10, MOST_1 + 1, 2);
     WANT(4, nwb_check(small, small_len, &place));
     for (uint32_t i = 0; i <= FULL; i++) {

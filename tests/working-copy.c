@@ -13,10 +13,10 @@
 #include "nwb.h"
 
 uint32_t nwb_join(const uint8_t *first, size_t first_len, const uint8_t *second, size_t second_len,
-                  uint8_t *out, size_t out_len, uint64_t *place, uint64_t *length)
+                  uint8_t *out, size_t out_len, uint64_t *place, uint64_t *length, uint64_t *turns)
 {
     uint8_t copy[COPY];
     memset(copy, 0, sizeof copy);
     __asm__ volatile("" : : "r"(copy) : "memory"); /* or the compiler would leave the copy out */
-    return ref_join(first, first_len, second, second_len, out, out_len, place, length);
+    return ref_join(first, first_len, second, second_len, out, out_len, place, length, turns);
 }

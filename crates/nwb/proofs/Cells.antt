@@ -19,12 +19,13 @@ wrote o r out e =
       out-is = ap (λ (x : BookOutcome). x .out) e;
     }
 
-pub joins : (o : JoinOutcome) (r : Joined) (out : List ℕ) → joinOutcome r out ≡ o → ToldJoin o (r .number) (r .place) (r .length) out
+pub joins : (o : JoinOutcome) (r : Joined) (out : List ℕ) → joinOutcome r out ≡ o → ToldJoin o (r .number) (r .place) (r .length) (r .turns) out
 joins o r out e =
     record {
       number-is = ap (λ (x : JoinOutcome). x .number) e;
       place-is = ap (λ (x : JoinOutcome). x .place) e;
       length-is = ap (λ (x : JoinOutcome). x .size) e;
+      turns-is = ap (λ (x : JoinOutcome). x .turns) e;
       out-is = ap (λ (x : JoinOutcome). x .out) e;
     }
 

@@ -22,10 +22,10 @@ wrote-determined o n p l n′ p′ l′ out out′ x y =
     (x .number-is ∙ sym (y .number-is), x .place-is ∙ sym (y .place-is), x .length-is ∙ sym (y .length-is), x .out-is ∙ sym (y .out-is))
 
 -- nwb_join
-pub join-determined : (o : JoinOutcome) (n p l n′ p′ l′ : ℕ) (out out′ : List ℕ) → ToldJoin o n p l out → ToldJoin o n′ p′ l′ out′
-    → (n ≡ n′) × (p ≡ p′) × (l ≡ l′) × (out ≡ out′)
-join-determined o n p l n′ p′ l′ out out′ x y =
-    (x .number-is ∙ sym (y .number-is), x .place-is ∙ sym (y .place-is), x .length-is ∙ sym (y .length-is), x .out-is ∙ sym (y .out-is))
+pub join-determined : (o : JoinOutcome) (n p l t n′ p′ l′ t′ : ℕ) (out out′ : List ℕ) → ToldJoin o n p l t out → ToldJoin o n′ p′ l′ t′ out′
+    → (n ≡ n′) × (p ≡ p′) × (l ≡ l′) × (t ≡ t′) × (out ≡ out′)
+join-determined o n p l t n′ p′ l′ t′ out out′ x y =
+    (x .number-is ∙ sym (y .number-is), x .place-is ∙ sym (y .place-is), x .length-is ∙ sym (y .length-is), x .turns-is ∙ sym (y .turns-is), x .out-is ∙ sym (y .out-is))
 
 -- nwb_find
 pub find-determined : (w : Place) (b o b′ o′ : ℕ) → ToldFind w b o → ToldFind w b′ o′ → (b ≡ b′) × (o ≡ o′)

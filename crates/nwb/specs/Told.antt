@@ -52,11 +52,12 @@ pub record ToldWrite (o : BookOutcome) (number place length : ℕ) (out : List �
   pub length-is : length ≡ o .size
   pub out-is : out ≡ o .out
 
--- nwb_join: the same of a join
-pub record ToldJoin (o : JoinOutcome) (number place length : ℕ) (out : List ℕ) : Type 0 where
+-- nwb_join: the same of a join, and its turns in a cell
+pub record ToldJoin (o : JoinOutcome) (number place length turns : ℕ) (out : List ℕ) : Type 0 where
   pub number-is : number ≡ o .number
   pub place-is : place ≡ o .place
   pub length-is : length ≡ o .size
+  pub turns-is : turns ≡ o .turns
   pub out-is : out ≡ o .out
 
 -- 0 none, 1 first, 2 second

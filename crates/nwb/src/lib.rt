@@ -95,13 +95,15 @@ pub extern "C" fn nwb_join(
     out: &mut [u8],
     place: &mut u64,
     length: &mut u64,
+    turns: &mut u64,
 ) -> u32
     ensures { λ r. ⌜ ToldJoin (joining (now (first .entry)) (now (second .entry)) (now (out .entry)))
-        r (now (place .exit)) (now (length .exit)) (now (out .exit)) ⌝ }
+        r (now (place .exit)) (now (length .exit)) (now (turns .exit)) (now (out .exit)) ⌝ }
 {
     let joined = join::join(first, second, out);
     *place = joined.place as u64;
     *length = joined.length as u64;
+    *turns = joined.turns as u64;
     joined.number
 }
 
