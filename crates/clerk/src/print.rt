@@ -25,6 +25,7 @@ use text::told::note_text;
 use text::told::refused_about_text;
 use text::told::shown_text;
 use text::told::takes_text;
+use text::told::turns_text;
 use text::told::unchanged_text;
 use text::told::usage_text;
 use units::Fen;
@@ -207,6 +208,15 @@ pub fn put_header(page: &mut [u8], at: usize, h: Header, calls: usize) -> usize 
 pub fn put_book(page: &mut [u8], at: usize, version: u16, h: Header, calls: usize) -> usize {
     let mut line = io::buffer();
     let n = book_text(version, h, calls, &mut line);
+    say::add(page, at, &line[..n])
+}
+
+// The turns of a join, by the book that was joined in, or of all joins together, on a page.
+pub fn put_turns(page: &mut [u8], at: usize, what: &[u8], turns: usize) -> usize {
+    let mut name = io::buffer();
+    let m = shown_text(what, &mut name);
+    let mut line = io::large_buffer();
+    let n = turns_text(&name[..m], turns, &mut line);
     say::add(page, at, &line[..n])
 }
 

@@ -230,6 +230,13 @@ pub fn put_note_at(page: &mut [u8], at: usize, i: usize, why: &[u8]) -> usize {
     print::put_note(page, at, &buf[0..n], why)
 }
 
+// The turns of the join of the book that argument i names, on a page.
+pub fn put_turns_at(page: &mut [u8], at: usize, i: usize, turns: usize) -> usize {
+    let mut buf = io::buffer();
+    let n = os::arg(i, &mut buf);
+    print::put_turns(page, at, &buf[0..n], turns)
+}
+
 // Of which month and area the book that argument i names is, and of which those before it.
 pub fn other_month_at(i: usize, h: Header, before: Header) {
     let mut buf = io::buffer();

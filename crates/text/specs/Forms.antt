@@ -62,6 +62,10 @@ takesValues more least most given =
 abbrev pub noteForm : List ℕ
 noteForm = word "%1: %2\n"
 
+-- the turns of a join, by the book that was joined in, or of all joins together
+abbrev pub turnsForm : List ℕ
+turnsForm = word "%1: %n turns\n"
+
 -- how a command is called
 abbrev pub usageForm : List ℕ
 usageForm = word "desk %1\n"

@@ -20,6 +20,8 @@ pub const TAKES: [u8; 66] = *b"failed %1: takes %n[ to %n] word[s][ or more] beh
 
 pub const NOTE: [u8; 7] = *b"%1: %2\n";
 
+pub const TURNS: [u8; 13] = *b"%1: %n turns\n";
+
 pub const USAGE: [u8; 8] = *b"desk %1\n";
 
 pub const UNCHANGED: [u8; 13] = *b"unchanged %1\n";

@@ -1,4 +1,4 @@
-// A refusal and what it is about; what failed, and why; an argument that is not taken; a remark; how a command is called; that nothing was changed.
+// A refusal and what it is about; what failed, and why; an argument that is not taken; a remark; the turns of a join; how a command is called; that nothing was changed.
 use crate::forms::BAD_ARGUMENT;
 use crate::forms::FAILED;
 use crate::forms::NO_NUMBER;
@@ -6,6 +6,7 @@ use crate::forms::NOT_HIGHER;
 use crate::forms::NOTE;
 use crate::forms::REFUSED_ABOUT;
 use crate::forms::TAKES;
+use crate::forms::TURNS;
 use crate::forms::UNCHANGED;
 use crate::forms::USAGE;
 use form::flag;
@@ -20,7 +21,7 @@ ghost use Rattle.render.specs.Inner.{Puts};
 ghost use Rattle.render.specs.Room.{Renders};
 ghost use Rattle.form.specs.Form.{filled, filledWith, mostOf, mostWith};
 ghost use Rattle.text.specs.Forms.{refusedAboutForm, failedForm, badArgumentForm, noNumberForm, takesForm, takesValues, noteForm};
-ghost use Rattle.text.specs.Forms.{usageForm, unchangedForm, notHigherForm};
+ghost use Rattle.text.specs.Forms.{turnsForm, usageForm, unchangedForm, notHigherForm};
 ghost use Rattle.text.specs.Texts.{shownByte, shownName};
 
 // A byte of a name as it is printed: a control character as `?`.
@@ -140,6 +141,15 @@ pub fn note_text(what: &[u8], why: &[u8], out: &mut [u8]) -> usize
     ensures { λ r. ⌜ Counts r (now (out .exit)) ⌝ }
 {
     say_with(&NOTE, &[], what, why, out)
+}
+
+// The turns of a join, by the book that was joined in, or of all joins together.
+pub fn turns_text(what: &[u8], turns: usize, out: &mut [u8]) -> usize
+    ensures { λ r. ⌜ Renders (mostWith turnsForm (length (now (what .entry))) 0) (filledWith turnsForm (now (what .entry)) [] (turns ∷ []))
+        (now (out .entry)) (now (out .exit)) r ⌝ }
+    ensures { λ r. ⌜ Counts r (now (out .exit)) ⌝ }
+{
+    say_with(&TURNS, &[turns as u64], what, b"", out)
 }
 
 // How a command is called.
