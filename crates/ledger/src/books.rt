@@ -1,4 +1,7 @@
 // Books as files: checked, shown, joined, and one call looked up.
+use crate::turns::keep_turns;
+use crate::turns::no_turns;
+use crate::turns::put_turns;
 use book::HEADER_SIZE;
 use book::SECOND_VERSION;
 use book::call_of;
@@ -47,6 +50,12 @@ pub enum Key {
 pub struct Joined {
     pub held: Held,
     pub second: bool,
+}
+
+// A second book joined to a first, or nothing, and one line has said why; and the turns that the join took.
+pub struct Added {
+    pub held: Held,
+    pub turns: usize,
 }
 
 // Whether a file is one of those that arguments name: it is, it is none, or that is unknown since the one at a place cannot be looked at.
@@ -133,15 +142,20 @@ fn tell_unjoined(i: usize, number: u32, one: &[u8], two: &[u8]) {
 }
 
 // A second book joined into the first n bytes of `all`. Argument i is what a refusal is about: a book of another month, or one too many.
-pub fn join_bytes(i: usize, all: &mut [u8], n: usize, second: &[u8]) -> Held {
+pub fn join_bytes(i: usize, all: &mut [u8], n: usize, second: &[u8]) -> Added {
     let mut out = io::large_buffer();
     let w = join::join(first(all, n), second, &mut out);
+    let turns = w.turns;
     if w.number != 0 {
         tell_unjoined(i, w.number, first(all, n), second);
         refused_at(w.number, w.place, i);
-        return Held::Nothing;
+        return Added {
+            held: Held::Nothing,
+            turns,
+        };
     }
-    keep(first(&out, w.length), all)
+    let held = keep(first(&out, w.length), all);
+    Added { held, turns }
 }
 
 // Whether a book is of the second version.
@@ -172,8 +186,8 @@ fn join_first(i: usize, all: &mut [u8]) -> Joined {
     }
 }
 
-// The book of argument i joined to those before it.
-fn join_next(i: usize, all: &mut [u8], before: Joined) -> Joined {
+// The book of argument i joined to those before it, and its turns kept.
+fn join_next(i: usize, all: &mut [u8], lasts: &mut [usize], before: Joined) -> Joined {
     let held = before.held;
     let Held::Bytes(n) = held else {
         return none_joined();
@@ -183,29 +197,32 @@ fn join_next(i: usize, all: &mut [u8], before: Joined) -> Joined {
         return none_joined();
     };
     let second = before.second | is_second(first(&book, m));
-    let held = join_bytes(i, all, n, first(&book, m));
+    let added = join_bytes(i, all, n, first(&book, m));
+    keep_turns(lasts, i, added.turns);
+    let held = added.held;
     Joined { held, second }
 }
 
-// All books that are named from argument `from` on, joined.
-fn join_read(from: usize, all: &mut [u8]) -> Joined
+// All books that are named from argument `from` on, joined, and the turns of each join kept.
+fn join_read(from: usize, all: &mut [u8], lasts: &mut [usize]) -> Joined
     requires { ⌜ from < 10 ⌝ }
 {
     let count = os::arg_count();
     let mut joined = join_first(from, all);
     let mut i = from + 1;
     while i < count {
-        joined = join_next(i, all, joined);
+        joined = join_next(i, all, lasts, joined);
         i += 1;
     }
     joined
 }
 
-// The same, where nobody asks for the versions of those that were read.
+// The same, where nobody asks for the versions of those that were read, nor for the turns.
 pub fn join_all(from: usize, all: &mut [u8]) -> Held
     requires { ⌜ from < 10 ⌝ }
 {
-    let joined = join_read(from, all);
+    let mut lasts = no_turns();
+    let joined = join_read(from, all, &mut lasts);
     joined.held
 }
 
@@ -231,13 +248,13 @@ pub fn put_header(page: &mut [u8], at: usize, book: &[u8]) -> usize {
 }
 
 // That the book which argument i names, and which is written now, is of the second version where none that was read is: on a page, before what stands in it.
-pub fn put_renewed(page: &mut [u8], i: usize, second: bool, book: &[u8]) -> usize {
+pub fn put_renewed(page: &mut [u8], at: usize, i: usize, second: bool, book: &[u8]) -> usize {
     if second | !is_second(book) {
-        return 0;
+        return at;
     }
     put_note_at(
         page,
-        0,
+        at,
         i,
         b"is of version 2 now, which programs of the old edition do not read",
     )
@@ -283,10 +300,13 @@ fn named_in(hold: Hold, from: usize) -> Named
     named
 }
 
-// What the book has that argument i names and that was written, and `ok`.
-fn tell_joined(i: usize, second: bool, book: &[u8]) {
+// The turns of the joins, what the book has that argument `out` names and that was written, and `ok`.
+fn tell_joined(out: usize, lasts: &[usize], second: bool, book: &[u8])
+    requires { ⌜ out < 9 ⌝ }
+{
     let mut page = io::buffer();
-    let note = put_renewed(&mut page, i, second, book);
+    let turns = put_turns(&mut page, out + 1, lasts);
+    let note = put_renewed(&mut page, turns, out, second, book);
     let at = put_written(&mut page, note, book);
     print::finish(&mut page, at);
 }
@@ -296,14 +316,15 @@ fn join_held(hold: Hold, out: usize)
     requires { ⌜ out < 9 ⌝ }
 {
     let mut all = io::large_buffer();
-    let joined = join_read(out + 1, &mut all);
+    let mut lasts = no_turns();
+    let joined = join_read(out + 1, &mut all, &mut lasts);
     let held = joined.held;
     let Held::Bytes(n) = held else {
         files::release(hold);
         return;
     };
     if put(hold, out, first(&all, n)) {
-        tell_joined(out, joined.second, first(&all, n));
+        tell_joined(out, &lasts, joined.second, first(&all, n));
     }
 }
 

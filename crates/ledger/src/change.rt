@@ -181,7 +181,8 @@ fn join_one(wish: Wish, x: Call, header: Header, book: &mut [u8], n: usize) -> H
     let old = old_of(first(book, n), x);
     let verdict = verdict_of(wish, x, old);
     if let Verdict::Changes = verdict {
-        return join_bytes(BOOK, book, n, &one);
+        let added = join_bytes(BOOK, book, n, &one);
+        return added.held;
     }
     tell_unchanged(wish, old, verdict);
     Held::Nothing
@@ -280,7 +281,7 @@ fn put_old(page: &mut [u8], at: usize, old: Old) -> usize {
 // What stands of the call x in the book that was written, and `ok`.
 fn tell_changed(second: bool, book: &[u8], x: Call) {
     let mut page = io::buffer();
-    let note = put_renewed(&mut page, OUT, second, book);
+    let note = put_renewed(&mut page, 0, OUT, second, book);
     let at = put_old(&mut page, note, old_of(book, x));
     print::finish(&mut page, at);
 }

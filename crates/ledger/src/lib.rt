@@ -1,3 +1,4 @@
 // Books as files: looked at, joined, changed by one run at a time.
 pub mod books;
 pub mod change;
+mod turns;

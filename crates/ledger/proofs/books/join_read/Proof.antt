@@ -6,10 +6,10 @@ use Rattle.ledger.proofs.books.join_read.Statement.{statement}
 use Rattle.ledger.proofs.books.join_read.Tie as tie
 
 abbrev Inv-loop : tie.InvT-loop
-Inv-loop from all₀ count joined₀ i₀ all joined i = length all ≡ length all₀
+Inv-loop from all₀ lasts₀ count joined₀ i₀ all lasts joined i = (length all ≡ length all₀) × (length lasts ≡ length lasts₀)
 
 abbrev μ-loop : tie.MeasureT-loop
-μ-loop from all₀ count joined₀ i₀ all joined i = count - i
+μ-loop from all₀ lasts₀ count joined₀ i₀ all lasts joined i = count - i
 
 pub join-read-spec : {M : Type 1} → statement M
 join-read-spec =
@@ -22,6 +22,7 @@ join-read-spec =
     (λ c. search needs)
     (λ c. search needs)
     (λ c κs. search needs)
+    (λ c. search needs)
     (λ c. search needs)
     (λ c. search needs)
     (λ c. search needs)
