@@ -819,6 +819,17 @@ static void check_order(void)
     group("check: every number alone, and the order of two");
 }
 
+/* The numbers of nwb.h. */
+static void constants(void)
+{
+    begin(__LINE__, "nwb.h");
+    want("edition", NWB_EDITION, 4);
+    want("most records of version 1", NWB_MOST_RECORDS_1, MOST_1);
+    want("most records of version 2", NWB_MOST_RECORDS_2, MOST_2);
+    want("longest book", NWB_MOST_BOOK, BOOK_MOST);
+    end();
+}
+
 /* The versions there are, and each one's limit. */
 static void check_versions(void)
 {
@@ -2022,6 +2033,7 @@ int main(void)
     records();
     months();
     check_order();
+    constants();
     check_versions();
     writers();
     join_rule();
