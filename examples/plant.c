@@ -128,7 +128,7 @@ static void refused(const char *path, uint32_t number, uint64_t place)
 int main(int argc, char **argv)
 {
     size_t own_len, month_len;
-    uint64_t place, length, turns;
+    uint64_t place, length, turns; /* turns is how much work the join was, which this tool does not tell */
 
     if (argc != 4 || same_file(argv[2], argv[3]) || same_file(argv[1], argv[3])) {
         fprintf(stderr, "usage: plant OWN MONTH RESULT (RESULT is a file of its own)\n");

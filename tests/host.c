@@ -1133,13 +1133,15 @@ static void expect_turns(int line, const uint8_t *first, size_t first_len, const
     end();
 }
 
-/* Book after book joined with what those before it gave, from an empty book on: the turns of each join, what they come to, and the bound from the books' counts, the sum over i of the
- * smaller of 2,000 and n1 + .. + ni. The first `joins` of them are accepted; the next, if there is one, is refused with 8, takes no turn, and ends the chain. */
-static void expect_chain(int line, const uint8_t *const books[], const size_t lens[], size_t n, size_t joins, const uint64_t turns[], uint64_t all, uint64_t bound)
+/* Book after book joined with what those before it gave, from a book on: the turns of each join, what they come to, and the bound from the books' counts, the sum over all joins of the
+ * smaller of 2,000 and the counts up to there. The first `joins` of them are accepted; the next, if there is one, is refused with 8, takes no turn, and ends the chain. */
+static void expect_chain(int line, const uint8_t *from, size_t from_len, const uint8_t *const books[], const size_t lens[], size_t n, size_t joins, const uint64_t turns[], uint64_t all,
+                         uint64_t bound)
 {
     static uint8_t so_far[2][BOOK_MOST];
-    size_t len = put_book(so_far[0], 7, 2025, 1, NULL, 0);
+    size_t len = from_len;
     uint64_t sum = 0;
+    memcpy(so_far[0], from, from_len);
     placed_now = ALIGNED;
     begin(line, "a chain of joins");
     for (size_t i = 0; i < n; i++) {
@@ -1176,6 +1178,8 @@ static void join_turns(void)
     static uint8_t books[6][BOOK_MOST];
     const uint8_t *list[6] = {books[0], books[1], books[2], books[3], books[4], books[5]};
     size_t lens[6];
+    uint8_t none[16];
+    put_book(none, 7, 2025, 1, NULL, 0);
     for (size_t i = 0; i < ROWS(rows); i++) {
         uint32_t v = rows[i].n > 512 ? 2 : 1, w = rows[i].m > 512 ? 2 : 1;
         row = (int)i;
@@ -1193,15 +1197,16 @@ static void join_turns(void)
     expect_turns(__LINE__, books[0], lens[0], books[2], lens[2], 48, 0, 48, 1);
     /* 2, 3 and 1 calls, the last one known. */
     lens[0] = numbered(1, books[0], 0, 2), lens[1] = numbered(1, books[1], 2, 3), lens[2] = numbered(1, books[2], 3, 1);
-    expect_chain(__LINE__, list, lens, 3, 3, (const uint64_t[]){2, 5, 5}, 12, 13);
-    /* The keys of the example month, book by book in the order of their names. */
+    expect_chain(__LINE__, none, 16, list, lens, 3, 3, (const uint64_t[]){2, 5, 5}, 12, 13);
+    /* The keys of the example month, book by book in the order of their names: from an empty book, and from the first one. */
     lens[0] = keyed(books[0], (const uint32_t[][2]){{1, 1}, {1, 2}, {1, 3}, {1, 4}, {1, 9}}, 5);
     lens[1] = keyed(books[1], (const uint32_t[][2]){{3, 4}, {4, 7}}, 2);
     lens[2] = keyed(books[2], (const uint32_t[][2]){{2, 1}, {2, 2}, {2, 3}, {3, 1}, {3, 2}, {3, 3}}, 6);
     lens[3] = keyed(books[3], (const uint32_t[][2]){{1, 9}, {1, 10}, {4, 7}}, 3);
     lens[4] = keyed(books[4], (const uint32_t[][2]){{1, 9}}, 1);
     lens[5] = keyed(books[5], (const uint32_t[][2]){{4, 7}, {4, 8}, {5, 1}, {5, 2}}, 4);
-    expect_chain(__LINE__, list, lens, 6, 6, (const uint64_t[]){5, 7, 13, 14, 14, 17}, 70, 79);
+    expect_chain(__LINE__, none, 16, list, lens, 6, 6, (const uint64_t[]){5, 7, 13, 14, 14, 17}, 70, 79);
+    expect_chain(__LINE__, books[0], lens[0], list + 1, lens + 1, 5, 5, (const uint64_t[]){7, 13, 14, 14, 17}, 65, 74);
     if (versions == 2) {
         /* 1,000 even numbers and 1,000 odd ones, interleaved. */
         static struct call calls[2][1000];
@@ -1213,7 +1218,7 @@ static void join_turns(void)
         /* Four books of 600 calls: the fourth is one too many. */
         for (uint32_t k = 0; k < 4; k++)
             lens[k] = numbered(2, books[k], 600 * k, 600);
-        expect_chain(__LINE__, list, lens, 4, 3, (const uint64_t[]){600, 1200, 1800}, 3600, 5600);
+        expect_chain(__LINE__, none, 16, list, lens, 4, 3, (const uint64_t[]){600, 1200, 1800}, 3600, 5600);
     }
     group("turns of a join and of a chain");
 }
