@@ -71,9 +71,9 @@ uint32_t nwb_one(uint8_t area, uint16_t year, uint8_t month,
  * The joined book is of version 1 exactly where both books are and it has at most 512 keys, otherwise of version 2.
  * In this order: 1 to 6 for the first book as nwb_check has them, 21 to 26 for the second (its place counts in the second book),
  * 7 (year, month or area differ; the version is not asked), 8 (more than 2,000 keys, whatever the versions), 9.
- * `length` is the joined book's, 16 + 32 for each different key, or 0 on a refusal. `turns` is how much work the join was: it settles
- * one key a turn, the lowest that either book still has, and writes its record once, so that they are the different keys of both books;
- * two empty books take none. On a refusal it is 0.
+ * `length` is the joined book's, 16 + 32 for each different key, or 0 on a refusal. `turns` is the number of different keys of
+ * both books: the join settles one key a turn, the lowest that either book still has, and writes its record once. It is 0 for two empty
+ * books, and on a refusal.
  * Bytes of `out` after the book stay; on a refusal all of them do. `out` must not overlap either book. */
 uint32_t nwb_join(const uint8_t *first, size_t first_len, const uint8_t *second, size_t second_len,
                   uint8_t *out, size_t out_len, uint64_t *place, uint64_t *length, uint64_t *turns);

@@ -22,3 +22,4 @@ pub mod WithoutStory
 pub mod Nothing
 pub mod NothingStory
 pub mod FirstEdition
+pub mod TurnStory

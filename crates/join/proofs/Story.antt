@@ -136,7 +136,7 @@ head-office-spare : keyCount (head-office ∷ spare ∷ []) ≡ 1
 unfolding head-office spare early withdrawal stop differentKeys putAll put
 head-office-spare = count-two head-office spare withdrawal early (one-reads withdrawal withdrawal-within .1) (one-reads early early-within .1)
 
-all-three : keyCount (plant ∷ head-office ∷ spare ∷ []) ≡ 1
+pub all-three : keyCount (plant ∷ head-office ∷ spare ∷ []) ≡ 1
 unfolding plant head-office spare entered early withdrawal stop differentKeys putAll put
 all-three =
     count-three plant head-office spare entered withdrawal early (one-reads entered entered-within .1) (one-reads withdrawal withdrawal-within .1)

@@ -2,7 +2,7 @@
 -- else, that the run ends in the joined book, and that the turns told are the different keys. Assumes nothing.
 use mathlib.Core.Path.{_≡_, refl, sym, _∙_, ap, ap₂}
 use mathlib.Core.Logic.{_≢_}
-use mathlib.Core.List.{List, [], _∷_, _++_, map, append-assoc, List·Memᴰ as In}
+use mathlib.Core.List.{List, [], _∷_, _++_, map, append-assoc, List·Memᴰ as In, List·Memᴰ·head as here, List·Memᴰ·tail as there, List·Memᴰ·eq-of-singleton as eq-of-one}
 use Prim.Native.Nat.{ℕ, zero, suc, _+_, _-_, _/_, _≤_, _<_}
 use native.Mathlib.Nat.{zero-add}
 use native.Mathlib.Omega.{arith}
@@ -16,12 +16,13 @@ use Rattle.call.specs.Layout.{callBytes}
 use Rattle.call.proofs.Exact.{within-sized}
 use Rattle.book.specs.Book.{mostKeys, headerSize, sizeOf, placeOf, headerAt, countAt, callsFrom, callsOf, headBytes, recordBytes, bookBytes}
 use Rattle.book.specs.Check.{accepted, headerMinutes}
-use Rattle.book.specs.Sound.{CallsWithin, Rises}
+use Rattle.book.specs.Sound.{CallsWithin, Rises, Sound}
 use Rattle.book.proofs.Lengths.{length-records, length-book}
 use Rattle.book.proofs.Heads.{month-most, known-most, count-back}
 use Rattle.book.proofs.Exact.{sound-accepted}
-use Rattle.book.proofs.Records.{record-back, regroup, longer}
+use Rattle.book.proofs.Records.{record-back, regroup, longer, length-calls}
 use Rattle.rule.specs.Keys.{differentKeys}
+use Rattle.rule.specs.Whole.{treeJoined}
 use Rattle.rule.proofs.Different.{different-rise, first-below}
 use Rattle.rule.proofs.Joins.{join-keys}
 use Rattle.rule.proofs.Merging.{merge-joins}
@@ -29,9 +30,9 @@ use Rattle.rule.proofs.Bounds.{Calls, join-sound}
 use Rattle.pair.specs.Screening.{screen}
 use Rattle.pair.proofs.Screening.{screen-passes}
 use Rattle.join.specs.Turns.{Run, turnsRun, begun, ran}
-use Rattle.join.specs.Joining.{JoinOutcome, joinWrote, keysOfBoth, joinedOf, joinedVersion, joinedBook, joining}
+use Rattle.join.specs.Joining.{JoinOutcome, joinWrote, keyCount, keysOfBoth, joinedOf, joinedVersion, joinedBook, joining}
 use Rattle.join.specs.Verdict.{Joinable}
-use Rattle.join.specs.Trees.{written}
+use Rattle.join.specs.Trees.{book, books, written, OneMonth}
 use Rattle.join.proofs.Books.{keys-rise}
 use Rattle.join.proofs.Steps.{joined-length, most-joined}
 use Rattle.join.proofs.Turns.{After, after, turns-long}
@@ -39,7 +40,7 @@ use Rattle.join.proofs.Taken.{ran-over, ran-turns}
 use Rattle.join.proofs.WaysOut.{joins-both}
 use Rattle.join.proofs.Writes.{stores-book}
 use Rattle.join.proofs.Versions.{pair-known}
-use Rattle.join.proofs.Trees.{sound-calls, same-month}
+use Rattle.join.proofs.Trees.{sound-calls, same-month, treeOf, key-count, keys-of}
 use Rattle.join.proofs.Accepted.{Accepts, accepts}
 use Rattle.join.proofs.Exact.{join-kept}
 
@@ -261,6 +262,22 @@ module _ (first second out : List ℕ) (z : joining first second out .number ≡
   pub turns-most : joining first second out .turns ≤ mostKeys
   turns-most =
       omega (arith, turns-told, joined-length first second, got .few, known-most (joinedVersion first second) (pair-known _ _ (keysOfBoth first second)))
+
+-- Along a list of books the turns never fall: of sound books an accepted join takes at least as many as either has calls.
+module _ (first second out : List ℕ) (s : Sound first) (t : Sound second) (z : joining first second out .number ≡ 0) where
+  own-keys : (b : List ℕ) → Sound b → keyCount (b ∷ []) ≡ countAt b
+  unfolding callsOf books treeOf treeJoined
+  own-keys b r = sym (key-count (headerAt b) (book b) (lone-month b r)) ∙ length-calls b (countAt b) 0
+    where
+      lone-month : (d : List ℕ) → Sound d → OneMonth (headerAt d) (d ∷ [])
+      lone-month d q = record { sound = λ e i. let f : e ≡ d = eq-of-one i in rw f q; header = λ e i. ap headerAt (eq-of-one i) }
+
+  pub turns-not-fewer : (countAt first ≤ joining first second out .turns) × (countAt second ≤ joining first second out .turns)
+  turns-not-fewer =
+      let k = turns-are-keys first second out z .0 in
+      let f = keys-of (first ∷ []) (first ∷ second ∷ []) (λ b i. here (eq-of-one i)) in
+      let g = keys-of (second ∷ []) (first ∷ second ∷ []) (λ b i. there i) in
+      (omega (arith, k, f, own-keys first s), omega (arith, k, g, own-keys second t))
 
 -- A join whose number is not 0 tells no turn, whatever the bytes.
 pub refused-no-turns : (first second out : List ℕ) → joining first second out .number ≢ 0 → joining first second out .turns ≡ 0

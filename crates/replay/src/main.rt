@@ -78,7 +78,7 @@ fn show_book(book: &[u8]) {
     }
 }
 
-// The book that a join gave; or the refusal's number.
+// The turns that a join took and the book that it gave; or the refusal's number.
 fn show(w: Joined, out: &[u8]) {
     let n = w.length;
     if w.number != 0 {
@@ -87,6 +87,8 @@ fn show(w: Joined, out: &[u8]) {
         io::write_all(STDOUT_FILENO, b"\n");
         return;
     }
+    io::print_decimal(STDOUT_FILENO, w.turns as u64);
+    io::write_all(STDOUT_FILENO, b" turns ");
     if n <= out.len() {
         show_book(&out[0..n]);
     }
