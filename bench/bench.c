@@ -28,8 +28,11 @@ static const struct side sides[2] = {{nwb_check, nwb_join, nwb_find, nwb_score, 
 /* ---- inputs ---- */
 
 struct book { uint8_t bytes[BOOK_MOST]; size_t len; };
-static struct book full, full_revised, full_bad, even, odd, most, single, window, events, stops;
-static struct book full_2, revised_2, bad_2, even_2, odd_2, most_2, single_2, events_2, stops_2; /* the same of version 2, of 2,000 records */
+
+/* Books of one version: a full one, its keys again revised and with a fault in the last byte, every other call and the others, all but the last call and the last, events, start-stops. */
+struct shelf { struct book full, revised, bad, even, odd, most, single, events, stops; };
+static struct shelf one, two; /* of version 1, 512 records; of version 2, 2,000 */
+static struct book window;
 static uint32_t series[2976];
 static uint8_t lines[64 * 24], equal_lines[64 * 24], actions[60 * 24];
 
@@ -156,45 +159,35 @@ static void put_stops(struct book *b, uint32_t version, struct call *calls, uint
     put(b, version, calls, n);
 }
 
-static void build(void)
+/* The books of a version with n records in a full one, by the call of each number. */
+static void build_shelf(struct shelf *s, uint32_t version, uint32_t n, struct call (*call)(uint32_t))
 {
     static struct call calls[MOST_2];
-    for (uint32_t i = 0; i < 512; i++)
-        calls[i] = mixed(i);
-    put(&full, 1, calls, 512);
-    put(&most, 1, calls, 511);
-    put(&single, 1, calls + 511, 1);
-    revise(calls, 512);
-    put(&full_revised, 1, calls, 512);
-    put_bad(&full_bad, 1, calls, 512);
-    for (uint32_t i = 0; i < 256; i++)
-        calls[i] = mixed(2 * i);
-    put(&even, 1, calls, 256);
-    for (uint32_t i = 0; i < 256; i++)
-        calls[i] = mixed(2 * i + 1);
-    put(&odd, 1, calls, 256);
-    put_events(&events, 1, calls, 512);
-    put_stops(&stops, 1, calls, 512);
+    for (uint32_t i = 0; i < n; i++)
+        calls[i] = call(i);
+    put(&s->full, version, calls, n);
+    put(&s->most, version, calls, n - 1);
+    put(&s->single, version, calls + n - 1, 1);
+    revise(calls, n);
+    put(&s->revised, version, calls, n);
+    put_bad(&s->bad, version, calls, n);
+    for (uint32_t i = 0; i < n / 2; i++)
+        calls[i] = call(2 * i);
+    put(&s->even, version, calls, n / 2);
+    for (uint32_t i = 0; i < n / 2; i++)
+        calls[i] = call(2 * i + 1);
+    put(&s->odd, version, calls, n / 2);
+    put_events(&s->events, version, calls, n);
+    put_stops(&s->stops, version, calls, n);
+}
 
-    for (uint32_t i = 0; i < 2000; i++)
-        calls[i] = large(i);
-    put(&full_2, 2, calls, 2000);
-    put(&most_2, 2, calls, 1999);
-    put(&single_2, 2, calls + 1999, 1);
-    revise(calls, 2000);
-    put(&revised_2, 2, calls, 2000);
-    put_bad(&bad_2, 2, calls, 2000);
-    for (uint32_t i = 0; i < 1000; i++)
-        calls[i] = large(2 * i);
-    put(&even_2, 2, calls, 1000);
-    for (uint32_t i = 0; i < 1000; i++)
-        calls[i] = large(2 * i + 1);
-    put(&odd_2, 2, calls, 1000);
-    put_events(&events_2, 2, calls, 2000);
-    put_stops(&stops_2, 2, calls, 2000);
+static void build(void)
+{
+    build_shelf(&one, 1, MOST_1, mixed);
+    build_shelf(&two, 2, MOST_2, large);
 
-    calls[0] = (struct call){1, 1, 0, 1, 1, 0, 44640, 0, 0, 0};
-    put(&window, 1, calls, 1);
+    struct call whole = {1, 1, 0, 1, 1, 0, 44640, 0, 0, 0};
+    put(&window, 1, &whole, 1);
     for (uint32_t i = 0; i < 2976; i++) { /* a day's curve, below half of 300,001 by night and above by day */
         uint32_t quarter = i % 96, up = quarter < 48 ? quarter : 96 - quarter;
         series[i] = 90000 + 3000 * up + i * 7919 % 1000;
@@ -242,18 +235,18 @@ static uint32_t score(const struct side *s, const struct book *b)
 
 static uint32_t share(const struct side *s, uint32_t part, const uint8_t *l) { return s->share(part, l, 64 * 24, out, sizeof out, &place, &gap); }
 
-static uint32_t join_equal(const struct side *s, uint32_t t) { (void)t; return join(s, &full, &full_revised); }
-static uint32_t join_disjoint(const struct side *s, uint32_t t) { (void)t; return join(s, &even, &odd); }
-static uint32_t join_one(const struct side *s, uint32_t t) { (void)t; return join(s, &most, &single); }
-static uint32_t join_refused(const struct side *s, uint32_t t) { (void)t; return join(s, &full, &full_bad); }
+static uint32_t join_equal(const struct side *s, uint32_t t) { (void)t; return join(s, &one.full, &one.revised); }
+static uint32_t join_disjoint(const struct side *s, uint32_t t) { (void)t; return join(s, &one.even, &one.odd); }
+static uint32_t join_one(const struct side *s, uint32_t t) { (void)t; return join(s, &one.most, &one.single); }
+static uint32_t join_refused(const struct side *s, uint32_t t) { (void)t; return join(s, &one.full, &one.bad); }
 static uint32_t join_random(const struct side *s, uint32_t t)
 {
     return s->join(random_first[t], FEW_BYTES, random_second[t], FEW_BYTES, out, BOOK_MOST_1, &place, &length, &taken);
 }
-static uint32_t check_full(const struct side *s, uint32_t t) { (void)t; return s->check(full.bytes, full.len, &place); }
+static uint32_t check_full(const struct side *s, uint32_t t) { (void)t; return s->check(one.full.bytes, one.full.len, &place); }
 static uint32_t check_random(const struct side *s, uint32_t t) { return s->check(random_books[t], FEW_BYTES, &place); }
 static uint32_t score_window(const struct side *s, uint32_t t) { (void)t; return score(s, &window); }
-static uint32_t score_events(const struct side *s, uint32_t t) { (void)t; return score(s, &events); }
+static uint32_t score_events(const struct side *s, uint32_t t) { (void)t; return score(s, &one.events); }
 static uint32_t share_full(const struct side *s, uint32_t t) { (void)t; return share(s, 10000, lines); }
 static uint32_t share_third(const struct side *s, uint32_t t) { (void)t; return share(s, 3333, lines); }
 static uint32_t share_equal(const struct side *s, uint32_t t) { (void)t; return share(s, 10000, equal_lines); }
@@ -262,18 +255,18 @@ static uint32_t share_random_equal(const struct side *s, uint32_t t) { return sh
 
 static uint32_t ramp_full(const struct side *s, uint32_t t) { (void)t; return s->ramp(1, 1, 300001, actions, sizeof actions, &place, &grains); }
 
-static uint32_t join_equal_2(const struct side *s, uint32_t t) { (void)t; return join_2(s, &full_2, &revised_2); }
-static uint32_t join_disjoint_2(const struct side *s, uint32_t t) { (void)t; return join_2(s, &even_2, &odd_2); }
-static uint32_t join_one_2(const struct side *s, uint32_t t) { (void)t; return join_2(s, &most_2, &single_2); }
-static uint32_t join_refused_2(const struct side *s, uint32_t t) { (void)t; return join_2(s, &full_2, &bad_2); }
-static uint32_t check_full_2(const struct side *s, uint32_t t) { (void)t; return s->check(full_2.bytes, full_2.len, &place); }
-static uint32_t find_first(const struct side *s, uint32_t t) { (void)t; return find(s, &full, 1, 0); }
-static uint32_t find_last(const struct side *s, uint32_t t) { (void)t; return find(s, &full, 64, 511); }
-static uint32_t find_first_2(const struct side *s, uint32_t t) { (void)t; return find(s, &full_2, 1, 0); }
-static uint32_t find_last_2(const struct side *s, uint32_t t) { (void)t; return find(s, &full_2, 63, 1999); }
-static uint32_t score_events_2(const struct side *s, uint32_t t) { (void)t; return score(s, &events_2); }
-static uint32_t score_stops(const struct side *s, uint32_t t) { (void)t; return score(s, &stops); }
-static uint32_t score_stops_2(const struct side *s, uint32_t t) { (void)t; return score(s, &stops_2); }
+static uint32_t join_equal_2(const struct side *s, uint32_t t) { (void)t; return join_2(s, &two.full, &two.revised); }
+static uint32_t join_disjoint_2(const struct side *s, uint32_t t) { (void)t; return join_2(s, &two.even, &two.odd); }
+static uint32_t join_one_2(const struct side *s, uint32_t t) { (void)t; return join_2(s, &two.most, &two.single); }
+static uint32_t join_refused_2(const struct side *s, uint32_t t) { (void)t; return join_2(s, &two.full, &two.bad); }
+static uint32_t check_full_2(const struct side *s, uint32_t t) { (void)t; return s->check(two.full.bytes, two.full.len, &place); }
+static uint32_t find_first(const struct side *s, uint32_t t) { (void)t; return find(s, &one.full, 1, 0); }
+static uint32_t find_last(const struct side *s, uint32_t t) { (void)t; return find(s, &one.full, 64, 511); }
+static uint32_t find_first_2(const struct side *s, uint32_t t) { (void)t; return find(s, &two.full, 1, 0); }
+static uint32_t find_last_2(const struct side *s, uint32_t t) { (void)t; return find(s, &two.full, 63, 1999); }
+static uint32_t score_events_2(const struct side *s, uint32_t t) { (void)t; return score(s, &two.events); }
+static uint32_t score_stops(const struct side *s, uint32_t t) { (void)t; return score(s, &one.stops); }
+static uint32_t score_stops_2(const struct side *s, uint32_t t) { (void)t; return score(s, &two.stops); }
 
 static const struct { const char *name; uint32_t (*call)(const struct side *, uint32_t turn); uint32_t no, turns; } rows[] = {
     {"join, 512 + 512 equal keys", join_equal, 0, 1},
