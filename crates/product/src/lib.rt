@@ -1,10 +1,12 @@
 // A product divided, where the product may be too large for 64 bits. It knows nothing of what is multiplied.
+#![tactic(auto)]
+
 ghost use Rattle.std.specs.Prelude.{◌≡◌, ◌+◌, ◌*◌, ◌^◌, ◌<◌, ◌≤◌};
 ghost use Rattle.product.specs.Product.{Parts};
 ghost use Rattle.product.specs.Inner.{whole, Goes, Went};
 
 // Quotient and remainder.
-#[derive(Drop)]
+#[derive(Clone, Copy)]
 pub struct Quot {
     pub q: u64,
     pub r: u64,
@@ -30,7 +32,7 @@ fn plus(a: Quot, b: Quot, all: u64) -> Quot
 }
 
 // A product on its way: what is done, and `left` times `step` to come.
-#[derive(Drop)]
+#[derive(Clone, Copy)]
 struct Going {
     left: u64,
     step: Quot,
