@@ -1,4 +1,6 @@
 // A line of decimal numbers, read a byte at a time, in fixed memory, whatever parts its numbers and however long it is.
+#![tactic(auto)]
+
 ghost use Rattle.std.specs.Prelude.{◌≡◌, true, List, ◌∷◌, ℕ, ◌<◌};
 ghost use Rattle.row.specs.Numbers.{is_digit, value, hold};
 ghost use Rattle.row.specs.Meaning.{most_columns, row_is_begun, row_is_whole, row_first_five, RowFollows, RowFresh};
@@ -12,7 +14,7 @@ pub const CEILING: u64 = 1_000_000_000_000;
 // Which of the numbers is open, from 0 on; whether it has a digit; what its digits are worth, held once it is past every limit; and the
 // numbers before it. `bad`: no bytes can mend the line. What parts the numbers and which is to be the last is not kept: the reader says so
 // with every byte, and need not keep it true between two.
-#[derive(Drop)]
+#[derive(Clone, Copy)]
 pub struct Row {
     pub bad: bool,
     pub digit: bool,
