@@ -1,4 +1,6 @@
 // A call of the book: its fields, its key, and what may become of it.
+#![tactic(auto)]
+
 ghost use Rattle.std.specs.Prelude.{◌≡◌};
 ghost use Rattle.call.specs.Key.{call_key};
 ghost use Rattle.call.specs.Revising.{call_revised, call_withdrawn, call_contested, call_struck};
@@ -20,7 +22,7 @@ pub const MOST_PARTICIPANT: u16 = 64;
 pub const RECORD_SIZE: usize = 32;
 
 // The fields in the order of the record's bytes.
-#[derive(Drop)]
+#[derive(Clone, Copy)]
 pub struct Call {
     pub participant: u16,
     pub service: u8,
@@ -35,7 +37,7 @@ pub struct Call {
 }
 
 // What a call asks for, apart from its key, its state and its revision.
-#[derive(Drop)]
+#[derive(Clone, Copy)]
 pub struct Content {
     pub service: u8,
     pub start: u16,

@@ -42,7 +42,7 @@ pub const LEAST_MOVED: i32 = -1_000_000_000;
 pub const ANY_MINUTES: u16 = 65535;
 
 // What a service asks of start, length, a, b and c.
-#[derive(Drop)]
+#[derive(Clone, Copy)]
 pub struct Limits {
     pub quarters: bool,
     pub latest: u16,

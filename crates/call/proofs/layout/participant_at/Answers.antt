@@ -1,0 +1,6 @@
+use Rattle.call.specs.Layout.{call_at}
+use Rattle.call.proofs.layout.participant_at.Goals as goal
+
+pub returns : goal.returns
+unfolding call_at
+returns c = c.u16_at.ensures
