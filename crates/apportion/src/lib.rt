@@ -1,4 +1,6 @@
 // The largest remainder rule: an amount shared by weights, exact to the unit. It knows nothing of what is shared.
+#![tactic(auto)]
+
 mod bar;
 mod ties;
 

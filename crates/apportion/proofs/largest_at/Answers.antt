@@ -1,0 +1,10 @@
+use Prim.Native.Nat.{◌-◌}
+use native.Mathlib.Omega.{arith}
+use Rattle.apportion.proofs.Loops.{ahead_end}
+use Rattle.apportion.proofs.largest_at.Goals as goal
+
+pub returns : goal.returns
+returns c = record {
+  value = ahead_end c.args.xs.now c.loop-i.best c.loop-i.i c.loop-i.invariant (omega arith);
+  upper_bound = omega arith;
+}
