@@ -1,12 +1,17 @@
 // What a path names: where links lead, and what the system says of the file there, as plain numbers.
-ghost use Rattle.std.specs.Prelude.{◌≤◌, length, take, ◌≡◌};
-ghost use Rattle.libc.specs.Io.{Ended};
+#![tactic(auto)]
 
-use libc::PATH_MAX;
-use libc::types::{stat, timespec};
+ghost use Rattle.std.specs.Prelude.{◌≤◌, length, take, ◌≡◌};
+
+use std::fs::Metadata;
+use std::io::ErrorKind;
+use std::os::unix::fs::MetadataExt;
+use std::path::PathBuf;
+use std::rt::HostRuntime;
+use std::{fs, io, str};
 
 // What the system says of a name, links followed: whether there is such a file, its kind and mode, and which file it is. Where it is unknown the system does not say: there may be one.
-#[derive(Drop)]
+#[derive(Clone, Copy)]
 pub struct Node {
     pub there: bool,
     pub unknown: bool,
@@ -16,21 +21,29 @@ pub struct Node {
 }
 
 // A path in an array's first bytes; none where the size is 0.
-#[derive(Drop)]
+#[derive(Clone, Copy)]
 pub struct Name {
     pub bytes: [u8; PATH_MAX],
     pub size: usize,
 }
+
+// The system's longest path, the zero behind it included.
+pub const PATH_MAX: usize = 4096;
 
 // As many links in a row as the system follows.
 const MOST_LINKS: usize = 40;
 
 const LAST: usize = PATH_MAX - 1;
 
+// The bits of a mode that say what kind of file it is, and those of a file of bytes.
+const KIND: u32 = 0o170000;
+
+const REGULAR: u32 = 0o100000;
+
 impl Node {
     // A file of bytes, and not a folder, a device or a pipe.
     pub fn is_regular(self) -> bool {
-        self.mode & libc::S_IFMT == libc::S_IFREG
+        self.mode & KIND == REGULAR
     }
 
     // Whether its owner may write it.
@@ -44,44 +57,30 @@ impl Node {
     }
 }
 
-fn blank() -> stat {
-    let t = timespec {
-        tv_sec: 0,
-        tv_nsec: 0,
-    };
-    stat {
-        st_dev: 0,
-        st_ino: 0,
-        st_nlink: 0,
-        st_mode: 0,
-        st_uid: 0,
-        st_gid: 0,
-        __pad: 0,
-        st_rdev: 0,
-        st_size: 0,
-        st_blksize: 0,
-        st_blocks: 0,
-        st_atim: t,
-        st_mtim: t,
-        st_ctim: t,
-        __unused: [0; 3],
-    }
-}
-
 // Whether an error says that a path names nothing: no such name, a folder on the way that is none, or a name longer than any is.
-fn is_none(error: i32) -> bool {
-    (error == libc::ENOENT) | (error == libc::ENOTDIR) | (error == libc::ENAMETOOLONG)
+fn is_none(kind: ErrorKind) -> bool {
+    (kind == ErrorKind::NotFound)
+        | (kind == ErrorKind::NotADirectory)
+        | (kind == ErrorKind::InvalidFilename)
 }
 
-// What `stat` answered, asked just after it.
-fn told(r: i32, s: stat) -> Node {
-    let there = r == 0;
-    Node {
-        there,
-        unknown: !there & !is_none(os::errno()),
-        mode: s.st_mode,
-        device: s.st_dev,
-        inode: s.st_ino,
+// What the system answered of a name.
+fn told(answer: io::Result<Metadata>) -> Node {
+    match answer {
+        Ok(node) => Node {
+            there: true,
+            unknown: false,
+            mode: node.mode(),
+            device: node.dev(),
+            inode: node.ino(),
+        },
+        Err(error) => Node {
+            there: false,
+            unknown: !is_none(error.kind()),
+            mode: 0,
+            device: 0,
+            inode: 0,
+        },
     }
 }
 
@@ -95,37 +94,40 @@ fn no_node() -> Node {
     }
 }
 
-fn node_at(path: &[u8; PATH_MAX]) -> Node
-    requires { Ended path.now }
-{
-    let mut s = blank();
-    let r = libc::stat(path, &mut s);
-    told(r, s)
+// Of a path that is no text the library cannot ask.
+fn unknown_node() -> Node {
+    Node {
+        there: false,
+        unknown: true,
+        mode: 0,
+        device: 0,
+        inode: 0,
+    }
 }
 
-// The path and zeros behind it, as C reads it. One that is too long is cut, and `is_path` asks first.
-fn ended(path: &[u8]) -> [u8; PATH_MAX]
-    requires { length path.now ≤ 4095 }
-    ensures { Ended result }
-{
-    let mut name = io::buffer();
-    bytes::copy(path, &mut name);
-    name[LAST] = 0;
-    name
+// A path as the library takes it: as text.
+pub fn text_of(path: &[u8]) -> Option<&str> {
+    str::from_utf8(path).ok()
+}
+
+fn node_at(rt: HostRuntime, path: &[u8]) -> Node {
+    match text_of(path) {
+        Some(text) => told(fs::metadata(&rt, text)),
+        None => unknown_node(),
+    }
 }
 
 // What the system says of a path; of one that is too long, that there is nothing.
-pub fn node_of(path: &[u8]) -> Node {
+pub fn node_of(rt: HostRuntime, path: &[u8]) -> Node {
     if LAST < path.len() {
         return no_node();
     }
-    let name = ended(path);
-    node_at(&name)
+    node_at(rt, path)
 }
 
 fn no_name() -> Name {
     Name {
-        bytes: io::buffer(),
+        bytes: [0; PATH_MAX],
         size: 0,
     }
 }
@@ -140,6 +142,32 @@ pub fn first(bytes: &[u8], n: usize) -> &[u8]
     bytes
 }
 
+// The bytes over the first ones of a buffer, as many as there is room for. Gives how many.
+pub fn copy(from: &[u8], to: &mut [u8]) -> usize
+    ensures fits { result ≤ length to.new }
+    ensures same { length to.new ≡ length to.old }
+{
+    let some = first(from, to.len());
+    let n = some.len();
+    to[..n].copy_from_slice(some);
+    n
+}
+
+// Where a byte first stands from one place up to another; the other where it does not.
+pub fn find(bytes: &[u8], from: usize, to: usize, byte: u8) -> usize
+    requires order { from ≤ to }
+    requires inside { to ≤ length bytes.now }
+    ensures behind { from ≤ result }
+    ensures within { result ≤ to }
+{
+    for i in from..to {
+        if bytes[i] == byte {
+            return i;
+        }
+    }
+    to
+}
+
 // One text behind the other, as a name; none where that is too long for a path.
 pub fn joined(one: &[u8], two: &[u8]) -> Name {
     let n = one.len();
@@ -150,9 +178,9 @@ pub fn joined(one: &[u8], two: &[u8]) -> Name {
     if LAST - n < m {
         return no_name();
     }
-    let mut bytes = io::buffer();
-    bytes::copy(one, &mut bytes);
-    bytes::copy(two, &mut bytes[n..]);
+    let mut bytes = [0u8; PATH_MAX];
+    copy(one, &mut bytes);
+    copy(two, &mut bytes[n..]);
     Name { bytes, size: n + m }
 }
 
@@ -170,14 +198,25 @@ pub fn folder_end(path: &[u8]) -> usize
     0
 }
 
+// What became of asking for a link's text, which is put in the buffer's first bytes: how long it is, 0 where the system says that there is none. One that the library cannot take (there is no
+// memory for it, or it is no text) is as long as the buffer, as that of no link is: it leads to no name.
+fn link_text(answer: io::Result<PathBuf>, text: &mut [u8]) -> usize {
+    match answer {
+        Ok(path) => copy(path.as_str().as_bytes(), text),
+        Err(error) if error.raw_os_error().is_some() => 0,
+        Err(_) => text.len(),
+    }
+}
+
 // The text of the link that a path names, in the buffer's first bytes: how long it is, 0 where the path names no link.
-fn link_of(path: &[u8], text: &mut [u8]) -> usize {
+fn link_of(rt: HostRuntime, path: &[u8], text: &mut [u8]) -> usize {
     if LAST < path.len() {
         return 0;
     }
-    let name = ended(path);
-    let got = libc::readlink(&name, text);
-    io::count(got, text)
+    match text_of(path) {
+        Some(name) => link_text(fs::read_link(&rt, name), text),
+        None => 0,
+    }
 }
 
 // Where a link leads: its text is a path from the root, or from the folder that the link is in.
@@ -193,10 +232,10 @@ fn led(path: &[u8], text: &[u8]) -> Name {
 }
 
 // One link followed; a name that is no link stays.
-fn follow(name: Name) -> Name {
+fn follow(rt: HostRuntime, name: Name) -> Name {
     let at = name.bytes;
-    let mut text = io::buffer();
-    let n = link_of(first(&at, name.size), &mut text);
+    let mut text = [0u8; PATH_MAX];
+    let n = link_of(rt, first(&at, name.size), &mut text);
     if n == 0 {
         return name;
     }
@@ -204,39 +243,42 @@ fn follow(name: Name) -> Name {
 }
 
 // The name itself, or none where it is a link still: its links lead round.
-fn unlinked(name: Name) -> Name {
+fn unlinked(rt: HostRuntime, name: Name) -> Name {
     let at = name.bytes;
-    let mut text = io::buffer();
-    if link_of(first(&at, name.size), &mut text) == 0 {
+    let mut text = [0u8; PATH_MAX];
+    if link_of(rt, first(&at, name.size), &mut text) == 0 {
         return name;
     }
     no_name()
 }
 
 // The name of the file that a path leads to, all links followed, whether the file is there or not; none where that name is too long or the links lead round.
-pub fn led_to(path: &[u8]) -> Name {
+pub fn led_to(rt: HostRuntime, path: &[u8]) -> Name {
     let mut name = joined(path, b"");
     let mut left = MOST_LINKS;
     while 0 < left {
-        name = follow(name);
+        name = follow(rt, name);
         left -= 1;
     }
-    unlinked(name)
+    unlinked(rt, name)
 }
 
 // Whether the system says that nothing has this name, not even a link that leads nowhere.
-pub fn is_absent(path: &[u8]) -> bool {
+pub fn is_absent(rt: HostRuntime, path: &[u8]) -> bool {
     if LAST < path.len() {
         return false;
     }
-    let name = ended(path);
-    let mut text = io::buffer();
-    let got = libc::readlink(&name, &mut text);
-    (got < 0) & (os::errno() == libc::ENOENT)
+    let Some(name) = text_of(path) else {
+        return false;
+    };
+    match fs::read_link(&rt, name) {
+        Ok(_) => false,
+        Err(error) => error.kind() == ErrorKind::NotFound,
+    }
 }
 
 // Whether this is the name of a link, wherever it leads.
-pub fn is_link(path: &[u8]) -> bool {
-    let mut text = io::buffer();
-    0 < link_of(path, &mut text)
+pub fn is_link(rt: HostRuntime, path: &[u8]) -> bool {
+    let mut text = [0u8; PATH_MAX];
+    0 < link_of(rt, path, &mut text)
 }
