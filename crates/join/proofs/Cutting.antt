@@ -191,28 +191,28 @@ module _ (b : List ℕ) (s : Sound b) (whole kept other : Call) (k : KeptAndNew 
   nk : Numbered (kept ∷ [])
   nk = k.kept_numbered
 
-  no : Numbered (other ∷ [])
-  no = k.other_numbered
+  numbered_other : Numbered (other ∷ [])
+  numbered_other = k.other_numbered
 
   module _ (page out page' out' : List ℕ) where
     kept_stands : (z : (changing b kept page out).number ≡ 0) → record_after b kept page out (call_key kept) ≡ some kept
     kept_stands z = revises b s kept nk page out z whole has_kept (stands whole k.live) (stands kept k.kept_part.live) k.higher
 
     other_stands : (z : (changing b other page out).number ≡ 0) → record_after b other page out (call_key other) ≡ some other
-    other_stands z = enters b s other no page out z has_other
+    other_stands z = enters b s other numbered_other page out z has_other
 
     -- revised, then entered
     revised_entered : BothAccepted b kept other page out page' out' → Replaced b (both_joined b kept other page out page' out') whole kept other
     revised_entered both =
         let z = both.once in
         let ex = kept_stands z in
-        let a = once-sound b s kept other nk no page out page' out' z ex in
-        let ey = enters (written (changing b kept page out)) a other no page' out' both.twice (still b s kept other nk no page out page' out' z ex distinct none has_other) in
-        let i = twice_in b s kept other nk no page out page' out' z ex both.twice ey distinct in
-        let t = changed_sound (written (changing b kept page out)) a other no page' out' both.twice in
+        let a = once-sound b s kept other nk numbered_other page out page' out' z ex in
+        let ey = enters (written (changing b kept page out)) a other numbered_other page' out' both.twice (still b s kept other nk numbered_other page out page' out' z ex distinct none has_other) in
+        let i = twice_in b s kept other nk numbered_other page out page' out' z ex both.twice ey distinct in
+        let t = changed_sound (written (changing b kept page out)) a other numbered_other page' out' both.twice in
         record {
           sound = t.0;
-          header = sym (t.1 ∙ once-header b s kept other nk no page out page' out' z ex);
+          header = sym (t.1 ∙ once-header b s kept other nk numbered_other page out page' out' z ex);
           calls = λ d. (
             λ j. ⊎_elim inl (λ h. inr (⊎_elim inl (λ m. inr ((rest d).1 m)) h)) ((i d).0 j),
             λ h. (i d).1 (⊎_elim inl (λ m. inr (⊎_elim inl (λ n. inr ((rest d).0 n)) m)) h),
@@ -225,15 +225,15 @@ module _ (b : List ℕ) (s : Sound b) (whole kept other : Call) (k : KeptAndNew 
         let z = both.once in
         let n : call_key kept ≡ call_key other → ⊥ = λ e. distinct (sym e) in
         let ex = other_stands z in
-        let a = once-sound b s other kept no nk page out page' out' z ex in
+        let a = once-sound b s other kept numbered_other nk page out page' out' z ex in
         let ey =
-        revises (written (changing b other page out)) a kept nk page' out' both.twice whole (still b s other kept no nk page out page' out' z ex n (some whole) has_kept)
+        revises (written (changing b other page out)) a kept nk page' out' both.twice whole (still b s other kept numbered_other nk page out page' out' z ex n (some whole) has_kept)
         (stands whole k.live) (stands kept k.kept_part.live) k.higher in
-        let i = twice_in b s other kept no nk page out page' out' z ex both.twice ey n in
+        let i = twice_in b s other kept numbered_other nk page out page' out' z ex both.twice ey n in
         let t = changed_sound (written (changing b other page out)) a kept nk page' out' both.twice in
         record {
           sound = t.0;
-          header = sym (t.1 ∙ once-header b s other kept no nk page out page' out' z ex);
+          header = sym (t.1 ∙ once-header b s other kept numbered_other nk page out page' out' z ex);
           calls = λ d. (
             λ j. ⊎_elim inl (λ h. inr (⊎_elim inl (λ m. inr ((rest d).1 (m.0, m.2, m.1))) h)) ((i d).0 j),
             λ h. (i d).1 (⊎_elim inl (λ m. inr (⊎_elim inl (λ n. inr (let r = (rest d).0 n in (r.0, r.2, r.1))) m)) h),
@@ -253,37 +253,37 @@ module _ (b : List ℕ) (s : Sound b) (whole kept other : Call) (k : KeptAndNew 
           (change_accepted b s kept nk page out).1
           (record { within = wk; page_long = room.page_long; fits = had-before (some_not_none whole _ has_kept) (omega (arith, room.out_long)) }) in
           let ex = kept_stands z in
-          let a = once-sound b s kept other nk no page out page' out' z ex in
+          let a = once-sound b s kept other nk numbered_other page out page' out' z ex in
           let n : count_at (written (changing b kept page out)) ≡ count_at b =
           changed-count b s kept nk page out z ex ∙ ap (λ (j : ℕ). suc (length (without j (calls_of b)))) own_key
           ∙ sym (sym (count_of_calls b) ∙ ap length (whole_placed b s whole k.has) ∙ placed_length whole (others b whole)) in
           record {
             once = z;
             twice =
-                (change_accepted (written (changing b kept page out)) a other no page' out').1
+                (change_accepted (written (changing b kept page out)) a other numbered_other page' out').1
                 (record {
                   within = within_once kept other nk z wo;
                   page_long = room.page_long';
-                  fits = new-key (still b s kept other nk no page out page' out' z ex distinct none has_other) (omega (arith, room.free)) (omega (arith, room.out_long'));
+                  fits = new-key (still b s kept other nk numbered_other page out page' out' z ex distinct none has_other) (omega (arith, room.free)) (omega (arith, room.out_long'));
                 });
           }
 
       accepted_entered : BothAccepted b other kept page out page' out'
       accepted_entered =
-          let z = (change_accepted b s other no page out).1 (record { within = wo; page_long = room.page_long; fits = new-key has_other room.free room.out_long }) in
+          let z = (change_accepted b s other numbered_other page out).1 (record { within = wo; page_long = room.page_long; fits = new-key has_other room.free room.out_long }) in
           let ex = other_stands z in
-          let a = once-sound b s other kept no nk page out page' out' z ex in
+          let a = once-sound b s other kept numbered_other nk page out page' out' z ex in
           let n : count_at (written (changing b other page out)) ≡ suc (count_at b) =
-          changed-count b s other no page out z ex ∙ ap (λ (cs : List Call). suc (length cs)) (without_free (call_key other) (calls_of b) free) ∙ ap suc (count_of_calls b) in
+          changed-count b s other numbered_other page out z ex ∙ ap (λ (cs : List Call). suc (length cs)) (without_free (call_key other) (calls_of b) free) ∙ ap suc (count_of_calls b) in
           record {
             once = z;
             twice =
                 (change_accepted (written (changing b other page out)) a kept nk page' out').1
                 (record {
-                  within = within_once other kept no z wk;
+                  within = within_once other kept numbered_other z wk;
                   page_long = room.page_long';
                   fits =
-                      had-before (some_not_none whole _ (still b s other kept no nk page out page' out' z ex (λ e. distinct (sym e)) (some whole) has_kept)) (omega (arith, room.out_long'));
+                      had-before (some_not_none whole _ (still b s other kept numbered_other nk page out page' out' z ex (λ e. distinct (sym e)) (some whole) has_kept)) (omega (arith, room.out_long'));
                 });
           }
 

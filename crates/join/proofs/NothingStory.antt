@@ -149,7 +149,7 @@ early_out =
 
 without_office : (x y : List Call) → x ≡ entered ∷ [] → y ≡ early ∷ [] → rule_over (x ∷ y ∷ []) (call_key withdrawal) ≡ some entered
 unfolding rule_over rule_for ruling records_of record_of also those highest all entered withdrawal early stop
-without_office x y e f = rw (e, f) refl
+without_office x y e f = rw (e, f, f) refl
 
 back_again : (standing entered withdrawal).state ≡ 2
 unfolding standing decide given same_call entered withdrawal stop
