@@ -1,4 +1,6 @@
 // The call book: sixteen header bytes, then 32 for each record. Any bytes whatever are a sound book or are refused by number and place.
+#![tactic(auto)]
+
 ghost use Rattle.std.specs.Prelude.{◌≡◌, ◌<◌, ◌≤◌, length};
 ghost use Rattle.book.specs.Book.{most_records, size_of, place_of, HasHeader, HasRecord};
 ghost use Rattle.book.specs.Book.{version_at, header_at, count_at, record_at};
@@ -31,7 +33,7 @@ pub const FIRST_YEAR: u16 = 2024;
 pub const LAST_YEAR: u16 = 2099;
 
 // Whose month a book is of.
-#[derive(Drop)]
+#[derive(Clone, Copy)]
 pub struct Header {
     pub area: u8,
     pub year: u16,
@@ -39,7 +41,7 @@ pub struct Header {
 }
 
 // A refusal's number and place, or zeros where a book is accepted.
-#[derive(Drop)]
+#[derive(Clone, Copy)]
 pub struct Verdict {
     pub number: u32,
     pub place: usize,
@@ -177,7 +179,7 @@ fn next_at(b: &[u8], i: usize) -> u64
 }
 
 // What a record's turn gives: 5, 6 or 0, and the lowest key that the next record may have.
-#[derive(Drop)]
+#[derive(Clone, Copy)]
 pub struct RecordTurn {
     pub number: u32,
     pub low: u64,
@@ -251,7 +253,7 @@ pub fn check(b: &[u8]) -> Verdict
 }
 
 // What any bytes are found to be: a refusal's number and place, otherwise zeros; or a sound book, its version, whose month it is of and how many calls it has.
-#[derive(Drop)]
+#[derive(Clone, Copy)]
 pub struct Opened {
     pub number: u32,
     pub place: usize,

@@ -13,7 +13,7 @@ use le::{put_u8, put_u16, put_u32};
 use units::calendar::minutes_of;
 
 // What a writer answers: a refusal's number and place, and zero; or zeros, and the length of the book.
-#[derive(Drop)]
+#[derive(Clone, Copy)]
 pub struct Written {
     pub number: u32,
     pub place: usize,
