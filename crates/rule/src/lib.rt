@@ -1,4 +1,6 @@
 // The rule for one key: which of two records stands, each in the 32 bytes from a place on.
+#![tactic(auto)]
+
 ghost use Rattle.std.specs.Prelude.{◌≡◌, ◌+◌, ◌≤◌, eqb, length};
 ghost use Rattle.le.specs.Le.{le_at};
 ghost use Rattle.call.specs.Layout.{record_size, call_at};
@@ -10,7 +12,7 @@ use le::u64_at;
 
 // What becomes of a key that both books have: the first book's record stands, or the second's, or neither,
 // and the record is struck: contested at that revision.
-#[derive(Drop)]
+#[derive(Clone, Copy)]
 pub enum Decision {
     First,
     Second,
