@@ -1,4 +1,6 @@
 // Two books side by side: the refusals of both, and whose record comes first.
+#![tactic(auto)]
+
 ghost use Rattle.std.specs.Prelude.{◌≡◌, ◌+◌, ◌≤◌, ltb, length};
 ghost use Rattle.call.specs.Key.{call_key};
 ghost use Rattle.call.specs.Layout.{record_size, call_at};
