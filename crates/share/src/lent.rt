@@ -3,7 +3,7 @@ ghost use Rattle.std.specs.Prelude.{◌≡◌, ◌≤◌};
 ghost use Rattle.share.specs.Forms.{Lent, shared_array};
 ghost use Rattle.share.specs.Inner.{beside, lend_front};
 
-use crate::array::{answer_in, blank_lines, kept_of, put_line, seen, take_line};
+use crate::array::{answer_in, blank_lines, kept_of, seen, take_line};
 use crate::settle::clear;
 use crate::{Answer, Line, Shared, share};
 
@@ -16,7 +16,7 @@ pub fn share_lines(part: u32, lines: &mut [Line]) -> Answer
     let mut a = blank_lines();
     let mut i = 0;
     while i < m {
-        a = put_line(a, i, lines[i]);
+        a[i] = lines[i];
         i += 1;
     }
     let s = share(part, a, n);

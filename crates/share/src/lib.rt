@@ -1,4 +1,6 @@
 // Sharing: the gap between assessments and compensations; the generators' part of it is carried by the lines by weight, the rest is the user's.
+#![tactic(auto)]
+
 pub mod array;
 pub mod lent;
 pub mod limits;
@@ -10,7 +12,7 @@ ghost use Rattle.share.specs.Forms.{shared_array};
 use units::{Fen, Mwh, SignedFen, Thousandths};
 
 // One line of the sharing; share and amount are filled in.
-#[derive(Drop)]
+#[derive(Clone, Copy)]
 pub struct Line {
     pub number: u16,
     pub status: u8,
@@ -22,7 +24,7 @@ pub struct Line {
 }
 
 // A refusal's number and place, or zeros; R; the user's amount; and the lines, filled in where there is no refusal.
-#[derive(Drop)]
+#[derive(Clone, Copy)]
 pub struct Shared {
     pub number: u32,
     pub place: usize,
@@ -32,7 +34,7 @@ pub struct Shared {
 }
 
 // A refusal's number and place, or zeros, R and the user's amount.
-#[derive(Drop)]
+#[derive(Clone, Copy)]
 pub struct Answer {
     pub number: u32,
     pub place: usize,

@@ -14,14 +14,14 @@ use crate::{Line, Shared};
 use units::{Fen, SignedFen};
 
 // C and A.
-#[derive(Drop)]
+#[derive(Clone, Copy)]
 pub struct Totals {
     pub compensated: Fen,
     pub assessed: Fen,
 }
 
 // R: the generators' of it without its sign, the whole, the user's amount, and whether it is below zero.
-#[derive(Drop)]
+#[derive(Clone, Copy)]
 pub struct Gap {
     pub amount: Fen,
     pub whole: SignedFen,
@@ -30,12 +30,12 @@ pub struct Gap {
 }
 
 // What each line carries, without its sign.
-#[derive(Drop)]
+#[derive(Clone, Copy)]
 pub struct FenEach(pub [u64; 64]);
 
 // What sharing says before it is filled in: a refusal's number and place, or zeros; R, the user's amount, whether R is below zero, and what each
 // line carries of it.
-#[derive(Drop)]
+#[derive(Clone, Copy)]
 pub struct Carried {
     pub number: u32,
     pub place: usize,
