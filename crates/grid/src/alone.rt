@@ -7,14 +7,14 @@ use crate::cell::run_from;
 use row::hold;
 
 // What a text of one number says.
-#[derive(Drop)]
+#[derive(Clone, Copy)]
 pub enum Told {
     Number(u64),
     Nothing,
 }
 
 // What a text of one number with or without a sign says.
-#[derive(Drop)]
+#[derive(Clone, Copy)]
 pub enum ToldInteger {
     Number(i32),
     Nothing,

@@ -11,7 +11,7 @@ pub const NO_NUMBER: u64 = CEILING + 1;
 pub const NONE_TOLD: u64 = CEILING + 2;
 
 // Nothing read; digits, worth so much; a quote; digits behind it; a dash behind it. Closed: it says so much, if it ends here. Bad: no bytes can make it say anything.
-#[derive(Drop)]
+#[derive(Clone, Copy)]
 pub enum Cell {
     Fresh,
     Bare(u64),
@@ -23,7 +23,7 @@ pub enum Cell {
 }
 
 // Where the digits end, and what they are worth with those before them, held once it is past every limit.
-#[derive(Drop)]
+#[derive(Clone, Copy)]
 pub struct Run {
     pub end: usize,
     pub value: u64,

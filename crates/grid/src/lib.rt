@@ -1,4 +1,6 @@
 // A table's text, as a spreadsheet saves it, read byte after byte in fixed memory: its rows of numbers.
+#![tactic(auto)]
+
 pub mod alone;
 pub mod cell;
 
@@ -33,7 +35,7 @@ const BODY: u8 = 4;
 // All that is kept of a text, but for the numbers of the line's cells that ended, which are beside it. `separator` is one once one was read. Of the line that is being
 // read, `filled`: it has a byte that is no separator; `shut`: it has a carriage return, behind which its line feed should come; `at`: how many cells have ended, or as
 // many as are kept.
-#[derive(Drop)]
+#[derive(Clone, Copy)]
 pub struct Grid {
     pub stage: u8,
     pub separator: u8,
@@ -44,7 +46,7 @@ pub struct Grid {
 }
 
 // A grid, and the place of the next byte.
-#[derive(Drop)]
+#[derive(Clone, Copy)]
 pub struct Step {
     pub grid: Grid,
     pub end: usize,

@@ -4,8 +4,7 @@ use mathlib.Core.List.{[]}
 use Rattle.grid.specs.declared.Grid.{Grid}
 use Rattle.grid.specs.Grid.{is_blank}
 use Rattle.grid.specs.Meaning.{plain_left, blank_left}
-use Rattle.grid.proofs.Grid.is_blank.Statement.{statement}
-use Rattle.grid.proofs.Grid.is_blank.Tie as tie
+use Rattle.grid.proofs.Grid.is_blank.Goals as goal
 
 blank-here : (g : Grid) → not g.filled ≡ blank_left g []
 unfolding blank_left
@@ -16,8 +15,5 @@ blank-here g = go g.filled g.shut
     go false true = refl
     go false false = refl
 
-returns : tie.Need-returns
-returns c = blank-here c.before.args.self
-
-pub is-blank-spec : {M : Type 1} → statement M
-is-blank-spec = tie.close (tie.spec returns)
+pub returns : goal.returns
+returns c = blank-here c.args.self

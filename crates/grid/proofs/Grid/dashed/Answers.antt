@@ -1,0 +1,9 @@
+use mathlib.Core.Path.{ap}
+use mathlib.Core.Bool.{true, false}
+use Rattle.grid.specs.declared.cell.Cell.{Cell}
+use Rattle.grid.proofs.Steps.{by_dash_byte}
+use Rattle.grid.proofs.Grid.dashed.Goals as goal
+
+pub returns : goal.returns
+returns c = let g = c.args.self in
+    λ ended. by_dash_byte g ended c.requires _ (ap (λ (x : Cell). record { stage = g.stage; separator = g.separator; filled = true; shut = false; cell = x; at = g.at }) c.dash-next.ensures)
