@@ -1,13 +1,20 @@
 // Whole files: read into a lent buffer; and written by one run at a time, beside the target and then renamed over it. A book and its page of tabs are written together (beside).
-ghost use Rattle.std.specs.Prelude.{◌≡◌, length};
+#![tactic(auto)]
+
+ghost use Rattle.std.specs.Prelude.{◌≡◌, ℕ, length};
 ghost use Rattle.files.specs.Fits.{Fits, Brings};
 
-use node::{Name, Node, first, folder_end, joined, led_to, node_of};
+use node::{Name, Node, first, folder_end, joined, led_to, node_of, text_of};
+use std::fs::{File, OpenOptions, Permissions};
+use std::io::{ErrorKind, Read, Write};
+use std::os::unix::fs::PermissionsExt;
+use std::rt::HostRuntime;
+use std::{fs, io};
 
 pub mod beside;
 
 // What became of reading a file: how many bytes it has, or why it was not read.
-#[derive(Drop)]
+#[derive(Clone, Copy)]
 pub enum Loaded {
     Whole(usize),
     Missing,
@@ -17,7 +24,7 @@ pub enum Loaded {
 
 // What became of a file that was to be written. `Done` is done, or held so that it can be; where it is another, the target is as it was, but for `Unsure`, which says that the new file
 // stands and its folder could not be brought to the device.
-#[derive(Drop)]
+#[derive(Clone, Copy)]
 pub enum Stored {
     Done,
     BadName,
@@ -39,11 +46,11 @@ pub struct Hold {
     pub state: Stored,
     pub target: Name,
     pub node: Node,
-    pub fd: i32,
+    pub file: Option<File>,
 }
 
 // What one read brought.
-#[derive(Drop)]
+#[derive(Clone, Copy)]
 enum Once {
     Bytes(usize),
     End,
@@ -51,26 +58,22 @@ enum Once {
 }
 
 // One read. A failed read is no end of the file.
-fn read_once(fd: i32, part: &mut [u8]) -> Once
+fn read_once(file: &mut File, part: &mut [u8]) -> Once
     ensures { (Brings (length part.old) result) × (length part.new ≡ length part.old) }
 {
-    let got = libc::read(fd, part);
-    if got < 0 {
-        return Once::Failed;
+    match file.read(part) {
+        Ok(0) => Once::End,
+        Ok(n) => Once::Bytes(n),
+        Err(_) => Once::Failed,
     }
-    let n = io::count(got, part);
-    if n == 0 {
-        return Once::End;
-    }
-    Once::Bytes(n)
 }
 
 // A file of which n bytes, all that there was room for, are read: one read more tells it from a longer one.
-fn probe(fd: i32, n: usize) -> Loaded
+fn probe(file: &mut File, n: usize) -> Loaded
     ensures { Fits n result }
 {
     let mut one = [0u8; 1];
-    match read_once(fd, &mut one) {
+    match read_once(file, &mut one) {
         Once::Bytes(_) => Loaded::TooLong,
         Once::End => Loaded::Whole(n),
         Once::Failed => Loaded::Failed,
@@ -78,12 +81,12 @@ fn probe(fd: i32, n: usize) -> Loaded
 }
 
 // A file's first bytes, as many as there is room for; what is behind them is not looked at.
-fn fill_front(fd: i32, buf: &mut [u8]) -> Loaded
+fn fill_front(file: &mut File, buf: &mut [u8]) -> Loaded
     ensures { Fits (length buf.new) result }
 {
     let mut n: usize = 0;
     while n < buf.len() {
-        let once = read_once(fd, &mut buf[n..]);
+        let once = read_once(file, &mut buf[n..]);
         if let Once::Failed = once {
             return Loaded::Failed;
         }
@@ -95,75 +98,101 @@ fn fill_front(fd: i32, buf: &mut [u8]) -> Loaded
     Loaded::Whole(n)
 }
 
-fn fill(fd: i32, buf: &mut [u8]) -> Loaded
+fn fill(file: &mut File, buf: &mut [u8]) -> Loaded
     ensures { Fits (length buf.new) result }
 {
-    let loaded = fill_front(fd, buf);
+    let loaded = fill_front(file, buf);
     if let Loaded::Whole(n) = loaded {
         if buf.len() <= n {
-            return probe(fd, n);
+            return probe(file, n);
         }
     }
     loaded
+}
+
+// A path that the library cannot take, since it is no text.
+fn no_text() -> io::Error {
+    io::Error::from(ErrorKind::InvalidFilename)
+}
+
+fn open(rt: HostRuntime, path: &[u8]) -> io::Result<File> {
+    match text_of(path) {
+        Some(name) => File::open(&rt, name),
+        None => Err(no_text()),
+    }
+}
+
+// Why a file could not be opened.
+fn unopened(error: io::Error) -> Loaded
+    ensures { (n : ℕ) → Fits n result }
+{
+    if error.kind() == ErrorKind::NotFound {
+        return Loaded::Missing;
+    }
+    Loaded::Failed
 }
 
 // The whole file in the buffer's first bytes, or why not.
-pub fn load(path: &[u8], buf: &mut [u8]) -> Loaded
+pub fn load(rt: HostRuntime, path: &[u8], buf: &mut [u8]) -> Loaded
     ensures { Fits (length buf.new) result }
 {
-    let fd = os::open_read(path);
-    if fd < 0 {
-        if os::errno() == libc::ENOENT {
-            return Loaded::Missing;
-        }
-        return Loaded::Failed;
+    match open(rt, path) {
+        Ok(mut file) => fill(&mut file, buf),
+        Err(error) => unopened(error),
     }
-    let loaded = fill(fd, buf);
-    libc::close(fd);
-    loaded
 }
 
 // The file's first bytes, as many as the buffer has room for; a longer file is as one that ends there.
-pub fn load_front(path: &[u8], buf: &mut [u8]) -> Loaded
+pub fn load_front(rt: HostRuntime, path: &[u8], buf: &mut [u8]) -> Loaded
     ensures { Fits (length buf.new) result }
 {
-    let fd = os::open_read(path);
-    if fd < 0 {
-        if os::errno() == libc::ENOENT {
-            return Loaded::Missing;
-        }
-        return Loaded::Failed;
+    match open(rt, path) {
+        Ok(mut file) => fill_front(&mut file, buf),
+        Err(error) => unopened(error),
     }
-    let loaded = fill_front(fd, buf);
-    libc::close(fd);
-    loaded
 }
 
-// The bytes into the new file, down to the device; it is closed either way. A close may be the first to tell of a full disk.
-fn put(fd: i32, bytes: &[u8]) -> bool {
-    let whole = io::write_all(fd, bytes);
-    let synced = libc::fsync(fd);
-    let closed = libc::close(fd);
-    whole & (synced == 0) & (closed == 0)
+// The bytes into the new file, down to the device; it is closed either way.
+fn put(file: File, bytes: &[u8]) -> bool {
+    let mut new = file;
+    let whole = new.write_all(bytes).is_ok();
+    let synced = new.sync_all().is_ok();
+    whole & synced
 }
 
-fn sync_at(folder: &[u8]) -> bool {
-    let fd = os::open_read(folder);
-    if fd < 0 {
-        return false;
+fn sync_at(rt: HostRuntime, folder: &[u8]) -> bool {
+    match open(rt, folder) {
+        Ok(file) => file.sync_all().is_ok(),
+        Err(_) => false,
     }
-    let synced = libc::fsync(fd);
-    libc::close(fd);
-    synced == 0
 }
 
 // The folder's entry for the path, down to the device.
-fn sync_folder(path: &[u8]) -> bool {
+fn sync_folder(rt: HostRuntime, path: &[u8]) -> bool {
     let n = folder_end(path);
     if n == 0 {
-        return sync_at(b".");
+        return sync_at(rt, b".");
     }
-    sync_at(first(path, n))
+    sync_at(rt, first(path, n))
+}
+
+// One name in the other's place; whether it was done.
+fn rename(rt: HostRuntime, from: &[u8], to: &[u8]) -> bool {
+    let Some(old) = text_of(from) else {
+        return false;
+    };
+    let Some(new) = text_of(to) else {
+        return false;
+    };
+    fs::rename(&rt, old, new).is_ok()
+}
+
+// A name goes; whether it was done.
+fn unlink(rt: HostRuntime, path: &[u8]) -> bool {
+    match text_of(path) {
+        Some(name) => fs::remove_file(&rt, name).is_ok(),
+        None => false,
+    }
 }
 
 // The lock's name, which is the new file's too: it lies in the target's folder, so that it can be renamed.
@@ -198,130 +227,160 @@ fn not_held(state: Stored, target: Name, node: Node) -> Hold {
         state,
         target,
         node,
-        fd: -1,
+        file: None,
     }
 }
 
 // Nothing is held, for want of a name.
-pub fn nothing_held() -> Hold {
+pub fn nothing_held(rt: HostRuntime) -> Hold {
     let target = joined(b"", b"");
-    not_held(Stored::BadName, target, node_of(b""))
+    not_held(Stored::BadName, target, node_of(rt, b""))
 }
 
 // A target's lock goes.
-fn unlock(target: Name) {
+fn unlock(rt: HostRuntime, target: Name) {
     let lock = lock_of(target);
     let bytes = lock.bytes;
-    os::unlink(first(&bytes, lock.size));
+    unlink(rt, first(&bytes, lock.size));
 }
 
 // The lock goes, and nothing is written.
-pub fn release(hold: Hold) {
-    libc::close(hold.fd);
-    unlock(hold.target);
+pub fn release(rt: HostRuntime, hold: Hold) {
+    let target = hold.target;
+    drop(hold);
+    unlock(rt, target);
 }
 
 // What stands at the target is asked again under the lock: it may have changed before.
-fn under_lock(new: bool, target: Name, fd: i32) -> Hold {
+fn under_lock(rt: HostRuntime, new: bool, target: Name, file: File) -> Hold {
     let bytes = target.bytes;
-    let node = node_of(first(&bytes, target.size));
+    let node = node_of(rt, first(&bytes, target.size));
     let state = judged(new, node);
     let hold = Hold {
         state,
         target,
         node,
-        fd,
+        file: Some(file),
     };
     if let Stored::Done = state {
         return hold;
     }
-    release(hold);
-    hold
+    release(rt, hold);
+    not_held(state, target, node)
+}
+
+// A new file for writing, of a name that is not there yet.
+fn create(rt: HostRuntime, path: &[u8]) -> io::Result<File> {
+    match text_of(path) {
+        Some(name) => OpenOptions::new()
+            .write(true)
+            .create_new(true)
+            .open(&rt, name),
+        None => Err(no_text()),
+    }
+}
+
+// Why a lock could not be made.
+fn unmade(error: io::Error) -> Stored {
+    if error.kind() == ErrorKind::AlreadyExists {
+        return Stored::Locked;
+    }
+    Stored::NotMade
 }
 
 // The lock is made, which fails where it is there: of two runs one alone makes it.
-fn lock(new: bool, target: Name, node: Node) -> Hold {
+fn lock(rt: HostRuntime, new: bool, target: Name, node: Node) -> Hold {
     let name = lock_of(target);
     if name.size == 0 {
         return not_held(Stored::BadName, target, node);
     }
     let bytes = name.bytes;
-    let fd = os::create(first(&bytes, name.size));
-    if 0 <= fd {
-        return under_lock(new, target, fd);
+    match create(rt, first(&bytes, name.size)) {
+        Ok(file) => under_lock(rt, new, target, file),
+        Err(error) => not_held(unmade(error), target, node),
     }
-    if os::errno() == libc::EEXIST {
-        return not_held(Stored::Locked, target, node);
-    }
-    not_held(Stored::NotMade, target, node)
 }
 
 // A target by its own name, held until it is stored or released; where it is to be new, nothing may stand there.
-fn hold_named(target: Name, new: bool) -> Hold {
+fn hold_named(rt: HostRuntime, target: Name, new: bool) -> Hold {
     let bytes = target.bytes;
-    let node = node_of(first(&bytes, target.size));
+    let node = node_of(rt, first(&bytes, target.size));
     if target.size == 0 {
         return not_held(Stored::BadName, target, node);
     }
     let state = judged(new, node);
     if let Stored::Done = state {
-        return lock(new, target, node);
+        return lock(rt, new, target, node);
     }
     not_held(state, target, node)
 }
 
 // The same of the target that a path leads to.
-pub fn hold_at(path: &[u8], new: bool) -> Hold {
-    hold_named(led_to(path), new)
+pub fn hold_at(rt: HostRuntime, path: &[u8], new: bool) -> Hold {
+    hold_named(rt, led_to(rt, path), new)
 }
 
 // A file that is replaced keeps its mode; a new one has what the process's mask left.
-fn keep_mode(fd: i32, old: Node) -> bool {
+fn keep_mode(file: &File, old: Node) -> bool {
     if !old.there {
         return true;
     }
-    libc::fchmod(fd, old.mode & 0o7777) == 0
+    file.set_permissions(Permissions::from_mode(old.mode & 0o7777))
+        .is_ok()
 }
 
 // The bytes as the whole new file, with the mode of the old one; it is closed either way.
-fn write_new(fd: i32, old: Node, bytes: &[u8]) -> bool {
-    let kept = keep_mode(fd, old);
-    let written = put(fd, bytes);
+fn write_new(file: Option<File>, old: Node, bytes: &[u8]) -> bool {
+    let Some(new) = file else {
+        return false;
+    };
+    let kept = keep_mode(&new, old);
+    let written = put(new, bytes);
     kept & written
 }
 
 // The new file over the target, or away. Once it is renamed, the lock's name may be another run's.
-fn settle(target: &[u8], lock: &[u8], written: bool) -> Stored {
+fn settle(rt: HostRuntime, target: &[u8], lock: &[u8], written: bool) -> Stored {
     if !written {
-        os::unlink(lock);
+        unlink(rt, lock);
         return Stored::NotWritten;
     }
-    if os::rename(lock, target) != 0 {
-        os::unlink(lock);
+    if !rename(rt, lock, target) {
+        unlink(rt, lock);
         return Stored::NotRenamed;
     }
-    if sync_folder(target) {
+    if sync_folder(rt, target) {
         return Stored::Done;
     }
     Stored::Unsure
 }
 
 // The bytes as the whole file that is held. Then it is held no longer.
-pub fn store(hold: Hold, bytes: &[u8]) -> Stored {
-    let written = write_new(hold.fd, hold.node, bytes);
-    let target = hold.target;
+pub fn store(rt: HostRuntime, hold: Hold, bytes: &[u8]) -> Stored {
+    let Hold {
+        state: _,
+        target,
+        node,
+        file,
+    } = hold;
+    let written = write_new(file, node, bytes);
     let at = target.bytes;
     let lock = lock_of(target);
     let beside = lock.bytes;
-    settle(first(&at, target.size), first(&beside, lock.size), written)
+    settle(
+        rt,
+        first(&at, target.size),
+        first(&beside, lock.size),
+        written,
+    )
 }
 
 // The bytes as a new file: a path that names something already keeps it.
-pub fn store_new(path: &[u8], bytes: &[u8]) -> Stored {
-    let held = hold_at(path, true);
+pub fn store_new(rt: HostRuntime, path: &[u8], bytes: &[u8]) -> Stored {
+    let held = hold_at(rt, path, true);
     let state = held.state;
     if let Stored::Done = state {
-        return store(held, bytes);
+        return store(rt, held, bytes);
     }
     state
 }

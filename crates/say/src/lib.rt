@@ -1,73 +1,81 @@
 // What programs print: words, numbers, and money with its sign; at once, or collected on a page.
-ghost use Rattle.std.specs.Prelude.{◌≡◌, nat_abs};
+#![tactic(auto)]
+
+ghost use Rattle.std.specs.Prelude.{◌≡◌, ◌≤◌, length, nat_abs, IfSome};
 ghost use Rattle.io.specs.Counts.{IsPrefixLen};
 
-use libc::{STDERR_FILENO, STDOUT_FILENO};
 use render::put_word;
+use std::cell::Cell;
+use std::env::{Env, FillError};
+use std::io::{Eprint, Print};
+use std::rt::HostRuntime;
 use units::SignedFen;
 
-// Whether standard output is shut already, as `shut` leaves it: a folder, which is open for reading alone and is no file to read. It is asked just after a write that failed.
-fn is_shut() -> bool {
-    if os::errno() != libc::EBADF {
-        return false;
-    }
-    let mut one = [0u8; 1];
-    let got = libc::read(STDOUT_FILENO, &mut one);
-    (got < 0) & (os::errno() == libc::EISDIR)
+// What a program speaks to: its arguments, standard output, and the system, which has the files. One is made in `main`, and lent to all that reads, writes or prints.
+pub struct Terminal {
+    rt: HostRuntime,
+    shut: Cell<bool>,
 }
 
-// Every later write to standard output fails: its number is a folder's, so that no file that is opened later gets it. The lowest free number is given out, which is 0 where standard input
-// is closed too.
-fn shut() {
-    libc::close(STDOUT_FILENO);
-    if os::open_read(b"/") == libc::STDIN_FILENO {
-        os::open_read(b"/");
+impl Terminal {
+    pub fn new(rt: HostRuntime) -> Terminal {
+        Terminal {
+            rt,
+            shut: Cell::new(false),
+        }
+    }
+
+    // The system: who reads or writes a file is given it.
+    pub fn system(&self) -> HostRuntime {
+        self.rt
     }
 }
 
 // Words in one write. Where they do not get out, or not all of them, that is told on standard error, once, and nothing more gets out: who reads the rest must not take it for
 // the whole.
-pub fn text(words: &[u8]) {
-    if io::write_all(STDOUT_FILENO, words) {
+pub fn text(terminal: &Terminal, words: &[u8]) {
+    if terminal.shut.get() {
         return;
     }
-    if is_shut() {
+    if terminal.rt.write_all(words).is_ok() {
         return;
     }
-    io::write_all(
-        STDERR_FILENO,
-        b"not all could be written to standard output\n",
-    );
-    shut();
+    terminal.shut.set(true);
+    let _told = terminal
+        .rt
+        .stderr()
+        .write_all(b"not all could be written to standard output\n");
 }
 
 // The first n bytes of a page, in one write: all of it where it has no more.
-pub fn write_page(page: &[u8], n: usize) {
+pub fn write_page(terminal: &Terminal, page: &[u8], n: usize) {
     if page.len() < n {
-        text(page);
+        text(terminal, page);
         return;
     }
-    text(&page[..n]);
+    text(terminal, &page[..n]);
 }
 
 // Words behind the first n bytes of a page, which are written before it has no room for more. Gives how many stand there then.
-pub fn add(page: &mut [u8], n: usize, words: &[u8]) -> usize
+pub fn add(terminal: &Terminal, page: &mut [u8], n: usize, words: &[u8]) -> usize
     ensures { IsPrefixLen result page.new }
 {
     if page.len() < words.len() {
-        write_page(page, n);
-        text(words);
+        write_page(terminal, page, n);
+        text(terminal, words);
         return 0;
     }
     if page.len() - words.len() < n {
-        write_page(page, n);
+        write_page(terminal, page, n);
         return put_word(page, 0, words);
     }
     put_word(page, n, words)
 }
 
-pub fn number(n: u64) {
-    io::print_decimal(STDOUT_FILENO, n);
+pub fn number(terminal: &Terminal, n: u64) {
+    let mut digits = [0u8; 20];
+    let k = io::decimal(n, &mut digits);
+    text(terminal, &digits[..k]);
 }
 
 // The size of a number, without its sign.
@@ -77,9 +85,34 @@ fn size(n: i64) -> u64
     if n < 0 { (!n) as u64 + 1 } else { n as u64 }
 }
 
-pub fn money(x: SignedFen) {
+pub fn money(terminal: &Terminal, x: SignedFen) {
     if x.0 < 0 {
-        text(b"-");
+        text(terminal, b"-");
     }
-    number(size(x.0));
+    number(terminal, size(x.0));
+}
+
+// Argument i, at the start of the buffer: how long it is; none where it is missing or longer than the buffer. The program's own name is argument 0. An argument may be any bytes.
+pub fn argument(terminal: &Terminal, i: usize, buf: &mut [u8]) -> Option<usize>
+    ensures { IfSome result (λ n. n ≤ length buf.new) }
+{
+    terminal.rt.arg(i, buf).ok()
+}
+
+// The same as a text of no bytes where there is none.
+pub fn word(terminal: &Terminal, i: usize, buf: &mut [u8]) -> usize
+    ensures { result ≤ length buf.new }
+{
+    argument(terminal, i, buf).unwrap_or(0)
+}
+
+// How many arguments there are, the program's own name among them.
+pub fn arguments(terminal: &Terminal) -> usize {
+    let mut none = [0u8; 0];
+    for i in 0..usize::MAX {
+        if let Err(FillError::NotPresent) = terminal.rt.arg(i, &mut none) {
+            return i;
+        }
+    }
+    usize::MAX
 }
