@@ -1,4 +1,6 @@
 // Minutes of the month as a date, lengths in hours and minutes: read from an argument, and put into a lent buffer.
+#![tactic(auto)]
+
 ghost use Rattle.std.specs.Prelude.{◌≡◌, ◌+◌, ◌%◌, ◌≤◌, length};
 ghost use Rattle.render.specs.Decimal.{digit};
 ghost use Rattle.render.specs.Inner.{Puts};
@@ -9,7 +11,7 @@ use render::{put_decimal, put_word};
 use row::{CEILING, grown, hold, is_digit};
 
 // What a text says: so many minutes, as many as 16 bits hold; or it says none.
-#[derive(Drop)]
+#[derive(Clone, Copy)]
 pub enum Minutes {
     Number(u16),
     Nothing,
