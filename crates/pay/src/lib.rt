@@ -1,4 +1,6 @@
 // What a member's calls pay, in grains, service by service, and which service is open to which kind.
+#![tactic(auto)]
+
 ghost use Rattle.std.specs.Prelude.{◌≡◌};
 ghost use Rattle.pay.specs.Member.{member_is_sound, is_by_rate, has_availability};
 
@@ -19,7 +21,7 @@ mod window;
 pub const MOST_RATED: u32 = 4_000_000;
 
 // A register line: participant, kind and rating.
-#[derive(Drop)]
+#[derive(Clone, Copy)]
 pub struct Member {
     pub number: u16,
     pub kind: u8,

@@ -12,7 +12,7 @@ use call::service::{
 use units::Kw;
 
 // The month of the book that is scored.
-#[derive(Drop)]
+#[derive(Clone, Copy)]
 pub struct Month {
     pub year: u16,
     pub month: u8,
@@ -24,6 +24,7 @@ fn is_zero(a: i32) -> bool
     a == 0
 }
 
+#[tactic(auto, using(crate::proofs::Signed::back32), unfolding(crate::specs::Open::reserve_open))]
 fn reserve_open(kind: u8, rated: Kw, a: i32) -> bool
     ensures { result ≡ reserve_open kind rated.0 a }
 {
@@ -69,6 +70,7 @@ fn black_start_open(month: Month) -> bool
 }
 
 // The service and its fields are open to the member's kind, in the book's month.
+#[tactic(auto, using(crate::proofs::Signed::back32), unfolding(crate::specs::Open::open_to))]
 pub fn open_to(month: Month, member: Member, x: Call) -> bool
     ensures { result ≡ open_to month member x }
 {

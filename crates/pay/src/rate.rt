@@ -17,7 +17,7 @@ use call::service::{
 use units::Grains;
 
 // Grains for each kW.
-#[derive(Drop)]
+#[derive(Clone, Copy)]
 pub struct PerKw(pub u64);
 
 // The most that black start pays, whatever the rating.
@@ -33,6 +33,7 @@ fn percents_above(level: u32, rate: u32) -> u32
     (rate - level) / 100
 }
 
+#[tactic(auto, unfolding(crate::specs::Rate::start_stop_rate))]
 fn start_stop_rate(kind: u8, minutes: u16) -> PerKw
     ensures { result.0 ≡ start_stop_rate kind minutes }
 {
@@ -50,6 +51,7 @@ fn start_stop_rate(kind: u8, minutes: u16) -> PerKw
     }
 }
 
+#[tactic(auto, unfolding(crate::specs::Rate::standby_rate))]
 fn standby_rate(kind: u8, minutes: u16) -> PerKw
     ensures { result.0 ≡ standby_rate kind minutes }
 {
@@ -66,6 +68,7 @@ fn standby_rate(kind: u8, minutes: u16) -> PerKw
     }
 }
 
+#[tactic(auto, unfolding(crate::specs::Rate::black_start_rate))]
 fn black_start_rate(kind: u8) -> PerKw
     ensures { result.0 ≡ black_start_rate kind }
 {
@@ -91,6 +94,7 @@ fn availability_rate(kind: u8, b: u32) -> PerKw
     PerKw(0)
 }
 
+#[tactic(auto, unfolding(crate::specs::Rate::contribution_rate))]
 fn contribution_rate(kind: u8, b: u32) -> PerKw
     ensures { result.0 ≡ contribution_rate kind b }
 {
@@ -111,6 +115,7 @@ fn contribution_rate(kind: u8, b: u32) -> PerKw
     }
 }
 
+#[tactic(auto, unfolding(crate::specs::Rate::event_band))]
 fn event_band(b: u32, c: u32) -> PerKw
     ensures { result.0 ≡ event_band b c }
 {
@@ -142,6 +147,7 @@ fn avc_rate(minutes: u16, b: u32, c: u32) -> PerKw
     PerKw(0)
 }
 
+#[tactic(auto, unfolding(crate::specs::Rate::rate_of))]
 pub fn rate_of(kind: u8, x: Call) -> PerKw
     ensures { result.0 ≡ rate_of kind x }
 {

@@ -12,11 +12,11 @@ use call::service::{DEEP_PEAK, RESERVE};
 use units::{Grains, Kw, TenthKwMin};
 
 // Grains for each tenth of a kW·min.
-#[derive(Drop)]
+#[derive(Clone, Copy)]
 pub struct PerTenth(pub u64);
 
 // A level of output, in tenths of a kW.
-#[derive(Drop)]
+#[derive(Clone, Copy)]
 pub struct Level(pub u32);
 
 // What a minute at output p lacks up to a level; `full` is the lowest output that lacks nothing. For speed in 32 bits, so that the
