@@ -1,7 +1,7 @@
 // Lines with limits that the caller lends, filled in by the array form.
 ghost use Rattle.ceiling.specs.Forms.{LentLimited};
 
-use crate::array::{answer_in_ceiled, blank_limiteds, kept_limited, put_limited, take_limited};
+use crate::array::{answer_in_ceiled, blank_limiteds, kept_limited, take_limited};
 use crate::{Ceiled, LimitedLine, ceiled_array};
 use share::Answer;
 use share::array::seen;
@@ -15,7 +15,7 @@ pub fn share_limited(part: u32, lines: &mut [LimitedLine]) -> Answer
     let mut a = blank_limiteds();
     let mut i = 0;
     while i < m {
-        a = put_limited(a, i, lines[i]);
+        a[i] = lines[i];
         i += 1;
     }
     let s = ceiled_array(part, a, n);

@@ -1,5 +1,7 @@
 // The ceiling on a bad month: sharing of lines with limits. What a member pays beyond its limit is not collected; the members with positive
 // amounts give it up.
+#![tactic(auto)]
+
 pub mod array;
 pub mod lent;
 pub mod second;
@@ -19,14 +21,14 @@ use units::{Fen, SignedFen};
 pub const MOST_LIMIT: u64 = 100_000_000_000;
 
 // What a member pays at most: `none` is the mark for no limit, and the number beside it is not looked at then.
-#[derive(Drop)]
+#[derive(Clone, Copy)]
 pub struct Limit {
     pub none: bool,
     pub fen: Fen,
 }
 
 // A line of the sharing with its limit; share, amount, what is not collected of it and what it gives up are filled in.
-#[derive(Drop)]
+#[derive(Clone, Copy)]
 pub struct LimitedLine {
     pub line: Line,
     pub limit: Limit,
@@ -35,7 +37,7 @@ pub struct LimitedLine {
 }
 
 // A refusal's number and place, or zeros; R; the user's amount; and the lines, filled in where there is no refusal.
-#[derive(Drop)]
+#[derive(Clone, Copy)]
 pub struct Ceiled {
     pub number: u32,
     pub place: usize,
