@@ -1,4 +1,6 @@
 // Joining two books: straight from two books of bytes into a third.
+#![tactic(auto)]
+
 ghost use Rattle.std.specs.Prelude.{◌≡◌, List, ℕ, ◌+◌, ◌-◌, ◌<◌, ◌≤◌, length};
 ghost use Rattle.le.specs.Le.{Stores};
 ghost use Rattle.call.specs.Layout.{record_size, call_at, call_bytes};
@@ -21,7 +23,7 @@ use pair::{precedes, screen};
 use rule::{Decision, decide_at};
 
 // A refusal's number and place, or zeros, the length of the joined book, and the turns that the join took.
-#[derive(Drop)]
+#[derive(Clone, Copy)]
 pub struct Joined {
     pub number: u32,
     pub place: usize,
@@ -30,7 +32,7 @@ pub struct Joined {
 }
 
 // The places of the next records in both books.
-#[derive(Drop)]
+#[derive(Clone, Copy)]
 pub struct Next {
     pub first: usize,
     pub second: usize,
@@ -87,7 +89,7 @@ fn keys_of_both(first: &[u8], second: &[u8]) -> usize
 }
 
 // The 32 bytes of a record, eight at a time, since a join copies every record.
-#[derive(Drop)]
+#[derive(Clone, Copy)]
 pub struct Words {
     pub who: u64,
     pub time: u64,
@@ -156,7 +158,7 @@ fn put_given(
 }
 
 // How far a join has come: the places of the next records of both books, and how many turns it has taken.
-#[derive(Drop)]
+#[derive(Clone, Copy)]
 pub struct Reached {
     pub first: usize,
     pub second: usize,
