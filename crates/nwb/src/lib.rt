@@ -1,5 +1,7 @@
 // The plants' C library: the functions of include/nwb.h, each thin over the proved operation that it is named after.
 // The number is returned; every other answer goes through a cell, which is always written.
+#![tactic(auto)]
+
 ghost use Rattle.std.specs.Prelude.{◌≡◌, [], ◌∷◌};
 ghost use Rattle.book.specs.Check.{check};
 ghost use Rattle.book.specs.Write.{writing};
