@@ -1,4 +1,6 @@
 // Which field of a record is bad, where a book or a call is refused by 5: the first whose condition fails, the fields before it taken as given.
+#![tactic(auto)]
+
 ghost use Rattle.std.specs.Prelude.{◌≡◌};
 ghost use Rattle.call.specs.Limits.{row, limits_of};
 ghost use Rattle.field.specs.Field.{service_fits, start_fits, length_fits, a_fits, bad_field};
@@ -16,7 +18,7 @@ use call::{Call, LIVE, MOST_PARTICIPANT, RECORD_SIZE, WITHDRAWN};
 use units::calendar::{MINUTES_PER_QUARTER, minutes_of};
 
 // The fields in the order in which they are asked: the record's, but the state before the service, which depends on it.
-#[derive(Drop)]
+#[derive(Clone, Copy)]
 pub enum Field {
     NoField,
     Participant,
@@ -32,7 +34,7 @@ pub enum Field {
 }
 
 // A record as it stands, and its bad field.
-#[derive(Drop)]
+#[derive(Clone, Copy)]
 pub struct BadRecord {
     pub call: Call,
     pub field: Field,
