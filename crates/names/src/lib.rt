@@ -1,4 +1,6 @@
 // Services, kinds of plant and months by their words: put into a lent buffer, and read from an argument.
+#![tactic(auto)]
+
 ghost use Rattle.std.specs.Prelude.{◌≡◌, ◌+◌, ◌≤◌, length, drop};
 ghost use Rattle.render.specs.Inner.{Puts};
 ghost use Rattle.names.specs.Names.{skip, word_at, services, kinds, months, same, place_from, service_of, kind_of, service_word, kind_word, month_word, most_word};
@@ -8,7 +10,7 @@ use clock::before;
 use render::put_word;
 
 // What a word says: the number of a service or a kind; or it says none.
-#[derive(Drop)]
+#[derive(Clone, Copy)]
 pub enum Named {
     Number(u8),
     Nothing,
