@@ -12,6 +12,7 @@ use std::rt::HostRuntime;
 use units::SignedFen;
 
 // What a program speaks to: its arguments, standard output, and the system, which has the files. One is made in `main`, and lent to all that reads, writes or prints.
+#[derive(Drop)]
 pub struct Terminal {
     rt: HostRuntime,
     shut: Cell<bool>,
