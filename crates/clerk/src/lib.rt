@@ -1,4 +1,6 @@
 // What every command of the desk needs: how it is called, its arguments, the files that they name, and what it prints.
+#![tactic(auto)]
+
 pub mod args;
 pub mod load;
 pub mod print;

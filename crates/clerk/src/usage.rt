@@ -3,8 +3,9 @@ ghost use Rattle.std.specs.Prelude.{◌≤◌, length};
 
 use crate::args::{first, is_word, is_word_at};
 use crate::print;
+use say::Terminal;
 
-#[derive(Drop)]
+#[derive(Clone, Copy)]
 pub enum Command {
     Check,
     Show,
@@ -38,7 +39,7 @@ const LISTED: usize = 18;
 const ROOM: usize = 80;
 
 // A usage, or a word of one, in an array's first bytes.
-#[derive(Drop)]
+#[derive(Clone, Copy)]
 pub struct Words {
     pub bytes: [u8; ROOM],
     pub size: usize,
@@ -49,7 +50,7 @@ fn line(text: &[u8]) -> Words {
     if ROOM < text.len() {
         return Words { bytes, size: 0 };
     }
-    let size = bytes::copy(text, &mut bytes);
+    let size = node::copy(text, &mut bytes);
     Words { bytes, size }
 }
 
@@ -111,7 +112,7 @@ fn command_at(k: usize) -> Command {
 fn word_from(usage: &[u8], at: usize) -> &[u8]
     requires { at ≤ length usage.now }
 {
-    let end = bytes::scan::find(usage, at, usage.len(), b' ');
+    let end = node::find(usage, at, usage.len(), b' ');
     &usage[at..end]
 }
 
@@ -120,7 +121,7 @@ fn next_word(usage: &[u8], at: usize) -> usize
     requires { at ≤ length usage.now }
     ensures { result ≤ length usage.now }
 {
-    let end = bytes::scan::find(usage, at, usage.len(), b' ');
+    let end = node::find(usage, at, usage.len(), b' ');
     if end < usage.len() {
         return end + 1;
     }
@@ -140,8 +141,8 @@ fn word_at(usage: &[u8], k: usize) -> &[u8] {
 
 // A name up to its closing bracket or its dots.
 fn cut(name: &[u8]) -> &[u8] {
-    let close = bytes::scan::find(name, 0, name.len(), b']');
-    let end = bytes::scan::find(name, 0, close, b'.');
+    let close = node::find(name, 0, name.len(), b']');
+    let end = node::find(name, 0, close, b'.');
     first(name, end)
 }
 
@@ -201,23 +202,23 @@ pub fn command_of(word: &[u8]) -> Command {
 }
 
 // A command's usage, on a line.
-pub fn tell_usage(command: Command) {
+pub fn tell_usage(terminal: &Terminal, command: Command) {
     let usage = usage_of(command);
     let bytes = usage.bytes;
-    print::usage(first(&bytes, usage.size));
+    print::usage(terminal, first(&bytes, usage.size));
 }
 
 // Those of all that are listed.
-pub fn tell_usages() {
+pub fn tell_usages(terminal: &Terminal) {
     let mut k: usize = 0;
     while k < LISTED {
-        tell_usage(command_at(k));
+        tell_usage(terminal, command_at(k));
         k += 1;
     }
 }
 
 // How many words go behind a command's own: from so many to so many, or more.
-#[derive(Drop)]
+#[derive(Clone, Copy)]
 struct Span {
     least: usize,
     most: usize,
@@ -233,19 +234,19 @@ fn span_of(usage: &[u8]) -> Span {
 }
 
 // Whether a usage has as many words as are given; where not, it is printed, and one line has said how many it has.
-fn takes_given(usage: &[u8], given: usize) -> bool {
+fn takes_given(terminal: &Terminal, usage: &[u8], given: usize) -> bool {
     let t = span_of(usage);
     if (t.least <= given) & (t.more | (given <= t.most)) {
         return true;
     }
-    print::usage(usage);
-    print::takes(word_at(usage, 0), t.more, t.least, t.most, given);
+    print::usage(terminal, usage);
+    print::takes(terminal, word_at(usage, 0), t.more, t.least, t.most, given);
     false
 }
 
 // The same of the running command.
-pub fn is_called(command: Command) -> bool {
-    let count = os::arg_count();
+pub fn is_called(terminal: &Terminal, command: Command) -> bool {
+    let count = say::arguments(terminal);
     if let Command::Unknown = command {
         return true;
     }
@@ -254,13 +255,13 @@ pub fn is_called(command: Command) -> bool {
     }
     let usage = usage_of(command);
     let bytes = usage.bytes;
-    takes_given(first(&bytes, usage.size), count - 2)
+    takes_given(terminal, first(&bytes, usage.size), count - 2)
 }
 
 // Which word of a command's usage argument i is: `-f` of a join is one only where it is given.
-fn place_of(command: Command, i: usize) -> usize {
+fn place_of(terminal: &Terminal, command: Command, i: usize) -> usize {
     if let Command::Join = command {
-        if !is_word_at(2, b"-f") {
+        if !is_word_at(terminal, 2, b"-f") {
             return i;
         }
     }
@@ -271,11 +272,11 @@ fn place_of(command: Command, i: usize) -> usize {
 }
 
 // The name that argument i has in the usage of the running command.
-pub fn name_of(i: usize) -> Words {
+pub fn name_of(terminal: &Terminal, i: usize) -> Words {
     let mut word = io::buffer();
-    let n = os::arg(1, &mut word);
+    let n = say::word(terminal, 1, &mut word);
     let command = command_of(&word[..n]);
     let usage = usage_of(command);
     let bytes = usage.bytes;
-    line(bare(word_at(first(&bytes, usage.size), place_of(command, i))))
+    line(bare(word_at(first(&bytes, usage.size), place_of(terminal, command, i))))
 }

@@ -10,6 +10,7 @@ use month_files::series::{entry_at, line_of};
 use notice::{Counted, no_line_for_text};
 use pay::Member;
 use register::{Entry, MOST_ENTRIES};
+use say::Terminal;
 use share::array::seen;
 use tables::roll::Register;
 use tray::books::{lost_at, more};
@@ -19,7 +20,7 @@ use tray::why::tell_key;
 
 // Of each record of the joined book the number that scoring would refuse it with, or 0, and the record that it stands against; and the record at which a
 // walk goes on.
-#[derive(Drop)]
+#[derive(Clone, Copy)]
 pub struct Refusals {
     pub numbers: [u32; MOST_RECORDS],
     pub against: [usize; MOST_RECORDS],
@@ -27,7 +28,7 @@ pub struct Refusals {
 }
 
 // What is to be told of one call.
-#[derive(Drop)]
+#[derive(Clone, Copy)]
 pub struct Findings {
     pub stale: bool,
     pub contested: bool,
@@ -178,30 +179,40 @@ fn findings_of(
 }
 
 // The call itself, what stands first: where a book has another record, all of them and why; else a book that has it; or nothing, where nothing is to be told.
-fn tell_head(from: usize, left: &mut [u8], joined: &[u8], x: Call, f: Findings) {
+fn tell_head(
+    terminal: &Terminal,
+    from: usize,
+    left: &mut [u8],
+    joined: &[u8],
+    x: Call,
+    f: Findings,
+) {
     if f.stale {
-        tell_key(from, left, joined, x);
+        tell_key(terminal, from, left, joined, x);
         return;
     }
     if f.contested | f.without | (f.number != 0) {
-        tell_call(b"stands", x);
-        tell_standing(from, left, joined, x);
+        tell_call(terminal, b"stands", x);
+        tell_standing(terminal, from, left, joined, x);
     }
 }
 
-fn list_contested(before: Counted) -> Counted {
-    say::text(b"scoring refuses it with 14: a higher revision or a withdrawal ends the contest\n");
+fn list_contested(terminal: &Terminal, before: Counted) -> Counted {
+    say::text(
+        terminal,
+        b"scoring refuses it with 14: a higher revision or a withdrawal ends the contest\n",
+    );
     let mut c = before;
     c.contested = more(c.contested);
     c
 }
 
-fn list_without(x: Call, before: Counted) -> Counted {
+fn list_without(terminal: &Terminal, x: Call, before: Counted) -> Counted {
     let mut name = io::buffer();
-    let k = os::arg(register_at(), &mut name);
+    let k = say::word(terminal, register_at(terminal), &mut name);
     let mut out = io::buffer();
     let n = no_line_for_text(x.participant, &mut out);
-    print::note(&name[..k], &out[..n]);
+    print::note(terminal, &name[..k], &out[..n]);
     let mut c = before;
     c.unlisted = more(c.unlisted);
     c
@@ -215,17 +226,24 @@ fn member_of(register: Register, x: Call) -> Member {
     e.member
 }
 
-fn list_closed(register: Register, joined: &[u8], x: Call, before: Counted) -> Counted {
+fn list_closed(
+    terminal: &Terminal,
+    register: Register,
+    joined: &[u8],
+    x: Call,
+    before: Counted,
+) -> Counted {
     let m = member_of(register, x);
     let o = header_of(joined);
-    print::not_open(x, m.kind, m.rated, o.header);
-    say::text(b"scoring refuses it with 12\n");
+    print::not_open(terminal, x, m.kind, m.rated, o.header);
+    say::text(terminal, b"scoring refuses it with 12\n");
     let mut c = before;
     c.closed = more(c.closed);
     c
 }
 
 fn list_against(
+    terminal: &Terminal,
     from: usize,
     left: &mut [u8],
     joined: &[u8],
@@ -234,9 +252,12 @@ fn list_against(
     before: Counted,
 ) -> Counted {
     let y = call_in(joined, at);
-    print::clash(x, y);
-    say::text(b"scoring refuses it with 13, against this call:\n");
-    tell_standing(from, left, joined, y);
+    print::clash(terminal, x, y);
+    say::text(
+        terminal,
+        b"scoring refuses it with 13, against this call:\n",
+    );
+    tell_standing(terminal, from, left, joined, y);
     let mut c = before;
     c.against = more(c.against);
     c
@@ -244,6 +265,7 @@ fn list_against(
 
 // What scoring would refuse a live call with.
 fn list_number(
+    terminal: &Terminal,
     from: usize,
     left: &mut [u8],
     register: Register,
@@ -253,16 +275,17 @@ fn list_number(
     before: Counted,
 ) -> Counted {
     if f.number == 12 {
-        return list_closed(register, joined, x, before);
+        return list_closed(terminal, register, joined, x, before);
     }
     if f.number == 13 {
-        return list_against(from, left, joined, f.against, x, before);
+        return list_against(terminal, from, left, joined, f.against, x, before);
     }
     before
 }
 
 // What is told of x, and counted. A call without a line is not scored, and so counts once where it is contested too.
 fn list_found(
+    terminal: &Terminal,
     from: usize,
     left: &mut [u8],
     register: Register,
@@ -276,16 +299,17 @@ fn list_found(
         c.stale = more(c.stale);
     }
     if f.without {
-        return list_without(x, c);
+        return list_without(terminal, x, c);
     }
     if f.contested {
-        return list_contested(c);
+        return list_contested(terminal, c);
     }
-    list_number(from, left, register, joined, x, f, c)
+    list_number(terminal, from, left, register, joined, x, f, c)
 }
 
 // Record j of the joined book; nothing more once a book is lost.
 fn list_call(
+    terminal: &Terminal,
     from: usize,
     left: &mut [u8],
     joined: &[u8],
@@ -295,17 +319,18 @@ fn list_call(
     j: usize,
     before: Counted,
 ) -> Counted {
-    if lost_at(from, left) != 0 {
+    if lost_at(terminal, from, left) != 0 {
         return before;
     }
     let x = call_in(joined, j);
     let f = findings_of(register, marks, refusals, j, x);
-    tell_head(from, left, joined, x, f);
-    list_found(from, left, register, joined, x, f, before)
+    tell_head(terminal, from, left, joined, x, f);
+    list_found(terminal, from, left, register, joined, x, f, before)
 }
 
 // The first so many.
 fn list_each(
+    terminal: &Terminal,
     from: usize,
     left: &mut [u8],
     joined: &[u8],
@@ -318,7 +343,9 @@ fn list_each(
     let mut c = before;
     let mut i: usize = 0;
     while i < count {
-        c = list_call(from, left, joined, register, marks, refusals, i, c);
+        c = list_call(
+            terminal, from, left, joined, register, marks, refusals, i, c,
+        );
         i += 1;
     }
     c
@@ -326,17 +353,18 @@ fn list_each(
 
 // Every call of the joined book, in the order of the keys.
 pub fn list_calls(
+    terminal: &Terminal,
     from: usize,
     left: &mut [u8],
     joined: &[u8],
     register: Register,
     before: Counted,
 ) -> Counted {
-    let marks = marks_of(from, left, joined);
+    let marks = marks_of(terminal, from, left, joined);
     let entries = register.entries;
     let refusals = refusals_of(entries, seen(register.count), joined);
     let o = header_of(joined);
     list_each(
-        from, left, joined, register, marks, refusals, o.calls, before,
+        terminal, from, left, joined, register, marks, refusals, o.calls, before,
     )
 }

@@ -1,4 +1,6 @@
 // The closing-day list: everything that is in the drawer and in the way of the month, told at once. Nothing is changed.
+#![tactic(auto)]
+
 ghost use Rattle.std.specs.Prelude.{◌≡◌, ◌≤◌};
 ghost use Rattle.closing.specs.Closing.{is_settled};
 
@@ -16,6 +18,7 @@ use month_files::series::{Lengths, folder_is_named, read_all, room};
 use month_files::told::{tell_nobody, tell_sums};
 use notice::{Counted, counted_text, unsettled_text};
 use register::{Entry, MOST_ENTRIES};
+use say::Terminal;
 use share::array::seen;
 use share::limits::{MOST_PART, PART_PLACE};
 use tables::roll::{Register, read_register};
@@ -86,20 +89,20 @@ fn in_the_way(c: Counted) -> usize {
 }
 
 // The part. Where it is none, that is told, and it is one more than the most.
-fn list_part() -> u32 {
-    if let Told::Number(n) = number_at(PART) {
+fn list_part(terminal: &Terminal) -> u32 {
+    if let Told::Number(n) = number_at(terminal, PART) {
         if n <= MOST_PART as u64 {
             return n as u32;
         }
     }
-    print::note(b"part", b"is no number from 0 to 10000");
-    note_refused(b"part", 10, PART_PLACE);
+    print::note(terminal, b"part", b"is no number from 0 to 10000");
+    note_refused(terminal, b"part", 10, PART_PLACE);
     MOST_PART + 1
 }
 
 // The register, and how many of its lines are bad: where there are any, or it could not be read, its number is not 0, and remarks have said why; its entries
 // are then its sound lines.
-#[derive(Drop)]
+#[derive(Clone, Copy)]
 pub struct Roll {
     pub register: Register,
     pub bad: usize,
@@ -132,13 +135,13 @@ fn count_faults(text: &[u8]) -> usize {
 }
 
 // What a register's text says; where it is refused, every fault of it is told, and its sound lines are its entries.
-fn list_lines(name: &[u8], text: &[u8]) -> Roll {
+fn list_lines(terminal: &Terminal, name: &[u8], text: &[u8]) -> Roll {
     let register = read_register(text);
     if register.number == 0 {
         return Roll { register, bad: 0 };
     }
-    tell_register(name, text);
-    note_refused(name, register.number, register.place);
+    tell_register(terminal, name, text);
+    note_refused(terminal, name, register.number, register.place);
     let mut sound = sound_register(text);
     sound.number = register.number;
     let bad = count_faults(text);
@@ -155,53 +158,57 @@ fn list_lines(name: &[u8], text: &[u8]) -> Roll {
 }
 
 // The register's file.
-fn list_register() -> Roll {
+fn list_register(terminal: &Terminal) -> Roll {
     let mut name = io::buffer();
-    let Held::Bytes(n) = argument(register_at(), &mut name) else {
-        note_at(register_at(), b"too long for a file's name");
+    let Held::Bytes(n) = argument(terminal, register_at(terminal), &mut name) else {
+        note_at(
+            terminal,
+            register_at(terminal),
+            b"too long for a file's name",
+        );
         return no_register();
     };
     let mut text = io::large_buffer();
-    let Held::Bytes(size) = load_or(first(&name, n), true, &mut text) else {
+    let Held::Bytes(size) = load_or(terminal, first(&name, n), true, &mut text) else {
         return no_register();
     };
-    list_lines(first(&name, n), first(&text, size))
+    list_lines(terminal, first(&name, n), first(&text, size))
 }
 
 // Whose month it is, and how many calls the joined book has.
-fn tell_header(joined: &[u8]) {
+fn tell_header(terminal: &Terminal, joined: &[u8]) {
     let o = header_of(joined);
     if o.number != 0 {
         return;
     }
     let mut page = io::buffer();
-    let n = print::put_header(&mut page, 0, o.header, o.calls);
-    say::write_page(&page, n);
+    let n = print::put_header(terminal, &mut page, 0, o.header, o.calls);
+    say::write_page(terminal, &page, n);
 }
 
 // What the run comes to: how many of each, and the last line.
-fn tell_end(c: Counted, settled: bool) {
+fn tell_end(terminal: &Terminal, c: Counted, settled: bool) {
     let mut line = io::buffer();
     let n = counted_text(c, &mut line);
-    say::text(&line[..n]);
+    say::text(terminal, &line[..n]);
     if settled {
-        print::done();
+        print::done(terminal);
         return;
     }
     let mut last = io::buffer();
     let m = unsettled_text(in_the_way(c), &mut last);
-    say::text(&last[..m]);
+    say::text(terminal, &last[..m]);
 }
 
 // What sharing refuses besides a compensation above a line's limit, which is told of each member: where nothing else is in the way, for its sums are of all members.
-fn list_sharing(before: Counted, fault: Fault) -> usize {
+fn list_sharing(terminal: &Terminal, before: Counted, fault: Fault) -> usize {
     if in_the_way(before) != 0 {
         return 0;
     }
     match fault {
         Fault::InSharing(number, place) => {
-            tell_sums(number);
-            note_refused_at(register_at(), number, place);
+            tell_sums(terminal, number);
+            note_refused_at(terminal, register_at(terminal), number, place);
             1
         }
         _ => 0,
@@ -209,14 +216,15 @@ fn list_sharing(before: Counted, fault: Fault) -> usize {
 }
 
 // That a sound register has no member, so that the month would be settled of nobody.
-fn list_nobody(register: Register) {
+fn list_nobody(terminal: &Terminal, register: Register) {
     if register.number == 0 {
-        tell_nobody(register.count);
+        tell_nobody(terminal, register.count);
     }
 }
 
 // The month is settled as `month` settles it, and what sharing refuses is told. Whether it is settled, and everything was read, decides the last line.
 fn list_month(
+    terminal: &Terminal,
     part: u32,
     register: Register,
     joined: &[u8],
@@ -227,25 +235,26 @@ fn list_month(
 ) {
     let mut c = before;
     let entries = register.entries;
-    c.sharing = list_above(register, joined, series, lengths, ramps);
+    c.sharing = list_above(terminal, register, joined, series, lengths, ramps);
     let each = lengths.each;
     let ramped = ramps.each;
     let s = month::settle(part, entries, register.count, joined, series, each, ramped);
     let fault = s.fault;
-    c.sharing = sum(c.sharing, list_sharing(c, fault));
-    list_nobody(register);
+    c.sharing = sum(c.sharing, list_sharing(terminal, c, fault));
+    list_nobody(terminal, register);
     let read = (c.register == 0) & (c.books == 0) & (lengths.bad == 0) & (ramps.bad == 0);
-    tell_end(c, is_settled(fault) & read);
+    tell_end(terminal, c, is_settled(fault) & read);
 }
 
 // Of how many members the files are read: of none, where their folder has no name, and that is told.
-fn files_of(count: usize) -> usize
+fn files_of(terminal: &Terminal, count: usize) -> usize
     ensures { result ≤ count }
 {
-    if (count == 0) | folder_is_named() {
+    if (count == 0) | folder_is_named(terminal) {
         return count;
     }
     print::note(
+        terminal,
         b"SERIES-FOLDER",
         b"no name, or too long for a folder's name",
     );
@@ -253,45 +262,58 @@ fn files_of(count: usize) -> usize
 }
 
 // The members' ramping files, in a month of so many hours; none, where no book says whose month it is.
-fn ramps_of(entries: [Entry; MOST_ENTRIES], count: usize, hours: u16) -> Ramps
+fn ramps_of(terminal: &Terminal, entries: [Entry; MOST_ENTRIES], count: usize, hours: u16) -> Ramps
     requires { count ≤ 64 }
 {
     if hours == 0 {
-        return read_ramps(entries, 0, 0, true);
+        return read_ramps(terminal, entries, 0, 0, true);
     }
-    read_ramps(entries, count, hours, true)
+    read_ramps(terminal, entries, count, hours, true)
 }
 
 // The members' files, then the joined book's calls, then books that add nothing.
-fn list_joined(part: u32, register: Register, joined: &[u8], left: &mut [u8], before: Counted) {
+fn list_joined(
+    terminal: &Terminal,
+    part: u32,
+    register: Register,
+    joined: &[u8],
+    left: &mut [u8],
+    before: Counted,
+) {
     let mut c = before;
     let entries = register.entries;
     let count = seen(register.count);
-    let files = files_of(count);
+    let files = files_of(terminal, count);
     if files < count {
         c.series = 1;
     }
     let mut series = room();
-    let lengths = read_all(entries, files, true, &mut series);
-    let bad = list_series(entries, files, joined, &series, lengths);
+    let lengths = read_all(terminal, entries, files, true, &mut series);
+    let bad = list_series(terminal, entries, files, joined, &series, lengths);
     c.series = sum(c.series, sum(lengths.bad, bad));
     let hours = month_hours(joined);
-    let ramps = ramps_of(entries, files, hours);
-    c.ramping = sum(ramps.bad, list_ramping(entries, files, ramps, hours));
-    let d = list_calls(books_at(), left, joined, register, c);
-    list_rest(part, register, joined, &series, lengths, ramps, left, d);
+    let ramps = ramps_of(terminal, entries, files, hours);
+    c.ramping = sum(
+        ramps.bad,
+        list_ramping(terminal, entries, files, ramps, hours),
+    );
+    let d = list_calls(terminal, books_at(terminal), left, joined, register, c);
+    list_rest(
+        terminal, part, register, joined, &series, lengths, ramps, left, d,
+    );
 }
 
 // Whether the books could be read again and are still what they were; else that is told in the last line.
-fn is_current(left: &mut [u8], joined: &[u8]) -> bool {
-    let same = is_unchanged(books_at(), left, joined);
-    let lost = lost_at(books_at(), left);
+fn is_current(terminal: &Terminal, left: &mut [u8], joined: &[u8]) -> bool {
+    let same = is_unchanged(terminal, books_at(terminal), left, joined);
+    let lost = lost_at(terminal, books_at(terminal), left);
     if lost != 0 {
-        tell_failed(lost, b"cannot be read again: make the list again");
+        tell_failed(terminal, lost, b"cannot be read again: make the list again");
         return false;
     }
     if !same {
         print::failed(
+            terminal,
             b"",
             b"a book has changed while the list was made: make it again",
         );
@@ -301,6 +323,7 @@ fn is_current(left: &mut [u8], joined: &[u8]) -> bool {
 
 // Books that add nothing; then the month, unless a book has changed since it was joined, or could not be read again.
 fn list_rest(
+    terminal: &Terminal,
     part: u32,
     register: Register,
     joined: &[u8],
@@ -311,27 +334,27 @@ fn list_rest(
     before: Counted,
 ) {
     let mut c = before;
-    c.spare = tell_spare(books_at(), left);
-    if is_current(left, joined) {
-        list_month(part, register, joined, series, lengths, ramps, c);
+    c.spare = tell_spare(terminal, books_at(terminal), left);
+    if is_current(terminal, left, joined) {
+        list_month(terminal, part, register, joined, series, lengths, ramps, c);
     }
 }
 
 // The part, the register and the books first.
-pub fn list_drawer() {
+pub fn list_drawer(terminal: &Terminal) {
     let mut c = none_listed();
-    let part = list_part();
+    let part = list_part(terminal);
     if MOST_PART < part {
         c.part = 1;
     }
-    let roll = list_register();
+    let roll = list_register(terminal);
     let register = roll.register;
     c.register = roll.bad;
     let mut all = io::large_buffer();
     let mut left = io::large_buffer();
-    let taken = join_named(books_at(), &mut all, &mut left);
+    let taken = join_named(terminal, books_at(terminal), &mut all, &mut left);
     c.books = taken.bad;
     let joined = first(&all, taken.size);
-    tell_header(joined);
-    list_joined(part, register, joined, &mut left, c);
+    tell_header(terminal, joined);
+    list_joined(terminal, part, register, joined, &mut left, c);
 }

@@ -10,7 +10,7 @@ use tray::books::more;
 
 // The next fault of a text: its line, counted from 1, or 0 where there is none; whether the line is bad by itself, or only against the number before it; and the
 // walk behind it.
-#[derive(Drop)]
+#[derive(Clone, Copy)]
 pub struct Bad {
     pub line: usize,
     pub alone: bool,
@@ -18,7 +18,7 @@ pub struct Bad {
 }
 
 // How far the lines of a text have numbers: the next byte, which line begins there, counted from 0, and the next fault.
-#[derive(Drop)]
+#[derive(Clone, Copy)]
 pub struct Numbered {
     pub at: usize,
     pub line: usize,
@@ -26,14 +26,14 @@ pub struct Numbered {
 }
 
 // By the number that it begins with, the longest run of rising numbers so far; and the longest of all.
-#[derive(Drop)]
+#[derive(Clone, Copy)]
 pub struct Best {
     pub each: [u8; MOST_ENTRIES],
     pub most: u8,
 }
 
 // How far a text was copied: the next byte and its line, how many bytes were kept, how many lines are still to come, and the number of the last one.
-#[derive(Drop)]
+#[derive(Clone, Copy)]
 pub struct Kept {
     pub at: usize,
     pub line: usize,
@@ -75,7 +75,7 @@ fn line_end(text: &[u8], at: usize) -> usize
     ensures { (at < result) × (result ≤ length text.now) }
 {
     let size = text.len();
-    let i = bytes::scan::find(text, at, size, b'\n');
+    let i = node::find(text, at, size, b'\n');
     if i < size { i + 1 } else { size }
 }
 
@@ -225,7 +225,7 @@ fn append(piece: &[u8], out: &mut [u8], n: usize) -> usize
     if out.len() - n < piece.len() {
         return n;
     }
-    bytes::copy(piece, &mut out[n..]);
+    node::copy(piece, &mut out[n..]);
     n + piece.len()
 }
 

@@ -8,6 +8,7 @@ use book::{FIRST_VERSION, Header, Opened, Verdict, call_of, header_of, place_of,
 use call::layout::put_call;
 use call::service::START_STOP;
 use call::{Call, LIVE, RECORD_SIZE};
+use say::Terminal;
 
 fn is(v: Verdict, number: u64, place: u64) -> bool {
     (v.number as u64 == number) & (v.place as u64 == place)
@@ -308,10 +309,10 @@ fn is_right(numbers: Numbers) -> bool {
     }
 }
 
-pub fn with(tally: Tally, line: &[u8]) -> Tally {
+pub fn with(terminal: &Terminal, tally: Tally, line: &[u8]) -> Tally {
     let numbers = Numbers::read(line);
     if numbers.count == 0 {
         return tally.past();
     }
-    tally.with(is_right(numbers))
+    tally.with(terminal, is_right(numbers))
 }

@@ -3,6 +3,7 @@ use crate::numbers::Numbers;
 use crate::tally::Tally;
 use pay::Member;
 use ramp::{Hour, ramping_bytes};
+use say::Terminal;
 use units::Kw;
 
 // The byte of the hour at a place: the actions of the line, six numbers of four bytes each, again and again. Behind its first four numbers a line
@@ -52,11 +53,11 @@ fn is_right(numbers: Numbers, r: Hour) -> bool {
         & (r.grains.0 == numbers.value(answer + 2))
 }
 
-pub fn with(tally: Tally, line: &[u8]) -> Tally {
+pub fn with(terminal: &Terminal, tally: Tally, line: &[u8]) -> Tally {
     let numbers = Numbers::read(line);
     if numbers.count == 0 {
         return tally.past();
     }
     let hour = scored(numbers);
-    tally.with(is_right(numbers, hour))
+    tally.with(terminal, is_right(numbers, hour))
 }

@@ -10,6 +10,7 @@ use book::write::put_header;
 use book::{FIRST_VERSION, size_of};
 use call::layout::put_call;
 use pay::Member;
+use say::Terminal;
 use score::answer::Score;
 use score::score;
 use units::{Grains, Kw};
@@ -39,18 +40,18 @@ fn scored(numbers: Numbers) -> Score {
     score(member_in(numbers), &b[0..end], &series[0..quarters])
 }
 
-fn tell_part(n: u64) {
-    say::text(b" ");
-    say::number(n);
+fn tell_part(terminal: &Terminal, n: u64) {
+    say::text(terminal, b" ");
+    say::number(terminal, n);
 }
 
-fn tell(r: Score) {
-    say::text(b"  came out:");
-    tell_part(r.number as u64);
-    tell_part(r.place as u64);
-    tell_part(r.grains.0);
-    tell_part(r.fen.0);
-    say::text(b"\n");
+fn tell(terminal: &Terminal, r: Score) {
+    say::text(terminal, b"  came out:");
+    tell_part(terminal, r.number as u64);
+    tell_part(terminal, r.place as u64);
+    tell_part(terminal, r.grains.0);
+    tell_part(terminal, r.fen.0);
+    say::text(terminal, b"\n");
 }
 
 // Whether the sum came out as its line says. A line with a number too few or too many counts as wrong.
@@ -63,12 +64,12 @@ fn is_right(numbers: Numbers, r: Score) -> bool {
         & (r.fen.0 == numbers.value(answer + 3))
 }
 
-fn with_score(tally: Tally, numbers: Numbers) -> Tally {
+fn with_score(terminal: &Terminal, tally: Tally, numbers: Numbers) -> Tally {
     let score = scored(numbers);
     let right = is_right(numbers, score);
-    let next = tally.with(right);
+    let next = tally.with(terminal, right);
     if !right {
-        tell(score);
+        tell(terminal, score);
     }
     next
 }
@@ -81,12 +82,12 @@ fn is_fen(numbers: Numbers, i: usize) -> bool
 }
 
 // A line of four numbers is no score: grains and their fen, twice.
-pub fn with(tally: Tally, line: &[u8]) -> Tally {
+pub fn with(terminal: &Terminal, tally: Tally, line: &[u8]) -> Tally {
     let numbers = Numbers::read(line);
     let count = numbers.count;
     match count {
         0 => tally.past(),
-        4 => tally.with(is_fen(numbers, 0) & is_fen(numbers, 2)),
-        _ => with_score(tally, numbers),
+        4 => tally.with(terminal, is_fen(numbers, 0) & is_fen(numbers, 2)),
+        _ => with_score(terminal, tally, numbers),
     }
 }

@@ -2,7 +2,7 @@
 ghost use Rattle.std.specs.Prelude.{◌≡◌, ◌+◌, ◌≤◌, ◌<◌, length};
 
 // A byte, and where the next one is spelled.
-#[derive(Drop)]
+#[derive(Clone, Copy)]
 pub struct Spelled {
     pub byte: u8,
     pub next: usize,

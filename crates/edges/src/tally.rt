@@ -1,4 +1,5 @@
 // What came out of the tables' cases.
+use say::Terminal;
 
 // The tables, by the number in their heading.
 pub const BOOKS: u64 = 1;
@@ -11,7 +12,7 @@ pub const HOURS: u64 = 4;
 
 // Which table is being read, how many of its cases were run, how many came out otherwise than their line says; and which line of the input is
 // next, from 1 on.
-#[derive(Drop)]
+#[derive(Clone, Copy)]
 pub struct Tally {
     pub table: u64,
     run: u64,
@@ -25,23 +26,23 @@ fn more(x: u64) -> u64 {
 }
 
 // A number and the words behind it.
-fn told(n: u64, words: &[u8]) {
-    say::number(n);
-    say::text(words);
+fn told(terminal: &Terminal, n: u64, words: &[u8]) {
+    say::number(terminal, n);
+    say::text(terminal, words);
 }
 
-fn tell_wrong(line: u64) {
-    say::text(b"wrong: line ");
-    told(line, b"\n");
+fn tell_wrong(terminal: &Terminal, line: u64) {
+    say::text(terminal, b"wrong: line ");
+    told(terminal, line, b"\n");
 }
 
-fn tell_table(table: u64) {
+fn tell_table(terminal: &Terminal, table: u64) {
     match table {
-        BOOKS => say::text(b"the book's rules: "),
-        SCORES => say::text(b"scoring sums: "),
-        TEXTS => say::text(b"texts of sharing lines: "),
-        HOURS => say::text(b"hours of ramping: "),
-        _ => say::text(b"no table: "),
+        BOOKS => say::text(terminal, b"the book's rules: "),
+        SCORES => say::text(terminal, b"scoring sums: "),
+        TEXTS => say::text(terminal, b"texts of sharing lines: "),
+        HOURS => say::text(terminal, b"hours of ramping: "),
+        _ => say::text(terminal, b"no table: "),
     }
 }
 
@@ -62,18 +63,18 @@ impl Tally {
     }
 
     // With the case of the next line; one that came out otherwise is told.
-    pub fn with(mut self, right: bool) -> Tally {
+    pub fn with(mut self, terminal: &Terminal, right: bool) -> Tally {
         self.run = more(self.run);
         if !right {
             self.wrong = more(self.wrong);
-            tell_wrong(self.line);
+            tell_wrong(terminal, self.line);
         }
         self.past()
     }
 
     // With a heading: the table before it has ended.
-    pub fn headed(mut self, table: u64) -> Tally {
-        self.tell();
+    pub fn headed(mut self, terminal: &Terminal, table: u64) -> Tally {
+        self.tell(terminal);
         self.table = table;
         self.run = 0;
         self.wrong = 0;
@@ -81,12 +82,12 @@ impl Tally {
     }
 
     // Lines in front of the first heading are told only where they have cases.
-    pub fn tell(self) {
+    pub fn tell(self, terminal: &Terminal) {
         if (self.table == 0) & (self.run == 0) {
             return;
         }
-        tell_table(self.table);
-        told(self.run, b" cases, ");
-        told(self.wrong, b" wrong\n");
+        tell_table(terminal, self.table);
+        told(terminal, self.run, b" cases, ");
+        told(terminal, self.wrong, b" wrong\n");
     }
 }

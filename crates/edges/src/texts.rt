@@ -5,6 +5,7 @@ use crate::numbers::{Numbers, before};
 use crate::spelling::spell;
 use crate::tally::Tally;
 use lines::{Reader, Taken};
+use say::Terminal;
 use share::lent::share_front;
 use share::{Line, Shared, share};
 
@@ -182,11 +183,11 @@ fn spelled_right(numbers: Numbers, line: &[u8], from: usize) -> bool {
 }
 
 // A case is its numbers, a `|`, and its text.
-pub fn with(tally: Tally, line: &[u8]) -> Tally {
+pub fn with(terminal: &Terminal, tally: Tally, line: &[u8]) -> Tally {
     let bar = before(line, b'|');
     let numbers = Numbers::read(&line[0..bar]);
     if numbers.count == 0 {
         return tally.past();
     }
-    tally.with(spelled_right(numbers, line, bar + 1))
+    tally.with(terminal, spelled_right(numbers, line, bar + 1))
 }

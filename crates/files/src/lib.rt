@@ -4,7 +4,7 @@
 ghost use Rattle.std.specs.Prelude.{◌≡◌, ℕ, length};
 ghost use Rattle.files.specs.Fits.{Fits, Brings};
 
-use node::{Name, Node, first, folder_end, joined, led_to, node_of, text_of};
+use node::{Name, Node, first, folder_end, joined, led_to, no_text, node_of, open, text_of};
 use std::fs::{File, OpenOptions, Permissions};
 use std::io::{ErrorKind, Read, Write};
 use std::os::unix::fs::PermissionsExt;
@@ -108,18 +108,6 @@ fn fill(file: &mut File, buf: &mut [u8]) -> Loaded
         }
     }
     loaded
-}
-
-// A path that the library cannot take, since it is no text.
-fn no_text() -> io::Error {
-    io::Error::from(ErrorKind::InvalidFilename)
-}
-
-fn open(rt: HostRuntime, path: &[u8]) -> io::Result<File> {
-    match text_of(path) {
-        Some(name) => File::open(&rt, name),
-        None => Err(no_text()),
-    }
 }
 
 // Why a file could not be opened.

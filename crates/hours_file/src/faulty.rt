@@ -3,16 +3,19 @@ ghost use Rattle.std.specs.Prelude.{◌<◌};
 
 use crate::{Found, MOST_BYTES, without};
 use hour_faults::{Finder, HourFound};
+use std::fs::File;
+use std::io::Read;
+use std::rt::HostRuntime;
 
 // The fault, and what became of the file: where that was not read to its end, or until its fault was known, none.
-#[derive(Drop)]
+#[derive(Clone, Copy)]
 pub struct Reread {
     pub fault: HourFound,
     pub found: Found,
 }
 
 // The finder, what became of the file if no more is read, and how many more bytes are taken, none behind the last read.
-#[derive(Drop)]
+#[derive(Clone, Copy)]
 struct Finding {
     finder: Finder,
     left: u64,
@@ -20,22 +23,20 @@ struct Finding {
 }
 
 // One read, of up to 64 KiB.
-fn find_some(fd: i32, finding: Finding) -> Finding
+fn find_some(file: &mut File, finding: Finding) -> Finding
     requires { 0 < finding.left }
     ensures { result.left < finding.left }
 {
     let mut buffer = io::large_buffer();
-    let got = libc::read(fd, &mut buffer);
-    let n = io::count(got, &buffer);
     let before = finding.finder;
-    let finder = before.feed(&buffer[..n]);
-    if got < 0 {
+    let Ok(n) = file.read(&mut buffer) else {
         return Finding {
-            finder,
+            finder: before,
             left: 0,
             found: Found::Failed,
         };
-    }
+    };
+    let finder = before.feed(&buffer[..n]);
     if (n == 0) | finder.is_settled() {
         return Finding {
             finder,
@@ -50,14 +51,14 @@ fn find_some(fd: i32, finding: Finding) -> Finding
     }
 }
 
-fn find_all(fd: i32, finder: Finder) -> Finding {
+fn find_all(file: &mut File, finder: Finder) -> Finding {
     let mut finding = Finding {
         finder,
         left: MOST_BYTES + 1,
         found: Found::TooLong,
     };
     while 0 < finding.left {
-        finding = find_some(fd, finding);
+        finding = find_some(file, finding);
     }
     finding
 }
@@ -69,8 +70,8 @@ fn nothing(hours: u16, found: Found) -> Reread {
     Reread { fault, found }
 }
 
-fn find_open(fd: i32, hours: u16) -> Reread {
-    let finding = find_all(fd, Finder::start(hours));
+fn find_open(file: &mut File, hours: u16) -> Reread {
+    let finding = find_all(file, Finder::start(hours));
     let found = finding.found;
     let finder = finding.finder;
     if let Found::Whole = found {
@@ -81,12 +82,9 @@ fn find_open(fd: i32, hours: u16) -> Reread {
 }
 
 // The first fault of the file of that name in a month of so many hours.
-pub fn find_fault(path: &[u8], hours: u16) -> Reread {
-    let fd = os::open_read(path);
-    if fd < 0 {
-        return nothing(hours, Found::Failed);
+pub fn find_fault(rt: HostRuntime, path: &[u8], hours: u16) -> Reread {
+    match node::open(rt, path) {
+        Ok(mut file) => find_open(&mut file, hours),
+        Err(_) => nothing(hours, Found::Failed),
     }
-    let found = find_open(fd, hours);
-    libc::close(fd);
-    found
 }

@@ -1,8 +1,13 @@
 // A ramping file by its name, read as a stream: however long it is, it is never held whole.
+#![tactic(auto)]
+
 ghost use Rattle.std.specs.Prelude.{◌<◌};
 
 use hours::{Hours, Reader};
 use pay::Member;
+use std::fs::File;
+use std::io::{Error, ErrorKind, Read};
+use std::rt::HostRuntime;
 
 pub mod faulty;
 pub mod given;
@@ -13,7 +18,7 @@ const MOST_BYTES: u64 = 16_777_216;
 
 // What became of the file: it was read to its end, or until its fault was known; there is none; its name is a link that leads to no file; it goes on behind the most bytes;
 // or a read failed, which is no end of it.
-#[derive(Drop)]
+#[derive(Clone, Copy)]
 pub enum Found {
     Whole,
     Missing,
@@ -23,14 +28,14 @@ pub enum Found {
 }
 
 // What became of the file, and what it says where it was read.
-#[derive(Drop)]
+#[derive(Clone, Copy)]
 pub struct HoursFile {
     pub hours: Hours,
     pub found: Found,
 }
 
 // The reader, what became of the file if no more is read, and how many more bytes are taken, none behind the last read.
-#[derive(Drop)]
+#[derive(Clone, Copy)]
 struct Reading {
     reader: Reader,
     left: u64,
@@ -50,22 +55,20 @@ fn without(left: u64, n: usize) -> u64
 }
 
 // One read, of up to 64 KiB.
-fn read_some(fd: i32, reading: Reading) -> Reading
+fn read_some(file: &mut File, reading: Reading) -> Reading
     requires { 0 < reading.left }
     ensures { result.left < reading.left }
 {
     let mut buffer = io::large_buffer();
-    let got = libc::read(fd, &mut buffer);
-    let n = io::count(got, &buffer);
     let before = reading.reader;
-    let reader = before.feed(&buffer[..n]);
-    if got < 0 {
+    let Ok(n) = file.read(&mut buffer) else {
         return Reading {
-            reader,
+            reader: before,
             left: 0,
             found: Found::Failed,
         };
-    }
+    };
+    let reader = before.feed(&buffer[..n]);
     if (n == 0) | reader.is_settled() {
         return Reading {
             reader,
@@ -80,14 +83,14 @@ fn read_some(fd: i32, reading: Reading) -> Reading
     }
 }
 
-fn read_all(fd: i32, reader: Reader) -> Reading {
+fn read_all(file: &mut File, reader: Reader) -> Reading {
     let mut reading = Reading {
         reader,
         left: MOST_BYTES + 1,
         found: Found::TooLong,
     };
     while 0 < reading.left {
-        reading = read_some(fd, reading);
+        reading = read_some(file, reading);
     }
     reading
 }
@@ -98,8 +101,8 @@ fn nothing(reader: Reader, found: Found) -> HoursFile {
     HoursFile { hours, found }
 }
 
-fn read_open(fd: i32, first: Reader) -> HoursFile {
-    let reading = read_all(fd, first);
+fn read_open(file: &mut File, first: Reader) -> HoursFile {
+    let reading = read_all(file, first);
     let found = reading.found;
     let reader = reading.reader;
     let hours = reader.finish();
@@ -107,27 +110,24 @@ fn read_open(fd: i32, first: Reader) -> HoursFile {
 }
 
 // Why a file could not be opened. A name that is there is a file: only where nothing has it is there none.
-fn unopened(path: &[u8], error: i32) -> Found {
-    if error != libc::ENOENT {
+fn unopened(rt: HostRuntime, path: &[u8], error: Error) -> Found {
+    if error.kind() != ErrorKind::NotFound {
         return Found::Failed;
     }
-    if node::is_absent(path) {
+    if node::is_absent(rt, path) {
         return Found::Missing;
     }
-    if node::is_link(path) {
+    if node::is_link(rt, path) {
         return Found::Nowhere;
     }
     Found::Failed
 }
 
 // The file of that name, of a member, in a month of so many hours.
-pub fn read_file(path: &[u8], member: Member, hours: u16) -> HoursFile {
+pub fn read_file(rt: HostRuntime, path: &[u8], member: Member, hours: u16) -> HoursFile {
     let reader = Reader::start(member, hours);
-    let fd = os::open_read(path);
-    if fd < 0 {
-        return nothing(reader, unopened(path, os::errno()));
+    match node::open(rt, path) {
+        Ok(mut file) => read_open(&mut file, reader),
+        Err(error) => nothing(reader, unopened(rt, path, error)),
     }
-    let file = read_open(fd, reader);
-    libc::close(fd);
-    file
 }

@@ -17,17 +17,18 @@ use clerk::shelf::{
 use files::Hold;
 use lookup::Place;
 use pair::screen;
+use say::Terminal;
 use tabs::page::PAGE_SIZE;
 
 // Whose call, and which; or nothing, and one line has said why.
-#[derive(Drop)]
+#[derive(Clone, Copy)]
 pub enum Key {
     Of(u16, u32),
     Nothing,
 }
 
 // The books that were read, joined, or nothing, and one line has said why; whether one of those that were read is of the second version, and whether a page was brought forward.
-#[derive(Drop)]
+#[derive(Clone, Copy)]
 pub struct Joined {
     pub held: Held,
     pub second: bool,
@@ -35,14 +36,14 @@ pub struct Joined {
 }
 
 // A second book joined to a first, or nothing, and one line has said why; and the turns that the join took.
-#[derive(Drop)]
+#[derive(Clone, Copy)]
 pub struct Added {
     pub held: Held,
     pub turns: usize,
 }
 
 // Whether a file is one of those that arguments name: it is, it is none, or that is unknown since the one at a place cannot be looked at.
-#[derive(Drop)]
+#[derive(Clone, Copy)]
 enum Named {
     One,
     None,
@@ -50,52 +51,59 @@ enum Named {
 }
 
 // The key that arguments 4 and 5 say.
-pub fn whose() -> Key {
-    let Short::Number(member) = short_at(4) else {
+pub fn whose(terminal: &Terminal) -> Key {
+    let Short::Number(member) = short_at(terminal, 4) else {
         return Key::Nothing;
     };
-    let Long::Number(call) = long_at(5) else {
+    let Long::Number(call) = long_at(terminal, 5) else {
         return Key::Nothing;
     };
     Key::Of(member, call)
 }
 
-pub fn check_book() {
+pub fn check_book(terminal: &Terminal) {
     let mut book = io::large_buffer();
-    if let Held::Bytes(_) = open(2, &mut book) {
-        print::done();
+    if let Held::Bytes(_) = open(terminal, 2, &mut book) {
+        print::done(terminal);
     }
 }
 
 // The calls of a sound book from one place to another, on a page behind its first `start` bytes.
-pub fn show_calls(book: &[u8], from: usize, end: usize, page: &mut [u8], start: usize) -> usize
+pub fn show_calls(
+    terminal: &Terminal,
+    book: &[u8],
+    from: usize,
+    end: usize,
+    page: &mut [u8],
+    start: usize,
+) -> usize
     requires book_value { check book.now ≡ accepted }
     requires end_bound { end ≤ count_at book.now }
 {
     let mut at = start;
     let mut i = from;
     while i < end {
-        at = print::put_call(page, at, call_of(book, i));
+        at = print::put_call(terminal, page, at, call_of(book, i));
         i += 1;
     }
     at
 }
 
-fn show(book: &[u8]) {
-    let o = opened_at(2, book);
+fn show(terminal: &Terminal, book: &[u8]) {
+    let o = opened_at(terminal, 2, book);
     if o.number != 0 {
         return;
     }
     let mut page = io::large_buffer();
-    let at = print::put_book(&mut page, 0, o.version, o.header, o.calls);
-    let end = show_calls(book, 0, o.calls, &mut page, at);
-    print::finish(&mut page, end);
+    let at = print::put_book(terminal, &mut page, 0, o.version, o.header, o.calls);
+    let end = show_calls(terminal, book, 0, o.calls, &mut page, at);
+    print::finish(terminal, &mut page, end);
 }
 
-pub fn show_book() {
+pub fn show_book(terminal: &Terminal) {
     let mut book = io::large_buffer();
-    if let Held::Bytes(n) = load_at(2, &mut book) {
-        show(first(&book, n));
+    if let Held::Bytes(n) = load_at(terminal, 2, &mut book) {
+        show(terminal, first(&book, n));
     }
 }
 
@@ -104,23 +112,27 @@ fn keep(bytes: &[u8], all: &mut [u8]) -> Held {
     if all.len() < bytes.len() {
         return Held::Nothing;
     }
-    Held::Bytes(bytes::copy(bytes, all))
+    Held::Bytes(node::copy(bytes, all))
 }
 
 // Of which month a sound book is, and of which the one before it; argument i names it.
-fn tell_other_month(i: usize, one: &[u8], two: &[u8]) {
+fn tell_other_month(terminal: &Terminal, i: usize, one: &[u8], two: &[u8]) {
     let before = header_of(one);
     let this = header_of(two);
     let h = this.header;
     let earlier = before.header;
-    other_month_at(i, h, earlier);
+    other_month_at(terminal, i, h, earlier);
 }
 
 // Why two sound books are not joined, in words; argument i names the second.
-fn tell_unjoined(i: usize, number: u32, one: &[u8], two: &[u8]) {
+fn tell_unjoined(terminal: &Terminal, i: usize, number: u32, one: &[u8], two: &[u8]) {
     match number {
-        7 => tell_other_month(i, one, two),
-        8 => note_at(i, b"with it there would be more than 2000 different calls"),
+        7 => tell_other_month(terminal, i, one, two),
+        8 => note_at(
+            terminal,
+            i,
+            b"with it there would be more than 2000 different calls",
+        ),
         _ => {}
     }
 }
@@ -145,13 +157,20 @@ fn join_with(one: &[u8], two: &[u8], out: &mut [u8], page: &mut [u8]) -> join::J
 
 // A second book joined into the first n bytes of `all`, and the page brought forward where one is brought. Argument i is what a refusal is about: a book of another month, or one too
 // many.
-pub fn join_bytes(i: usize, all: &mut [u8], n: usize, second: &[u8], page: &mut [u8]) -> Added {
+pub fn join_bytes(
+    terminal: &Terminal,
+    i: usize,
+    all: &mut [u8],
+    n: usize,
+    second: &[u8],
+    page: &mut [u8],
+) -> Added {
     let mut out = io::large_buffer();
     let w = join_with(first(all, n), second, &mut out, page);
     let turns = w.turns;
     if w.number != 0 {
-        tell_unjoined(i, w.number, first(all, n), second);
-        refused_at(w.number, w.place, i);
+        tell_unjoined(terminal, i, w.number, first(all, n), second);
+        refused_at(terminal, w.number, w.place, i);
         return Added {
             held: Held::Nothing,
             turns,
@@ -179,8 +198,8 @@ pub fn none_joined() -> Joined {
 }
 
 // The book of argument i alone.
-fn join_first(i: usize, all: &mut [u8]) -> Joined {
-    let Held::Bytes(n) = open(i, all) else {
+fn join_first(terminal: &Terminal, i: usize, all: &mut [u8]) -> Joined {
+    let Held::Bytes(n) = open(terminal, i, all) else {
         return none_joined();
     };
     let second = is_second(first(all, n));
@@ -193,6 +212,7 @@ fn join_first(i: usize, all: &mut [u8]) -> Joined {
 
 // The book of argument i joined to those before it, and its turns kept.
 fn join_next(
+    terminal: &Terminal,
     i: usize,
     all: &mut [u8],
     lasts: &mut [usize],
@@ -204,11 +224,11 @@ fn join_next(
         return none_joined();
     };
     let mut book = io::large_buffer();
-    let Held::Bytes(m) = open(i, &mut book) else {
+    let Held::Bytes(m) = open(terminal, i, &mut book) else {
         return none_joined();
     };
     let second = before.second | is_second(first(&book, m));
-    let added = join_bytes(i, all, n, first(&book, m), page);
+    let added = join_bytes(terminal, i, all, n, first(&book, m), page);
     keep_turns(lasts, i, added.turns);
     let held = added.held;
     let brought = is_brought(page);
@@ -221,6 +241,7 @@ fn join_next(
 
 // The books that are named behind argument `from`, joined to that one, and the turns of each join kept.
 fn join_others(
+    terminal: &Terminal,
     from: usize,
     all: &mut [u8],
     lasts: &mut [usize],
@@ -229,7 +250,7 @@ fn join_others(
 ) -> Joined
     requires { from < 10 }
 {
-    let count = os::arg_count();
+    let count = say::arguments(terminal);
     let held = one.held;
     let brought = is_brought(page);
     let mut joined = Joined {
@@ -239,64 +260,79 @@ fn join_others(
     };
     let mut i = from + 1;
     while i < count {
-        joined = join_next(i, all, lasts, page, joined);
+        joined = join_next(terminal, i, all, lasts, page, joined);
         i += 1;
     }
     joined
 }
 
 // All books that are named from argument `from` on, joined, and the page of the first brought forward where it has one.
-fn join_read(from: usize, all: &mut [u8], lasts: &mut [usize], has: bool, page: &mut [u8]) -> Joined
+fn join_read(
+    terminal: &Terminal,
+    from: usize,
+    all: &mut [u8],
+    lasts: &mut [usize],
+    has: bool,
+    page: &mut [u8],
+) -> Joined
     requires { from < 10 }
 {
-    let one = join_first(from, all);
+    let one = join_first(terminal, from, all);
     let held = one.held;
     let Held::Bytes(n) = held else {
         return none_joined();
     };
-    match page_at(from, has, first(all, n), page) {
-        Page::Brought => join_others(from, all, lasts, page, one),
-        Page::None => join_others(from, all, lasts, &mut [], one),
+    match page_at(terminal, from, has, first(all, n), page) {
+        Page::Brought => join_others(terminal, from, all, lasts, page, one),
+        Page::None => join_others(terminal, from, all, lasts, &mut [], one),
         Page::Nothing => none_joined(),
     }
 }
 
 // The same, where nobody asks for the versions of those that were read, nor for the turns, nor for a page.
-pub fn join_all(from: usize, all: &mut [u8]) -> Held
+pub fn join_all(terminal: &Terminal, from: usize, all: &mut [u8]) -> Held
     requires { from < 10 }
 {
     let mut lasts = no_turns();
-    let joined = join_read(from, all, &mut lasts, false, &mut []);
+    let joined = join_read(terminal, from, all, &mut lasts, false, &mut []);
     joined.held
 }
 
 // Call i of a sound book, on a page.
-pub fn put_call(page: &mut [u8], at: usize, book: &[u8], i: usize) -> usize {
+pub fn put_call(terminal: &Terminal, page: &mut [u8], at: usize, book: &[u8], i: usize) -> usize {
     let o = header_of(book);
     if o.number != 0 {
         return at;
     }
     if i < o.calls {
-        return print::put_call(page, at, call_of(book, i));
+        return print::put_call(terminal, page, at, call_of(book, i));
     }
     at
 }
 
 // Whose month a sound book is of, and how many calls it has, on a page.
-pub fn put_header(page: &mut [u8], at: usize, book: &[u8]) -> usize {
+pub fn put_header(terminal: &Terminal, page: &mut [u8], at: usize, book: &[u8]) -> usize {
     let o = header_of(book);
     if o.number != 0 {
         return at;
     }
-    print::put_header(page, at, o.header, o.calls)
+    print::put_header(terminal, page, at, o.header, o.calls)
 }
 
 // That the book which argument i names, and which is written now, is of the second version where none that was read is: on a page, behind its first `at` bytes.
-pub fn put_renewed(page: &mut [u8], at: usize, i: usize, second: bool, book: &[u8]) -> usize {
+pub fn put_renewed(
+    terminal: &Terminal,
+    page: &mut [u8],
+    at: usize,
+    i: usize,
+    second: bool,
+    book: &[u8],
+) -> usize {
     if second | !is_second(book) {
         return at;
     }
     put_note_at(
+        terminal,
         page,
         at,
         i,
@@ -305,17 +341,17 @@ pub fn put_renewed(page: &mut [u8], at: usize, i: usize, second: bool, book: &[u
 }
 
 // Whose month the book is of that was written, and how many calls it has, on a page.
-fn put_written(page: &mut [u8], at: usize, book: &[u8]) -> usize {
+fn put_written(terminal: &Terminal, page: &mut [u8], at: usize, book: &[u8]) -> usize {
     let o = header_of(book);
     if o.number != 0 {
         return at;
     }
-    print::put_book(page, at, o.version, o.header, o.calls)
+    print::put_book(terminal, page, at, o.version, o.header, o.calls)
 }
 
 // Whether argument i names the file that is held, or one before it does. The first that cannot be looked at is kept.
-fn named_next(hold: Hold, i: usize, before: Named) -> Named {
-    match compared_at(hold, i) {
+fn named_next(terminal: &Terminal, hold: &Hold, i: usize, before: Named) -> Named {
+    match compared_at(terminal, hold, i) {
         Compared::Same => Named::One,
         Compared::Other => before,
         Compared::Unknown => {
@@ -328,14 +364,14 @@ fn named_next(hold: Hold, i: usize, before: Named) -> Named {
 }
 
 // Whether one of the arguments from `from` on names the file that is held.
-fn named_in(hold: Hold, from: usize) -> Named
+fn named_in(terminal: &Terminal, hold: &Hold, from: usize) -> Named
     requires { from < 10 }
 {
-    let count = os::arg_count();
+    let count = say::arguments(terminal);
     let mut named = Named::None;
     let mut i = from;
     while i < count {
-        named = named_next(hold, i, named);
+        named = named_next(terminal, hold, i, named);
         if let Named::One = named {
             return named;
         }
@@ -345,129 +381,154 @@ fn named_in(hold: Hold, from: usize) -> Named
 }
 
 // The turns of the joins, what the book has that argument `out` names and that was written, and `ok`.
-fn tell_joined(out: usize, lasts: &[usize], second: bool, book: &[u8])
+fn tell_joined(terminal: &Terminal, out: usize, lasts: &[usize], second: bool, book: &[u8])
     requires { out < 9 }
 {
     let mut page = io::buffer();
-    let turns = put_turns(&mut page, out + 1, lasts);
-    let note = put_renewed(&mut page, turns, out, second, book);
-    let at = put_written(&mut page, note, book);
-    print::finish(&mut page, at);
+    let turns = put_turns(terminal, &mut page, out + 1, lasts);
+    let note = put_renewed(terminal, &mut page, turns, out, second, book);
+    let at = put_written(terminal, &mut page, note, book);
+    print::finish(terminal, &mut page, at);
 }
 
 // The books behind argument `out`, joined into the files that are held.
-fn join_run(run: Run, out: usize)
+fn join_run(terminal: &Terminal, run: Run, out: usize)
     requires { out < 9 }
 {
     let mut all = io::large_buffer();
     let mut lasts = no_turns();
     let mut page = no_page();
-    let joined = join_read(out + 1, &mut all, &mut lasts, run.first, &mut page);
+    let joined = join_read(
+        terminal,
+        out + 1,
+        &mut all,
+        &mut lasts,
+        run.first,
+        &mut page,
+    );
     let held = joined.held;
     let Held::Bytes(n) = held else {
-        leave(run);
+        leave(terminal, run);
         return;
     };
-    if put_run(run, out, first(&all, n), joined.brought, &page) {
-        tell_joined(out, &lasts, joined.second, first(&all, n));
+    if put_run(terminal, run, out, first(&all, n), joined.brought, &page) {
+        tell_joined(terminal, out, &lasts, joined.second, first(&all, n));
     }
 }
 
 // The same into the book that is held, with its page where one takes part.
-fn join_held(hold: Hold, out: usize)
+fn join_held(terminal: &Terminal, hold: Hold, out: usize)
     requires { out < 9 }
 {
-    let run = with_page(hold, out + 1);
-    if is_held(run.book) {
-        join_run(run, out);
+    let run = with_page(terminal, hold, out + 1);
+    if is_held(&run.book) {
+        join_run(terminal, run, out);
     }
 }
 
 // The same over a file that is none of the books, where that is asked for: it has to be a book by its mark, so that a slip costs no other file.
-fn join_over(hold: Hold, out: usize)
+fn join_over(terminal: &Terminal, hold: Hold, out: usize)
     requires { out < 9 }
 {
-    match mark_at(out) {
+    match mark_at(terminal, out) {
         Mark::Stands => {
-            join_held(hold, out);
+            join_held(terminal, hold, out);
             return;
         }
-        Mark::Missing => tell_failed(out, b"is no book, and join -f writes over books alone"),
-        Mark::Unknown => tell_failed(out, b"cannot be read"),
+        Mark::Missing => tell_failed(
+            terminal,
+            out,
+            b"is no book, and join -f writes over books alone",
+        ),
+        Mark::Unknown => tell_failed(terminal, out, b"cannot be read"),
     }
-    files::release(hold);
+    files::release(terminal.system(), hold);
 }
 
 // The same over a file that is there, by whether it is one of the books.
-fn join_there(hold: Hold, out: usize, forced: bool)
+fn join_there(terminal: &Terminal, hold: Hold, out: usize, forced: bool)
     requires { out < 9 }
 {
-    match named_in(hold, out + 1) {
+    match named_in(terminal, &hold, out + 1) {
         Named::One => {
-            join_held(hold, out);
+            join_held(terminal, hold, out);
             return;
         }
         Named::Unknown(i) => {
-            tell_failed(i, b"cannot be looked at");
-            files::release(hold);
+            tell_failed(terminal, i, b"cannot be looked at");
+            files::release(terminal.system(), hold);
             return;
         }
         Named::None => {}
     }
     if forced {
-        join_over(hold, out);
+        join_over(terminal, hold, out);
         return;
     }
     tell_failed(
+        terminal,
         out,
         b"is there already, and is none of the books (join -f writes over a book)",
     );
-    files::release(hold);
+    files::release(terminal.system(), hold);
 }
 
 // The books behind argument `out`, joined as the file that it names, which is held from before they are read; it may be there only where it is one of them, or where it is a book and
 // that is asked for.
-fn join_to(out: usize, forced: bool)
+fn join_to(terminal: &Terminal, out: usize, forced: bool)
     requires { out < 9 }
 {
-    if os::arg_count() < out + 2 {
-        print::failed(b"", b"no book to join");
+    if say::arguments(terminal) < out + 2 {
+        print::failed(terminal, b"", b"no book to join");
         return;
     }
-    let hold = hold_at(out, false);
-    if !is_held(hold) {
+    let hold = hold_at(terminal, out, false);
+    if !is_held(&hold) {
         return;
     }
     let node = hold.node;
     if node.there {
-        join_there(hold, out, forced);
+        join_there(terminal, hold, out, forced);
         return;
     }
-    join_held(hold, out);
+    join_held(terminal, hold, out);
 }
 
-pub fn join_books() {
-    if is_word_at(2, b"-f") {
-        join_to(3, true);
+pub fn join_books(terminal: &Terminal) {
+    if is_word_at(terminal, 2, b"-f") {
+        join_to(terminal, 3, true);
         return;
     }
-    join_to(2, false);
+    join_to(terminal, 2, false);
 }
 
 // Where joining would refuse two books, nothing is found in them. The paper gives no number here, so that words say which book is at fault, on a page.
-fn put_refused(page: &mut [u8], number: u32) -> usize {
+fn put_refused(terminal: &Terminal, page: &mut [u8], number: u32) -> usize {
     if number < 7 {
-        return put_note_at(page, 0, 2, b"not a sound book, so nothing is found");
+        return put_note_at(
+            terminal,
+            page,
+            0,
+            2,
+            b"not a sound book, so nothing is found",
+        );
     }
     if number == 7 {
         return put_note_at(
+            terminal,
             page,
             0,
             3,
             b"of another month or area than the first book, so nothing is found",
         );
     }
-    put_note_at(page, 0, 3, b"not a sound book, so nothing is found")
+    put_note_at(
+        terminal,
+        page,
+        0,
+        3,
+        b"not a sound book, so nothing is found",
+    )
 }
 
 // Whether a book has a record of the key: of a book and itself it stands.
@@ -476,25 +537,47 @@ fn has(book: &[u8], member: u16, call: u32) -> bool {
 }
 
 // Why no record stands, on a page: neither book has the call, or both have it and contradict each other.
-fn put_why_none(page: &mut [u8], one: &[u8], two: &[u8], member: u16, call: u32) -> usize {
+fn put_why_none(
+    terminal: &Terminal,
+    page: &mut [u8],
+    one: &[u8],
+    two: &[u8],
+    member: u16,
+    call: u32,
+) -> usize {
     if has(one, member, call) & has(two, member, call) {
         return put_note_at(
+            terminal,
             page,
             0,
             3,
             b"both books have the call at one revision and contradict each other, so that neither stands",
         );
     }
-    put_note_at(page, 0, 3, b"neither this book nor the first has the call")
+    put_note_at(
+        terminal,
+        page,
+        0,
+        3,
+        b"neither this book nor the first has the call",
+    )
 }
 
-fn put_none(page: &mut [u8], one: &[u8], two: &[u8], member: u16, call: u32) -> usize {
-    let at = put_why_none(page, one, two, member, call);
-    print::put_none(page, at)
+fn put_none(
+    terminal: &Terminal,
+    page: &mut [u8],
+    one: &[u8],
+    two: &[u8],
+    member: u16,
+    call: u32,
+) -> usize {
+    let at = put_why_none(terminal, page, one, two, member, call);
+    print::put_none(terminal, page, at)
 }
 
 // The record that stands for a key: which book has it, and its 32 bytes as they lie there, on a page.
 fn put_found<'a>(
+    terminal: &Terminal,
     page: &mut [u8],
     first: &'a [u8],
     second: &'a [u8],
@@ -503,40 +586,47 @@ fn put_found<'a>(
 ) -> usize {
     let part = lookup::find(first, second, member, call);
     if part.len() < RECORD_SIZE {
-        return put_none(page, first, second, member, call);
+        return put_none(terminal, page, first, second, member, call);
     }
     match lookup::which(first, second, member, call) {
-        Place::Nowhere => print::put_none(page, 0),
-        Place::InFirst(_) => print::put_found(page, 0, false, call_at(part, 0)),
-        Place::InSecond(_) => print::put_found(page, 0, true, call_at(part, 0)),
+        Place::Nowhere => print::put_none(terminal, page, 0),
+        Place::InFirst(_) => print::put_found(terminal, page, 0, false, call_at(part, 0)),
+        Place::InSecond(_) => print::put_found(terminal, page, 0, true, call_at(part, 0)),
     }
 }
 
 // The same where the books may be joined; else why not.
-fn put_answer<'a>(page: &mut [u8], one: &'a [u8], two: &'a [u8], member: u16, call: u32) -> usize {
+fn put_answer<'a>(
+    terminal: &Terminal,
+    page: &mut [u8],
+    one: &'a [u8],
+    two: &'a [u8],
+    member: u16,
+    call: u32,
+) -> usize {
     let v = screen(one, two);
     if v.number != 0 {
-        let at = put_refused(page, v.number);
-        return print::put_none(page, at);
+        let at = put_refused(terminal, page, v.number);
+        return print::put_none(terminal, page, at);
     }
-    put_found(page, one, two, member, call)
+    put_found(terminal, page, one, two, member, call)
 }
 
-fn find_in(one: &[u8], member: u16, call: u32) {
+fn find_in(terminal: &Terminal, one: &[u8], member: u16, call: u32) {
     let mut book = io::large_buffer();
-    if let Held::Bytes(n) = load_at(3, &mut book) {
+    if let Held::Bytes(n) = load_at(terminal, 3, &mut book) {
         let mut page = io::large_buffer();
-        let at = put_answer(&mut page, one, first(&book, n), member, call);
-        print::finish(&mut page, at);
+        let at = put_answer(terminal, &mut page, one, first(&book, n), member, call);
+        print::finish(terminal, &mut page, at);
     }
 }
 
-pub fn find_call() {
-    let Key::Of(member, call) = whose() else {
+pub fn find_call(terminal: &Terminal) {
+    let Key::Of(member, call) = whose(terminal) else {
         return;
     };
     let mut book = io::large_buffer();
-    if let Held::Bytes(n) = load_at(2, &mut book) {
-        find_in(first(&book, n), member, call);
+    if let Held::Bytes(n) = load_at(terminal, 2, &mut book) {
+        find_in(terminal, first(&book, n), member, call);
     }
 }

@@ -5,6 +5,7 @@ ghost use Rattle.std.specs.Prelude.{◌≡◌, ◌<◌, length};
 use book::MOST_RECORDS;
 use clerk::print;
 use clerk::shelf::put_turns_at;
+use say::Terminal;
 
 // The numbers of turns that a join may take: none, and up to one for each record of a book.
 const NUMBERS: usize = MOST_RECORDS + 1;
@@ -13,7 +14,7 @@ const NUMBERS: usize = MOST_RECORDS + 1;
 const HIGHEST: usize = 0xffff_ffff_ffff_ffff;
 
 // How far the telling has come: so many bytes stand on the page; the turns of the join before, and of all so far.
-#[derive(Drop)]
+#[derive(Clone, Copy)]
 struct Telling {
     at: usize,
     turns: usize,
@@ -56,26 +57,32 @@ fn with_turns(all: usize, turns: usize) -> usize {
 }
 
 // The turns of the join of argument i, on a page.
-fn put_next(page: &mut [u8], lasts: &[usize], i: usize, before: Telling) -> Telling {
+fn put_next(
+    terminal: &Terminal,
+    page: &mut [u8],
+    lasts: &[usize],
+    i: usize,
+    before: Telling,
+) -> Telling {
     let turns = turns_of(lasts, i, before.turns);
-    let at = put_turns_at(page, before.at, i, turns);
+    let at = put_turns_at(terminal, page, before.at, i, turns);
     let all = with_turns(before.all, turns);
     Telling { at, turns, all }
 }
 
 // What all joins took together, on a page, where there are several.
-fn put_all(page: &mut [u8], several: bool, told: Telling) -> usize {
+fn put_all(terminal: &Terminal, page: &mut [u8], several: bool, told: Telling) -> usize {
     if several {
-        return print::put_turns(page, told.at, b"all", told.all);
+        return print::put_turns(terminal, page, told.at, b"all", told.all);
     }
     told.at
 }
 
 // The turns of each join of the books that are named from argument `from` on, and of all together, at the start of a page.
-pub fn put_turns(page: &mut [u8], from: usize, lasts: &[usize]) -> usize
+pub fn put_turns(terminal: &Terminal, page: &mut [u8], from: usize, lasts: &[usize]) -> usize
     requires { from < 10 }
 {
-    let count = os::arg_count();
+    let count = say::arguments(terminal);
     let mut told = Telling {
         at: 0,
         turns: 0,
@@ -83,8 +90,8 @@ pub fn put_turns(page: &mut [u8], from: usize, lasts: &[usize]) -> usize
     };
     let mut i = from + 1;
     while i < count {
-        told = put_next(page, lasts, i, told);
+        told = put_next(terminal, page, lasts, i, told);
         i += 1;
     }
-    put_all(page, from + 2 < count, told)
+    put_all(terminal, page, from + 2 < count, told)
 }

@@ -11,10 +11,11 @@ use hours_file::{Found, HoursFile, read_file};
 use month::Ramped;
 use pay::Member;
 use register::{Entry, MOST_ENTRIES};
+use say::Terminal;
 use units::Grains;
 
 // What each member's ramping file gives; which could not be read, and how many these are: of each one line has said why.
-#[derive(Drop)]
+#[derive(Clone, Copy)]
 pub struct Ramps {
     pub each: [Ramped; MOST_ENTRIES],
     pub unread: [bool; MOST_ENTRIES],
@@ -32,9 +33,9 @@ pub fn no_ramping() -> Ramped {
 }
 
 // The ramping file of a member.
-pub fn ramping_file_of(member: u16) -> Name {
+pub fn ramping_file_of(terminal: &Terminal, member: u16) -> Name {
     let name = ramping_name(member);
-    in_folder(&name)
+    in_folder(terminal, &name)
 }
 
 // The hours of a sound book's month; of any other book none.
@@ -45,13 +46,13 @@ pub fn month_hours(book: &[u8]) -> u16 {
 }
 
 // What became of a member's ramping file; that it could not be read is told.
-pub fn read_ramping(member: Member, hours: u16, goes_on: bool) -> HoursFile {
-    let name = ramping_file_of(member.number);
+pub fn read_ramping(terminal: &Terminal, member: Member, hours: u16, goes_on: bool) -> HoursFile {
+    let name = ramping_file_of(terminal, member.number);
     let bytes = name.bytes;
     let path = first(&bytes, name.size);
-    let file = read_file(path, member, hours);
+    let file = read_file(terminal.system(), path, member, hours);
     let found = file.found;
-    tell_unread(path, goes_on, found);
+    tell_unread(terminal, path, goes_on, found);
     file
 }
 
@@ -67,7 +68,14 @@ fn no_ramps() -> Ramps
 }
 
 // What the ramping file of line i's member gives: nothing where there is none. Where one could not be read, the next is read only if the run goes on.
-fn read_next(e: Entry, i: usize, hours: u16, goes_on: bool, before: Ramps) -> Ramps
+fn read_next(
+    terminal: &Terminal,
+    e: Entry,
+    i: usize,
+    hours: u16,
+    goes_on: bool,
+    before: Ramps,
+) -> Ramps
     requires i_bound { i < 64 }
     requires bad_le_i { before.bad ≤ i }
     ensures { result.bad ≤ before.bad + 1 }
@@ -78,7 +86,7 @@ fn read_next(e: Entry, i: usize, hours: u16, goes_on: bool, before: Ramps) -> Ra
     }
     let mut each = before.each;
     let mut unread = before.unread;
-    let file = read_ramping(e.member, hours, goes_on);
+    let file = read_ramping(terminal, e.member, hours, goes_on);
     let found = file.found;
     match found {
         Found::Missing => {}
@@ -99,7 +107,13 @@ fn read_next(e: Entry, i: usize, hours: u16, goes_on: bool, before: Ramps) -> Ra
 }
 
 // The ramping files of the first entries' members, in turn, up to the first that cannot be read, or all of them where the run goes on.
-pub fn read_ramps(entries: [Entry; MOST_ENTRIES], count: usize, hours: u16, goes_on: bool) -> Ramps
+pub fn read_ramps(
+    terminal: &Terminal,
+    entries: [Entry; MOST_ENTRIES],
+    count: usize,
+    hours: u16,
+    goes_on: bool,
+) -> Ramps
     requires { count ≤ 64 }
     ensures { result.bad ≤ 64 }
 {
@@ -107,7 +121,7 @@ pub fn read_ramps(entries: [Entry; MOST_ENTRIES], count: usize, hours: u16, goes
     let mut i: usize = 0;
     while i < count {
         let e = entries[i];
-        ramps = read_next(e, i, hours, goes_on, ramps);
+        ramps = read_next(terminal, e, i, hours, goes_on, ramps);
         i += 1;
     }
     ramps

@@ -8,6 +8,7 @@ use clerk::args::{Held, argument, first, path};
 use clerk::load::load_or;
 use clerk::print;
 use register::{Entry, MOST_ENTRIES, blank_entry};
+use say::Terminal;
 use tables::series::{read_series, series_name};
 use tally::outputs::{SERIES_ROOM, Values, part};
 
@@ -17,18 +18,18 @@ pub const ALL_ROOM: usize = MOST_ENTRIES * SERIES_ROOM;
 // The longest name of a file in it, a ramping file's, and the longest name of a folder that leaves room for it.
 const MOST_FILE: usize = 15;
 
-const MOST_FOLDER: usize = libc::PATH_MAX - MOST_FILE;
+const MOST_FOLDER: usize = node::PATH_MAX - MOST_FILE;
 
 // A file's name in its first bytes; where it has none, one line has said why.
-#[derive(Drop)]
+#[derive(Clone, Copy)]
 pub struct Name {
-    pub bytes: [u8; libc::PATH_MAX],
+    pub bytes: [u8; node::PATH_MAX],
     pub size: usize,
 }
 
 // Where each member's series begins and how many values it has, whether it was read, and how many values there are together; how many series could not
 // be read, of each of which one line has said why.
-#[derive(Drop)]
+#[derive(Clone, Copy)]
 pub struct Lengths {
     pub starts: [usize; MOST_ENTRIES],
     pub each: [usize; MOST_ENTRIES],
@@ -48,27 +49,27 @@ pub fn room() -> [u32; ALL_ROOM]
 fn put_name(name: &[u8], buf: &mut [u8], n: usize)
     requires { n + length name.now ≤ length buf.old }
 {
-    bytes::copy(name, &mut buf[n..]);
+    node::copy(name, &mut buf[n..]);
 }
 
 // Whether the folder of the series has a name that leaves room for a file's.
-pub fn folder_is_named() -> bool {
+pub fn folder_is_named(terminal: &Terminal) -> bool {
     let mut bytes = io::buffer();
-    match argument(folder_at(), &mut bytes) {
+    match argument(terminal, folder_at(terminal), &mut bytes) {
         Held::Bytes(n) => (0 < n) & (n <= MOST_FOLDER),
         Held::Nothing => false,
     }
 }
 
 // A file in the folder of the series.
-pub fn in_folder(name: &[u8]) -> Name {
-    let folder = folder_at();
+pub fn in_folder(terminal: &Terminal, name: &[u8]) -> Name {
+    let folder = folder_at(terminal);
     let mut bytes = io::buffer();
-    let Held::Bytes(n) = path(folder, &mut bytes) else {
+    let Held::Bytes(n) = path(terminal, folder, &mut bytes) else {
         return Name { bytes, size: 0 };
     };
     if MOST_FOLDER < n {
-        print::bad_argument(folder, b"too long for a folder's name");
+        print::bad_argument(terminal, folder, b"too long for a folder's name");
         return Name { bytes, size: 0 };
     }
     if MOST_FILE < name.len() {
@@ -82,32 +83,32 @@ pub fn in_folder(name: &[u8]) -> Name {
 }
 
 // The file of a member's series.
-pub fn file_of(member: u16) -> Name {
+pub fn file_of(terminal: &Terminal, member: u16) -> Name {
     let name = series_name(member);
-    in_folder(&name)
+    in_folder(terminal, &name)
 }
 
 // The values of a file's lines in the first places of `out`, as many as there is room for.
-fn read_or(path: &[u8], goes_on: bool, out: &mut [u32]) -> Values
+fn read_or(terminal: &Terminal, path: &[u8], goes_on: bool, out: &mut [u32]) -> Values
     ensures { ReadsWithin (length out.old) result }
 {
     let mut text = io::large_buffer();
-    let Held::Bytes(n) = load_or(path, goes_on, &mut text) else {
+    let Held::Bytes(n) = load_or(terminal, path, goes_on, &mut text) else {
         return Values::Nothing;
     };
     Values::Read(read_series(first(&text, n), out))
 }
 
 // The values of a member's series.
-pub fn read_member(member: u16, goes_on: bool, out: &mut [u32]) -> Values
+pub fn read_member(terminal: &Terminal, member: u16, goes_on: bool, out: &mut [u32]) -> Values
     ensures { ReadsWithin (length out.old) result }
 {
-    let name = file_of(member);
+    let name = file_of(terminal, member);
     let bytes = name.bytes;
     if name.size == 0 {
         return Values::Nothing;
     }
-    read_or(first(&bytes, name.size), goes_on, out)
+    read_or(terminal, first(&bytes, name.size), goes_on, out)
 }
 
 fn none_read() -> Lengths
@@ -133,7 +134,14 @@ fn one_bad(before: Lengths) -> Lengths
 }
 
 // The series of line i's member behind those before it. Where one could not be read, the next is read only if the run goes on.
-fn read_next(e: Entry, i: usize, goes_on: bool, before: Lengths, series: &mut [u32]) -> Lengths
+fn read_next(
+    terminal: &Terminal,
+    e: Entry,
+    i: usize,
+    goes_on: bool,
+    before: Lengths,
+    series: &mut [u32],
+) -> Lengths
     requires i_bound { i < 64 }
     requires bad_le_i { before.bad ≤ i }
     requires series_room_in_bounds { before.all + series_room ≤ length series.old }
@@ -147,7 +155,7 @@ fn read_next(e: Entry, i: usize, goes_on: bool, before: Lengths, series: &mut [u
     }
     let at = before.all;
     let end = at + SERIES_ROOM;
-    let taken = read_member(e.member.number, goes_on, &mut series[at..end]);
+    let taken = read_member(terminal, e.member.number, goes_on, &mut series[at..end]);
     let Values::Read(n) = taken else {
         return one_bad(before);
     };
@@ -168,6 +176,7 @@ fn read_next(e: Entry, i: usize, goes_on: bool, before: Lengths, series: &mut [u
 
 // The series of the first entries' members, in turn, up to the first that cannot be read, or all of them where the run goes on.
 pub fn read_all(
+    terminal: &Terminal,
     entries: [Entry; MOST_ENTRIES],
     count: usize,
     goes_on: bool,
@@ -181,7 +190,7 @@ pub fn read_all(
     let mut i: usize = 0;
     while i < count {
         let e = entries[i];
-        lengths = read_next(e, i, goes_on, lengths, series);
+        lengths = read_next(terminal, e, i, goes_on, lengths, series);
         i += 1;
     }
     lengths

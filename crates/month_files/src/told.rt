@@ -7,22 +7,23 @@ use hour_faults::words::hour_fault_text;
 use hour_faults::{HourFound, is_sound};
 use hours_file::Found;
 use hours_file::faulty::find_fault;
+use say::Terminal;
 use text::told::shown_text;
 
 // Why a ramping file was not read to its end, where it is there: of a run that ends by it, or of one that goes on.
-pub fn tell_unread(path: &[u8], goes_on: bool, found: Found) {
+pub fn tell_unread(terminal: &Terminal, path: &[u8], goes_on: bool, found: Found) {
     match found {
         Found::Whole => {}
         Found::Missing => {}
-        Found::Nowhere => tell_of(path, goes_on, b"is a link that leads to no file"),
-        Found::TooLong => tell_of(path, goes_on, b"longer than 16777216 bytes"),
-        Found::Failed => tell_of(path, goes_on, b"cannot be read"),
+        Found::Nowhere => tell_of(terminal, path, goes_on, b"is a link that leads to no file"),
+        Found::TooLong => tell_of(terminal, path, goes_on, b"longer than 16777216 bytes"),
+        Found::Failed => tell_of(terminal, path, goes_on, b"cannot be read"),
     }
 }
 
 // That a kind does not ramp, and what that is told of.
-pub fn tell_unramped(what: &[u8]) {
-    print::note(what, b"only coal, gas and hydro ramp");
+pub fn tell_unramped(terminal: &Terminal, what: &[u8]) {
+    print::note(terminal, what, b"only coal, gas and hydro ramp");
 }
 
 // Whether a fault is that of the row at a place: its line is the place counted from 1, behind a heading from 2.
@@ -33,77 +34,81 @@ fn is_of(found: HourFound, place: usize) -> bool {
 }
 
 // A fault in words, where it is that of the row at a place; otherwise the file has changed.
-fn tell_row(path: &[u8], found: HourFound, place: usize) {
+fn tell_row(terminal: &Terminal, path: &[u8], found: HourFound, place: usize) {
     if !is_of(found, place) {
-        print::note(path, b"changed while it was read");
+        print::note(terminal, path, b"changed while it was read");
         return;
     }
     let mut shown = io::buffer();
     let m = shown_text(path, &mut shown);
     let mut line = io::large_buffer();
     let n = hour_fault_text(&shown[..m], found, &mut line);
-    say::text(&line[..n]);
+    say::text(terminal, &line[..n]);
 }
 
 // What is wrong with the row at which a ramping file was refused, in a month of so many hours. The file is read again. What is wrong with a line that does not end, only its end
 // would tell: then the file's length is told.
-pub fn tell_ramping_row(path: &[u8], hours: u16, place: usize) {
-    let again = find_fault(path, hours);
+pub fn tell_ramping_row(terminal: &Terminal, path: &[u8], hours: u16, place: usize) {
+    let again = find_fault(terminal.system(), path, hours);
     let fault = again.fault;
     let found = again.found;
     match found {
-        Found::Whole => tell_row(path, fault, place),
-        Found::TooLong => tell_unread(path, true, found),
-        _ => print::note(path, b"cannot be read again"),
+        Found::Whole => tell_row(terminal, path, fault, place),
+        Found::TooLong => tell_unread(terminal, path, true, found),
+        _ => print::note(terminal, path, b"cannot be read again"),
     }
 }
 
 // Why a member's ramping file is refused, in words: with 12 its kind, with 10 a row.
-pub fn tell_ramping_file(path: &[u8], hours: u16, number: u32, place: usize) {
+pub fn tell_ramping_file(terminal: &Terminal, path: &[u8], hours: u16, number: u32, place: usize) {
     if number == 12 {
-        tell_unramped(path);
+        tell_unramped(terminal, path);
         return;
     }
-    tell_ramping_row(path, hours, place);
+    tell_ramping_row(terminal, path, hours, place);
 }
 
 // That a register of so many members has none, on a page: how many bytes stand there then.
-pub fn put_nobody(page: &mut [u8], members: usize) -> usize {
+pub fn put_nobody(terminal: &Terminal, page: &mut [u8], members: usize) -> usize {
     if members != 0 {
         return 0;
     }
     put_note_at(
+        terminal,
         page,
         0,
-        register_at(),
+        register_at(terminal),
         b"has no member, so that nobody is settled",
     )
 }
 
 // The same at once.
-pub fn tell_nobody(members: usize) {
+pub fn tell_nobody(terminal: &Terminal, members: usize) {
     let mut page = io::large_buffer();
-    let n = put_nobody(&mut page, members);
-    say::write_page(&page, n);
+    let n = put_nobody(terminal, &mut page, members);
+    say::write_page(terminal, &page, n);
 }
 
 // What is wrong with the sums of all members, in words.
-pub fn tell_sums(number: u32) {
+pub fn tell_sums(terminal: &Terminal, number: u32) {
     if number == 15 {
         note_at(
-            register_at(),
+            terminal,
+            register_at(terminal),
             b"the compensations of all members are together above 1000000000.00 yuan",
         );
     }
     if number == 16 {
         note_at(
-            register_at(),
+            terminal,
+            register_at(terminal),
             b"the members have a part of the gap to share, and none has a weight to share it by",
         );
     }
     if number == 17 {
         note_at(
-            register_at(),
+            terminal,
+            register_at(terminal),
             b"what is not collected above the members' limits is more than all that members get",
         );
     }

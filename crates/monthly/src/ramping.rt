@@ -8,6 +8,7 @@ use hours_file::{Found, HoursFile, read_file};
 use month_files::told::{tell_ramping_row, tell_unramped, tell_unread};
 use pay::Member;
 use report::hourly::{hour_text, hours_text};
+use say::Terminal;
 use tally::member::{Given, member_given};
 use units::Grains;
 
@@ -27,7 +28,7 @@ pub fn no_hours() -> Hours {
 }
 
 // One hour, where it has an action, on a page.
-fn put_hour(page: &mut [u8], at: usize, hours: Hours, i: usize) -> usize {
+fn put_hour(terminal: &Terminal, page: &mut [u8], at: usize, hours: Hours, i: usize) -> usize {
     if i < MOST_HOURS {
         let actions = hours.actions;
         let grains = hours.grains;
@@ -35,74 +36,79 @@ fn put_hour(page: &mut [u8], at: usize, hours: Hours, i: usize) -> usize {
         if n != 0 {
             let mut line = io::buffer();
             let size = hour_text(i as u16, n as u16, grains[i], &mut line);
-            return say::add(page, at, &line[..size]);
+            return say::add(terminal, page, at, &line[..size]);
         }
     }
     at
 }
 
 // A line for each hour that has an action, on a page behind its first `from` bytes.
-pub fn put_each(page: &mut [u8], from: usize, hours: Hours) -> usize {
+pub fn put_each(terminal: &Terminal, page: &mut [u8], from: usize, hours: Hours) -> usize {
     let mut at = from;
     let mut i: usize = 0;
     while i < MOST_HOURS {
-        at = put_hour(page, at, hours, i);
+        at = put_hour(terminal, page, at, hours, i);
         i += 1;
     }
     at
 }
 
 // The hours and their sum; or the file's lowest bad line, and why.
-fn tell_hours(hours: Hours, path: &[u8]) {
+fn tell_hours(terminal: &Terminal, hours: Hours, path: &[u8]) {
     let r = ramped_of(hours);
     if r.number != 0 {
-        tell_ramping_row(path, MOST_HOURS as u16, r.place);
-        print::refused(r.number, r.place, path);
+        tell_ramping_row(terminal, path, MOST_HOURS as u16, r.place);
+        print::refused(terminal, r.number, r.place, path);
         return;
     }
     let mut page = io::large_buffer();
-    let at = put_each(&mut page, 0, hours);
+    let at = put_each(terminal, &mut page, 0, hours);
     let mut line = io::buffer();
     let n = hours_text(r.hours, r.grains, &mut line);
-    let end = say::add(&mut page, at, &line[..n]);
-    print::finish(&mut page, end);
+    let end = say::add(terminal, &mut page, at, &line[..n]);
+    print::finish(terminal, &mut page, end);
 }
 
 // Why a member's hours are not judged, in words: it is no register line, or of a kind that does not ramp.
-fn tell_no_hours(member: Member, number: u32) {
+fn tell_no_hours(terminal: &Terminal, member: Member, number: u32) {
     if number == 12 {
-        tell_unramped(b"member");
+        tell_unramped(terminal, b"member");
         return;
     }
-    tell_member(member);
+    tell_member(terminal, member);
 }
 
 // The register line first, then the file.
-fn tell_file(member: Member, file: HoursFile, path: &[u8]) {
+fn tell_file(terminal: &Terminal, member: Member, file: HoursFile, path: &[u8]) {
     let hours = file.hours;
     let fault = hours.fault;
     if let HoursFault::OfMember(number) = fault {
-        tell_no_hours(member, number);
-        print::refused(number, 0, b"member");
+        tell_no_hours(terminal, member, number);
+        print::refused(terminal, number, 0, b"member");
         return;
     }
     let found = file.found;
     match found {
-        Found::Missing => print::failed(path, b"no such file"),
-        Found::Whole => tell_hours(hours, path),
-        _ => tell_unread(path, false, found),
+        Found::Missing => print::failed(terminal, path, b"no such file"),
+        Found::Whole => tell_hours(terminal, hours, path),
+        _ => tell_unread(terminal, path, false, found),
     }
 }
 
 // A member's hours over the file that argument 5 names, in a month of 31 days.
-pub fn ramp_member() {
-    let Given::Line(member) = member_given() else {
+pub fn ramp_member(terminal: &Terminal) {
+    let Given::Line(member) = member_given(terminal) else {
         return;
     };
     let mut name = io::buffer();
-    let Held::Bytes(n) = path(FILE, &mut name) else {
+    let Held::Bytes(n) = path(terminal, FILE, &mut name) else {
         return;
     };
     let path = first(&name, n);
-    tell_file(member, read_file(path, member, MOST_HOURS as u16), path);
+    tell_file(
+        terminal,
+        member,
+        read_file(terminal.system(), path, member, MOST_HOURS as u16),
+        path,
+    );
 }

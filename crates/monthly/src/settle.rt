@@ -14,6 +14,7 @@ use month_files::told::{put_nobody, tell_ramping_file, tell_sums};
 use posted::posted_text;
 use register::Entry;
 use report::{above_text, month_text, no_line_text};
+use say::Terminal;
 use share::array::seen;
 use share::limits::{MOST_PART, PART_PLACE};
 use tables::roll::{Register, read_register};
@@ -27,100 +28,122 @@ const STATEMENT: usize = 2;
 const PART: usize = 3;
 
 // The statement as the file that argument 2 names, if it names one.
-fn post(s: Statement) -> bool {
-    if is_none(STATEMENT) {
+fn post(terminal: &Terminal, s: Statement) -> bool {
+    if is_none(terminal, STATEMENT) {
         return true;
     }
     let mut out = io::large_buffer();
     let n = posted_text(s, &mut out);
-    save_new(STATEMENT, &out[..n])
+    save_new(terminal, STATEMENT, &out[..n])
 }
 
 // The statement of so many members, once its file stands; that they are none is told before it.
-fn tell_statement(members: usize, s: Statement) {
-    if !post(s) {
+fn tell_statement(terminal: &Terminal, members: usize, s: Statement) {
+    if !post(terminal, s) {
         return;
     }
     let mut page = io::large_buffer();
-    let note = put_nobody(&mut page, members);
-    let at = print::put_header(&mut page, note, s.header, s.calls);
+    let note = put_nobody(terminal, &mut page, members);
+    let at = print::put_header(terminal, &mut page, note, s.header, s.calls);
     let mut out = io::large_buffer();
     let n = month_text(s, &mut out);
-    let end = say::add(&mut page, at, &out[..n]);
-    print::finish(&mut page, end);
+    let end = say::add(terminal, &mut page, at, &out[..n]);
+    print::finish(terminal, &mut page, end);
 }
 
 // The member's refusal: of its series, with a line before it that says why, of a call, which is shown before, or of its line.
-pub fn tell_member(e: Entry, line: usize, number: u32, place: usize, book: &[u8]) {
+pub fn tell_member(
+    terminal: &Terminal,
+    e: Entry,
+    line: usize,
+    number: u32,
+    place: usize,
+    book: &[u8],
+) {
     if number == 11 {
-        let name = file_of(e.member.number);
+        let name = file_of(terminal, e.member.number);
         let bytes = name.bytes;
-        tell_series(first(&bytes, name.size), place, book);
-        print::refused(number, place, first(&bytes, name.size));
+        tell_series(terminal, first(&bytes, name.size), place, book);
+        print::refused(terminal, number, place, first(&bytes, name.size));
         return;
     }
     if number == 10 {
-        refused_at(number, line, register_at());
+        refused_at(terminal, number, line, register_at(terminal));
         return;
     }
     if 11 < number {
-        tell_away(book, place, number, e.member);
+        tell_away(terminal, book, place, number, e.member);
     }
-    print::refused(number, place, b"joined");
+    print::refused(terminal, number, place, b"joined");
 }
 
 // The refusal of a member's ramping file in the month of a book, and why.
-pub fn tell_ramping(e: Entry, book: &[u8], number: u32, place: usize) {
-    let name = ramping_file_of(e.member.number);
+pub fn tell_ramping(terminal: &Terminal, e: Entry, book: &[u8], number: u32, place: usize) {
+    let name = ramping_file_of(terminal, e.member.number);
     let bytes = name.bytes;
-    tell_ramping_file(first(&bytes, name.size), month_hours(book), number, place);
-    print::refused(number, place, first(&bytes, name.size));
+    tell_ramping_file(
+        terminal,
+        first(&bytes, name.size),
+        month_hours(book),
+        number,
+        place,
+    );
+    print::refused(terminal, number, place, first(&bytes, name.size));
 }
 
 // That the register has no line for a member.
-pub fn tell_no_line(member: u16) {
+pub fn tell_no_line(terminal: &Terminal, member: u16) {
     let mut name = io::buffer();
-    let k = os::arg(register_at(), &mut name);
+    let k = say::word(terminal, register_at(terminal), &mut name);
     let mut shown = io::buffer();
     let m = shown_text(&name[..k], &mut shown);
     let mut out = io::large_buffer();
     let n = no_line_text(&shown[..m], member, &mut out);
-    say::text(&out[..n]);
+    say::text(terminal, &out[..n]);
 }
 
 // Call i of a sound book, and that its member has no line.
-fn tell_unlisted(book: &[u8], i: usize) {
+fn tell_unlisted(terminal: &Terminal, book: &[u8], i: usize) {
     let o = header_of(book);
     if o.number != 0 {
         return;
     }
     if i < o.calls {
         let x = call_of(book, i);
-        print::call(x);
-        tell_no_line(x.participant);
+        print::call(terminal, x);
+        tell_no_line(terminal, x.participant);
     }
 }
 
 // Sharing's refusal. A compensation above a line's limit is told in words before it.
-fn tell_sharing(e: Entry, number: u32, place: usize, book: &[u8], series: &[u32], ramped: Ramped) {
+fn tell_sharing(
+    terminal: &Terminal,
+    e: Entry,
+    number: u32,
+    place: usize,
+    book: &[u8],
+    series: &[u32],
+    ramped: Ramped,
+) {
     if number == 10 {
         let fen = member_compensation(e.member, book, series, ramped);
         let mut out = io::buffer();
         let n = above_text(e.member.number, fen, &mut out);
-        say::text(&out[..n]);
+        say::text(terminal, &out[..n]);
     }
-    tell_sums(number);
-    refused_at(number, place, register_at());
+    tell_sums(terminal, number);
+    refused_at(terminal, number, place, register_at(terminal));
 }
 
 // That the part is none.
-fn tell_part() {
-    print::note(b"part", b"is no number from 0 to 10000");
-    print::refused(10, PART_PLACE, b"part");
+fn tell_part(terminal: &Terminal) {
+    print::note(terminal, b"part", b"is no number from 0 to 10000");
+    print::refused(terminal, 10, PART_PLACE, b"part");
 }
 
 // Why there is no statement.
 fn tell_fault(
+    terminal: &Terminal,
     fault: Fault,
     register: Register,
     book: &[u8],
@@ -131,28 +154,29 @@ fn tell_fault(
     let entries = register.entries;
     match fault {
         Fault::NoFault => {}
-        Fault::InPart => tell_part(),
-        Fault::InRegister(line) => refused_at(10, line, register_at()),
-        Fault::InBook(number, place) => print::refused(number, place, b"joined"),
-        Fault::Unlisted(call) => tell_unlisted(book, call),
+        Fault::InPart => tell_part(terminal),
+        Fault::InRegister(line) => refused_at(terminal, 10, line, register_at(terminal)),
+        Fault::InBook(number, place) => print::refused(terminal, number, place, b"joined"),
+        Fault::Unlisted(call) => tell_unlisted(terminal, book, call),
         Fault::OfMember(line, number, place) => {
             let e = entry_at(entries, line);
-            tell_member(e, line, number, place, book);
+            tell_member(terminal, e, line, number, place, book);
         }
         Fault::OfRamping(line, number, place) => {
             let e = entry_at(entries, line);
-            tell_ramping(e, book, number, place);
+            tell_ramping(terminal, e, book, number, place);
         }
         Fault::InSharing(number, place) => {
             let e = entry_at(entries, place);
             let part = part_of(lengths, place, series);
             let ramped = ramped_at(ramps, place);
-            tell_sharing(e, number, place, book, part, ramped);
+            tell_sharing(terminal, e, number, place, book, part, ramped);
         }
     }
 }
 
 fn settle_with(
+    terminal: &Terminal,
     part: u32,
     register: Register,
     book: &[u8],
@@ -166,30 +190,30 @@ fn settle_with(
     let s = month::settle(part, entries, register.count, book, series, each, ramped);
     let fault = s.fault;
     if let Fault::NoFault = fault {
-        tell_statement(register.count, s);
+        tell_statement(terminal, register.count, s);
         return;
     }
-    tell_fault(fault, register, book, series, lengths, ramps);
+    tell_fault(terminal, fault, register, book, series, lengths, ramps);
 }
 
 // The members' series and ramping files are read, all of them, before anything is judged.
-fn settle_book(part: u32, register: Register, book: &[u8]) {
+fn settle_book(terminal: &Terminal, part: u32, register: Register, book: &[u8]) {
     let entries = register.entries;
     let count = seen(register.count);
     let mut series = room();
-    let lengths = read_all(entries, count, false, &mut series);
+    let lengths = read_all(terminal, entries, count, false, &mut series);
     if lengths.bad == 0 {
-        let ramps = read_ramps(entries, count, month_hours(book), false);
+        let ramps = read_ramps(terminal, entries, count, month_hours(book), false);
         if ramps.bad == 0 {
-            settle_with(part, register, book, &series, lengths, ramps);
+            settle_with(terminal, part, register, book, &series, lengths, ramps);
         }
     }
 }
 
-fn settle(part: u32, register: Register) {
+fn settle(terminal: &Terminal, part: u32, register: Register) {
     let mut all = io::large_buffer();
-    if let Held::Bytes(n) = join_all(books_at(), &mut all) {
-        settle_book(part, register, first(&all, n));
+    if let Held::Bytes(n) = join_all(terminal, books_at(terminal), &mut all) {
+        settle_book(terminal, part, register, first(&all, n));
     }
 }
 
@@ -201,25 +225,26 @@ fn no_register() -> Register {
 }
 
 // A register that is refused: a line for each of its faults, then its refusal.
-fn tell_bad(number: u32, place: usize, name: &[u8], text: &[u8]) {
+fn tell_bad(terminal: &Terminal, number: u32, place: usize, name: &[u8], text: &[u8]) {
     if number != 0 {
-        tell_register(name, text);
-        print::refused(number, place, name);
+        tell_register(terminal, name, text);
+        print::refused(terminal, number, place, name);
     }
 }
 
 // The register. Where its number is not 0, its last line has said why, behind a line for each of its faults.
-pub fn open_register() -> Register {
+pub fn open_register(terminal: &Terminal) -> Register {
     let mut name = io::buffer();
-    let Held::Bytes(n) = path(register_at(), &mut name) else {
+    let Held::Bytes(n) = path(terminal, register_at(terminal), &mut name) else {
         return no_register();
     };
     let mut text = io::large_buffer();
-    let Held::Bytes(size) = load(first(&name, n), &mut text) else {
+    let Held::Bytes(size) = load(terminal, first(&name, n), &mut text) else {
         return no_register();
     };
     let register = read_register(first(&text, size));
     tell_bad(
+        terminal,
         register.number,
         register.place,
         first(&name, n),
@@ -228,20 +253,20 @@ pub fn open_register() -> Register {
     register
 }
 
-fn settle_part(part: u32) {
-    let register = open_register();
+fn settle_part(terminal: &Terminal, part: u32) {
+    let register = open_register(terminal);
     if register.number == 0 {
-        settle(part, register);
+        settle(terminal, part, register);
     }
 }
 
 // The part first: where it is none, nothing is read.
-pub fn settle_month() {
-    if let Told::Number(n) = number_at(PART) {
+pub fn settle_month(terminal: &Terminal) {
+    if let Told::Number(n) = number_at(terminal, PART) {
         if n <= MOST_PART as u64 {
-            settle_part(n as u32);
+            settle_part(terminal, n as u32);
             return;
         }
     }
-    tell_part();
+    tell_part(terminal);
 }

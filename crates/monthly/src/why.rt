@@ -14,17 +14,19 @@ use month_files::ramps::{month_hours, read_ramping};
 use month_files::series::{entry_at, line_of, read_member};
 use register::Entry;
 use report::why::{energy_text, explained_text, part_text};
+use say::Terminal;
 use tally::outputs::{Values, part, series_room};
 
 // A call and what it was paid by, on a page.
-fn put_part(page: &mut [u8], at: usize, p: CallPart, book: &[u8]) -> usize {
-    let next = put_call(page, at, book, p.place);
+fn put_part(terminal: &Terminal, page: &mut [u8], at: usize, p: CallPart, book: &[u8]) -> usize {
+    let next = put_call(terminal, page, at, book, p.place);
     let mut out = io::buffer();
     let n = part_text(p.quarters, p.rate, p.wh, p.grains, &mut out);
-    say::add(page, next, &out[..n])
+    say::add(terminal, page, next, &out[..n])
 }
 
 fn put_at(
+    terminal: &Terminal,
     page: &mut [u8],
     at: usize,
     parts: [CallPart; MOST_RECORDS],
@@ -32,13 +34,14 @@ fn put_at(
     book: &[u8],
 ) -> usize {
     if i < MOST_RECORDS {
-        return put_part(page, at, parts[i], book);
+        return put_part(terminal, page, at, parts[i], book);
     }
     at
 }
 
 // The member's calls, on a page behind its first `from` bytes.
 fn put_parts(
+    terminal: &Terminal,
     page: &mut [u8],
     from: usize,
     parts: [CallPart; MOST_RECORDS],
@@ -48,92 +51,99 @@ fn put_parts(
     let mut at = from;
     let mut i: usize = 0;
     while i < count {
-        at = put_at(page, at, parts, i, book);
+        at = put_at(terminal, page, at, parts, i, book);
         i += 1;
     }
     at
 }
 
 // The month's energy, on a page.
-fn put_energy(page: &mut [u8], at: usize, x: Explained) -> usize {
+fn put_energy(terminal: &Terminal, page: &mut [u8], at: usize, x: Explained) -> usize {
     let mut out = io::buffer();
     let n = energy_text(x.wh, x.energy, &mut out);
-    say::add(page, at, &out[..n])
+    say::add(terminal, page, at, &out[..n])
 }
 
 // What the hours add and all the grains, and what stands before them on the page.
-fn tell_sums(page: &mut [u8], at: usize, x: Explained, many: u16) {
+fn tell_sums(terminal: &Terminal, page: &mut [u8], at: usize, x: Explained, many: u16) {
     let mut out = io::buffer();
     let n = explained_text(many, x.added, x.grains, &mut out);
-    let end = say::add(page, at, &out[..n]);
-    print::finish(page, end);
+    let end = say::add(terminal, page, at, &out[..n]);
+    print::finish(terminal, page, end);
 }
 
-fn tell_explained(x: Explained, hours: Hours, many: u16, book: &[u8]) {
+fn tell_explained(terminal: &Terminal, x: Explained, hours: Hours, many: u16, book: &[u8]) {
     let mut page = io::large_buffer();
-    let head = put_header(&mut page, 0, book);
+    let head = put_header(terminal, &mut page, 0, book);
     let parts = x.parts;
-    let calls = put_parts(&mut page, head, parts, x.count, book);
-    let energy = put_energy(&mut page, calls, x);
-    let end = put_each(&mut page, energy, hours);
-    tell_sums(&mut page, end, x, many);
+    let calls = put_parts(terminal, &mut page, head, parts, x.count, book);
+    let energy = put_energy(terminal, &mut page, calls, x);
+    let end = put_each(terminal, &mut page, energy, hours);
+    tell_sums(terminal, &mut page, end, x, many);
 }
 
 // The explanation over the joined book, the member's series and its hours; or the score's refusal, then the ramping file's.
-fn explain_hours(e: Entry, line: usize, book: &[u8], series: &[u32], hours: Hours) {
+fn explain_hours(
+    terminal: &Terminal,
+    e: Entry,
+    line: usize,
+    book: &[u8],
+    series: &[u32],
+    hours: Hours,
+) {
     let grains = hours.grains;
     let x = explain(e.member, book, series, grains);
     if x.number != 0 {
-        tell_member(e, line, x.number, x.place, book);
+        tell_member(terminal, e, line, x.number, x.place, book);
         return;
     }
     let r = ramped_of(hours);
     if r.number != 0 {
-        tell_ramping(e, book, r.number, r.place);
+        tell_ramping(terminal, e, book, r.number, r.place);
         return;
     }
-    tell_explained(x, hours, r.hours, book);
+    tell_explained(terminal, x, hours, r.hours, book);
 }
 
 // The member's own series and ramping file, if it has one.
-fn explain_with(e: Entry, line: usize, book: &[u8]) {
+fn explain_with(terminal: &Terminal, e: Entry, line: usize, book: &[u8]) {
     let mut series = series_room();
-    let Values::Read(n) = read_member(e.member.number, false, &mut series) else {
+    let Values::Read(n) = read_member(terminal, e.member.number, false, &mut series) else {
         return;
     };
-    let file = read_ramping(e.member, month_hours(book), false);
+    let file = read_ramping(terminal, e.member, month_hours(book), false);
     let found = file.found;
     match found {
-        Found::Missing => explain_hours(e, line, book, part(&series, 0, n), no_hours()),
+        Found::Missing => explain_hours(terminal, e, line, book, part(&series, 0, n), no_hours()),
         Found::Whole => {
             let hours = file.hours;
-            explain_hours(e, line, book, part(&series, 0, n), hours);
+            explain_hours(terminal, e, line, book, part(&series, 0, n), hours);
         }
         _ => {}
     }
 }
 
-fn explain_line(e: Entry, line: usize) {
+fn explain_line(terminal: &Terminal, e: Entry, line: usize) {
     let mut all = io::large_buffer();
-    if let Held::Bytes(n) = join_all(books_at(), &mut all) {
-        explain_with(e, line, first(&all, n));
+    if let Held::Bytes(n) = join_all(terminal, books_at(terminal), &mut all) {
+        explain_with(terminal, e, line, first(&all, n));
     }
 }
 
 // The member that argument 2 names, by its line of the register.
-pub fn explain_member() {
-    let Short::Number(number) = short_at(2) else {
+pub fn explain_member(terminal: &Terminal) {
+    let Short::Number(number) = short_at(terminal, 2) else {
         return;
     };
-    let register = open_register();
+    let register = open_register(terminal);
     if register.number != 0 {
         return;
     }
     let entries = register.entries;
     let line = line_of(entries, register.count, number);
     if line < register.count {
-        explain_line(entry_at(entries, line), line);
+        explain_line(terminal, entry_at(entries, line), line);
         return;
     }
-    tell_no_line(number);
+    tell_no_line(terminal, number);
 }

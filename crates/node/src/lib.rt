@@ -3,7 +3,7 @@
 
 ghost use Rattle.std.specs.Prelude.{◌≤◌, length, take, ◌≡◌};
 
-use std::fs::Metadata;
+use std::fs::{File, Metadata};
 use std::io::ErrorKind;
 use std::os::unix::fs::MetadataExt;
 use std::path::PathBuf;
@@ -108,6 +108,19 @@ fn unknown_node() -> Node {
 // A path as the library takes it: as text.
 pub fn text_of(path: &[u8]) -> Option<&str> {
     str::from_utf8(path).ok()
+}
+
+// What is said of a path that is no text.
+pub fn no_text() -> io::Error {
+    io::Error::from(ErrorKind::InvalidFilename)
+}
+
+// A file opened for reading.
+pub fn open(rt: HostRuntime, path: &[u8]) -> io::Result<File> {
+    match text_of(path) {
+        Some(name) => File::open(&rt, name),
+        None => Err(no_text()),
+    }
 }
 
 fn node_at(rt: HostRuntime, path: &[u8]) -> Node {

@@ -1,8 +1,12 @@
 // Reads the generators' part and sharing lines from standard input and prints the statement: R, number, share and amount of each line, the user's amount.
+#![tactic(auto)]
+
 ghost use Rattle.std.specs.Prelude.{◌<◌};
 
-use libc::STDIN_FILENO;
 use lines::Reader;
+use say::Terminal;
+use std::io::Read;
+use std::rt::HostRuntime;
 use text::sharing::statement_text;
 use text::told::failed_text;
 
@@ -10,7 +14,7 @@ use text::told::failed_text;
 const MOST_READS: u64 = 0xffff_ffff_ffff_ffff;
 
 // Whether more is to be read; or the whole input has been seen; or a read failed.
-#[derive(Drop)]
+#[derive(Clone, Copy)]
 enum Input {
     More,
     Whole,
@@ -18,7 +22,7 @@ enum Input {
 }
 
 // The reader, what became of the input so far, and how many more reads are made, none behind the last.
-#[derive(Drop)]
+#[derive(Clone, Copy)]
 struct Reading {
     reader: Reader,
     left: u64,
@@ -26,23 +30,21 @@ struct Reading {
 }
 
 // One read, of up to 64 KiB. A failed read is no end of the input: a statement of half the lines would be a wrong one.
-fn read_some(reading: Reading) -> Reading
+fn read_some(terminal: &Terminal, reading: Reading) -> Reading
     requires { 0 < reading.left }
     ensures { result.left < reading.left }
 {
     let mut buffer = io::large_buffer();
-    let got = libc::read(STDIN_FILENO, &mut buffer);
-    let n = io::count(got, &buffer);
     let before = reading.reader;
-    let reader = before.feed(&buffer[..n]);
-    if got < 0 {
+    let Ok(n) = terminal.system().stdin().read(&mut buffer) else {
         return Reading {
-            reader,
+            reader: before,
             left: 0,
             input: Input::Failed,
         };
-    }
-    if (got == 0) | reader.is_settled() {
+    };
+    let reader = before.feed(&buffer[..n]);
+    if (n == 0) | reader.is_settled() {
         return Reading {
             reader,
             left: 0,
@@ -56,7 +58,7 @@ fn read_some(reading: Reading) -> Reading
     }
 }
 
-fn read_all() -> Reading {
+fn read_all(terminal: &Terminal) -> Reading {
     let reader = Reader::start();
     let mut reading = Reading {
         reader,
@@ -64,23 +66,24 @@ fn read_all() -> Reading {
         input: Input::More,
     };
     while 0 < reading.left {
-        reading = read_some(reading);
+        reading = read_some(terminal, reading);
     }
     reading
 }
 
-fn main() {
-    let reading = read_all();
+fn main(rt: HostRuntime) {
+    let terminal = Terminal::new(rt);
+    let reading = read_all(&terminal);
     let mut out = io::buffer();
     let input = reading.input;
     let Input::Whole = input else {
         let n = failed_text(b"", b"to read the lines", &mut out);
-        say::text(&out[..n]);
+        say::text(&terminal, &out[..n]);
         return;
     };
     let reader = reading.reader;
     let taken = reader.finish();
     let count = taken.count;
     let n = statement_text(taken.shared(), count, &mut out);
-    say::text(&out[..n]);
+    say::text(&terminal, &out[..n]);
 }

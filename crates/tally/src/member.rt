@@ -7,76 +7,85 @@ use clerk::print;
 use clerk::shelf::{open, refused_at};
 use clerk::wrong::tell_member;
 use pay::Member;
+use say::Terminal;
 use score::answer::Score;
 use units::Kw;
 
 // The member that the arguments say is no register line.
-pub fn refuse_member(member: Member) {
-    tell_member(member);
-    print::refused(10, 0, b"member");
+pub fn refuse_member(terminal: &Terminal, member: Member) {
+    tell_member(terminal, member);
+    print::refused(terminal, 10, 0, b"member");
 }
 
 // The score behind what stands on a page, or its refusal in one line. Of a call that is refused by 12, 13 or 14 the lines before it say which it is and why, of a series what is
 // wrong with it.
-pub fn tell(member: Member, r: Score, book: &[u8], series: &[u8], page: &mut [u8], at: usize) {
+pub fn tell(
+    terminal: &Terminal,
+    member: Member,
+    r: Score,
+    book: &[u8],
+    series: &[u8],
+    page: &mut [u8],
+    at: usize,
+) {
     if r.number == 0 {
-        let end = print::put_score(page, at, r.grains, r.fen);
-        print::finish(page, end);
+        let end = print::put_score(terminal, page, at, r.grains, r.fen);
+        print::finish(terminal, page, end);
         return;
     }
     if r.number == 10 {
-        refuse_member(member);
+        refuse_member(terminal, member);
         return;
     }
     if r.number == 11 {
-        tell_series(series, r.place, book);
-        print::refused(r.number, r.place, series);
+        tell_series(terminal, series, r.place, book);
+        print::refused(terminal, r.number, r.place, series);
         return;
     }
     if 11 < r.number {
-        tell_away(book, r.place, r.number, member);
+        tell_away(terminal, book, r.place, r.number, member);
     }
-    refused_at(r.number, r.place, 5);
+    refused_at(terminal, r.number, r.place, 5);
 }
 
 // The member's score over a book and the series in a file.
-fn score_with(member: Member, book: &[u8], path: &[u8]) {
+fn score_with(terminal: &Terminal, member: Member, book: &[u8], path: &[u8]) {
     let mut series = series_room();
-    if let Values::Read(n) = read_file(path, &mut series) {
+    if let Values::Read(n) = read_file(terminal, path, &mut series) {
         let r = score::score(member, book, part(&series, 0, n));
         let mut page = io::buffer();
-        tell(member, r, book, path, &mut page, 0);
+        tell(terminal, member, r, book, path, &mut page, 0);
     }
 }
 
 // The member's score over the book and the series that arguments 5 and 6 name.
-fn score_of(member: Member) {
+fn score_of(terminal: &Terminal, member: Member) {
     let mut book = io::large_buffer();
-    let Held::Bytes(n) = open(5, &mut book) else {
+    let Held::Bytes(n) = open(terminal, 5, &mut book) else {
         return;
     };
     let mut series = io::buffer();
-    let Held::Bytes(m) = path(6, &mut series) else {
+    let Held::Bytes(m) = path(terminal, 6, &mut series) else {
         return;
     };
-    score_with(member, first(&book, n), first(&series, m));
+    score_with(terminal, member, first(&book, n), first(&series, m));
 }
 
 // The member that arguments 2, 3 and 4 say; or none, and one line has said why.
-#[derive(Drop)]
+#[derive(Clone, Copy)]
 pub enum Given {
     Line(Member),
     Nothing,
 }
 
-pub fn member_given() -> Given {
-    let Short::Number(number) = short_at(2) else {
+pub fn member_given(terminal: &Terminal) -> Given {
+    let Short::Number(number) = short_at(terminal, 2) else {
         return Given::Nothing;
     };
-    let Byte::Number(kind) = kind_at(3) else {
+    let Byte::Number(kind) = kind_at(terminal, 3) else {
         return Given::Nothing;
     };
-    let Long::Number(rated) = long_at(4) else {
+    let Long::Number(rated) = long_at(terminal, 4) else {
         return Given::Nothing;
     };
     let rated = Kw(rated);
@@ -88,13 +97,13 @@ pub fn member_given() -> Given {
 }
 
 // The paper's order: the member first, then the book, then the series.
-pub fn score_member() {
-    let Given::Line(member) = member_given() else {
+pub fn score_member(terminal: &Terminal) {
+    let Given::Line(member) = member_given(terminal) else {
         return;
     };
     if !member.is_sound() {
-        refuse_member(member);
+        refuse_member(terminal, member);
         return;
     }
-    score_of(member);
+    score_of(terminal, member);
 }

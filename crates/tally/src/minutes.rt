@@ -10,6 +10,7 @@ use daily::{month_text, run_text};
 use day_runs::runs::DayRun;
 use day_runs::{DayReckoned, MOST_RUNS, reckon_day};
 use pay::Member;
+use say::Terminal;
 use score::answer::Score;
 use units::calendar::days_of;
 use units::{Fen, Grains};
@@ -18,43 +19,54 @@ use units::{Fen, Grains};
 const DAY: usize = 7;
 
 // Run i, on a page.
-fn put_run(page: &mut [u8], at: usize, runs: [DayRun; MOST_RUNS], i: usize) -> usize {
+fn put_run(
+    terminal: &Terminal,
+    page: &mut [u8],
+    at: usize,
+    runs: [DayRun; MOST_RUNS],
+    i: usize,
+) -> usize {
     if i < MOST_RUNS {
         let mut line = io::buffer();
         let n = run_text(runs[i], &mut line);
-        return say::add(page, at, &line[..n]);
+        return say::add(terminal, page, at, &line[..n]);
     }
     at
 }
 
 // The first runs, on a page.
-fn put_runs(page: &mut [u8], runs: [DayRun; MOST_RUNS], count: usize) -> usize {
+fn put_runs(
+    terminal: &Terminal,
+    page: &mut [u8],
+    runs: [DayRun; MOST_RUNS],
+    count: usize,
+) -> usize {
     let mut at: usize = 0;
     let mut i: usize = 0;
     while i < count {
-        at = put_run(page, at, runs, i);
+        at = put_run(terminal, page, at, runs, i);
         i += 1;
     }
     at
 }
 
 // What the month pays, behind the runs on a page.
-fn tell_month(page: &mut [u8], at: usize, grains: Grains, fen: Fen) {
+fn tell_month(terminal: &Terminal, page: &mut [u8], at: usize, grains: Grains, fen: Fen) {
     let mut lines = io::buffer();
     let n = month_text(grains, fen, &mut lines);
-    let end = say::add(page, at, &lines[..n]);
-    print::finish(page, end);
+    let end = say::add(terminal, page, at, &lines[..n]);
+    print::finish(terminal, page, end);
 }
 
 // The runs of the day, then what the month pays, or why it is refused.
-fn tell_day(member: Member, d: DayReckoned, book: &[u8], series: &[u8]) {
+fn tell_day(terminal: &Terminal, member: Member, d: DayReckoned, book: &[u8], series: &[u8]) {
     let mut page = io::large_buffer();
     let runs = d.runs;
-    let at = put_runs(&mut page, runs, d.count);
+    let at = put_runs(terminal, &mut page, runs, d.count);
     let grains = d.grains;
     let fen = d.fen;
     if d.number == 0 {
-        tell_month(&mut page, at, grains, fen);
+        tell_month(terminal, &mut page, at, grains, fen);
         return;
     }
     let r = Score {
@@ -63,57 +75,57 @@ fn tell_day(member: Member, d: DayReckoned, book: &[u8], series: &[u8]) {
         grains,
         fen,
     };
-    tell(member, r, book, series, &mut page, at);
+    tell(terminal, member, r, book, series, &mut page, at);
 }
 
 // The day and the month over a book and the series in a file.
-fn reckon_with(member: Member, book: &[u8], path: &[u8], day: u8) {
+fn reckon_with(terminal: &Terminal, member: Member, book: &[u8], path: &[u8], day: u8) {
     let mut series = series_room();
-    if let Values::Read(n) = read_file(path, &mut series) {
+    if let Values::Read(n) = read_file(terminal, path, &mut series) {
         let d = reckon_day(member, book, part(&series, 0, n), day as u32);
-        tell_day(member, d, book, path);
+        tell_day(terminal, member, d, book, path);
     }
 }
 
 // Whether the month of a sound book has the day; where not, one line has said so.
-fn has_day(book: &[u8], day: u8) -> bool {
+fn has_day(terminal: &Terminal, book: &[u8], day: u8) -> bool {
     let o = header_of(book);
     let header = o.header;
     let days = days_of(header.year, header.month);
     if (1 <= day) & ((day as u32) <= days) {
         return true;
     }
-    tell_no_day(DAY, days);
+    tell_no_day(terminal, DAY, days);
     false
 }
 
 // The book and the series that arguments 5 and 6 name.
-fn reckon_of(member: Member, day: u8) {
+fn reckon_of(terminal: &Terminal, member: Member, day: u8) {
     let mut book = io::large_buffer();
-    let Held::Bytes(n) = open(5, &mut book) else {
+    let Held::Bytes(n) = open(terminal, 5, &mut book) else {
         return;
     };
-    if !has_day(first(&book, n), day) {
+    if !has_day(terminal, first(&book, n), day) {
         return;
     }
     let mut series = io::buffer();
-    let Held::Bytes(m) = path(6, &mut series) else {
+    let Held::Bytes(m) = path(terminal, 6, &mut series) else {
         return;
     };
-    reckon_with(member, first(&book, n), first(&series, m), day);
+    reckon_with(terminal, member, first(&book, n), first(&series, m), day);
 }
 
 // The member first, then the book, the day, the series.
-pub fn reckon_member() {
-    let Given::Line(member) = member_given() else {
+pub fn reckon_member(terminal: &Terminal) {
+    let Given::Line(member) = member_given(terminal) else {
         return;
     };
-    let Byte::Number(day) = byte_at(DAY) else {
+    let Byte::Number(day) = byte_at(terminal, DAY) else {
         return;
     };
     if !member.is_sound() {
-        refuse_member(member);
+        refuse_member(terminal, member);
         return;
     }
-    reckon_of(member, day);
+    reckon_of(terminal, member, day);
 }

@@ -4,6 +4,7 @@ ghost use Rattle.tally.specs.Room.{series_room, ReadsWithin};
 
 use clerk::args::{Held, first};
 use clerk::shelf::load;
+use say::Terminal;
 use tables::series::read_series;
 
 // The quarter hours of 31 days, and one place more, so that a series that is too long shows.
@@ -17,18 +18,18 @@ pub fn series_room() -> [u32; SERIES_ROOM]
 }
 
 // So many values were read; or nothing, and one line has said why.
-#[derive(Drop)]
+#[derive(Clone, Copy)]
 pub enum Values {
     Read(usize),
     Nothing,
 }
 
 // The values of a file's lines in the first places of `out`, as many as there is room for.
-pub fn read_file(path: &[u8], out: &mut [u32]) -> Values
+pub fn read_file(terminal: &Terminal, path: &[u8], out: &mut [u32]) -> Values
     ensures { ReadsWithin (length out.old) result }
 {
     let mut text = io::large_buffer();
-    let Held::Bytes(n) = load(path, &mut text) else {
+    let Held::Bytes(n) = load(terminal, path, &mut text) else {
         return Values::Nothing;
     };
     Values::Read(read_series(first(&text, n), out))

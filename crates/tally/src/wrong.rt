@@ -6,6 +6,7 @@ use clerk::args::first;
 use faults::words::{count_text, fault_text};
 use faults::{Found, Table, Walk, is_sound};
 use files::Loaded;
+use say::Terminal;
 use tables::series::read_series;
 use text::told::shown_text;
 use units::calendar::quarters_of;
@@ -14,14 +15,14 @@ use units::calendar::quarters_of;
 const LENGTH_PLACE: usize = 65535;
 
 // A fault's line, on a page.
-fn put_fault(page: &mut [u8], at: usize, name: &[u8], found: Found) -> usize {
+fn put_fault(terminal: &Terminal, page: &mut [u8], at: usize, name: &[u8], found: Found) -> usize {
     let mut line = io::large_buffer();
     let n = fault_text(Table::Register, name, found, &mut line);
-    say::add(page, at, &line[..n])
+    say::add(terminal, page, at, &line[..n])
 }
 
 // The faults of a register's text, a line each: no text has more of them than bytes, and one.
-fn tell_faults(name: &[u8], text: &[u8]) {
+fn tell_faults(terminal: &Terminal, name: &[u8], text: &[u8]) {
     let mut page = io::large_buffer();
     let mut at: usize = 0;
     let mut walk = Walk::start(Table::Register, text);
@@ -31,21 +32,21 @@ fn tell_faults(name: &[u8], text: &[u8]) {
         let found = told.found;
         let wrong = found.wrong;
         if is_sound(wrong) {
-            say::write_page(&page, at);
+            say::write_page(terminal, &page, at);
             return;
         }
-        at = put_fault(&mut page, at, name, found);
+        at = put_fault(terminal, &mut page, at, name, found);
         walk = told.walk;
         left -= 1;
     }
-    say::write_page(&page, at);
+    say::write_page(terminal, &page, at);
 }
 
 // The same by the file's name as it is given.
-pub fn tell_register(name: &[u8], text: &[u8]) {
+pub fn tell_register(terminal: &Terminal, name: &[u8], text: &[u8]) {
     let mut shown = io::buffer();
     let m = shown_text(name, &mut shown);
-    tell_faults(&shown[..m], text);
+    tell_faults(terminal, &shown[..m], text);
 }
 
 // Room for as many lines as a file has bytes.
@@ -56,7 +57,7 @@ fn lines_room() -> [u32; 65536]
 }
 
 // How many lines a series has, and how many the book's month wants.
-fn tell_count(name: &[u8], text: &[u8], book: &[u8]) {
+fn tell_count(terminal: &Terminal, name: &[u8], text: &[u8], book: &[u8]) {
     let o = header_of(book);
     if o.number != 0 {
         return;
@@ -67,11 +68,11 @@ fn tell_count(name: &[u8], text: &[u8], book: &[u8]) {
     let wanted = quarters_of(h.year, h.month) as u64;
     let mut line = io::large_buffer();
     let n = count_text(name, count as u64, h.year, h.month, wanted, &mut line);
-    say::text(&line[..n]);
+    say::text(terminal, &line[..n]);
 }
 
 // The first of its lines that is bad, if one is.
-fn tell_line(name: &[u8], text: &[u8]) {
+fn tell_line(terminal: &Terminal, name: &[u8], text: &[u8]) {
     let walk = Walk::start(Table::Series, text);
     let told = walk.next_fault(text);
     let found = told.found;
@@ -79,25 +80,25 @@ fn tell_line(name: &[u8], text: &[u8]) {
     if !is_sound(wrong) {
         let mut line = io::large_buffer();
         let n = fault_text(Table::Series, name, found, &mut line);
-        say::text(&line[..n]);
+        say::text(terminal, &line[..n]);
     }
 }
 
 // What is wrong with a series that was refused at a place, by the file's name as it is printed: the first bad line, and how many there are where they are not as many as the month has. A
 // blank line inside is both.
-fn tell_text(name: &[u8], text: &[u8], place: usize, book: &[u8]) {
-    tell_line(name, text);
+fn tell_text(terminal: &Terminal, name: &[u8], text: &[u8], place: usize, book: &[u8]) {
+    tell_line(terminal, name, text);
     if place == LENGTH_PLACE {
-        tell_count(name, text, book);
+        tell_count(terminal, name, text, book);
     }
 }
 
 // The same of the file at a path.
-pub fn tell_series(path: &[u8], place: usize, book: &[u8]) {
+pub fn tell_series(terminal: &Terminal, path: &[u8], place: usize, book: &[u8]) {
     let mut shown = io::buffer();
     let m = shown_text(path, &mut shown);
     let mut text = io::large_buffer();
-    if let Loaded::Whole(n) = files::load(path, &mut text) {
-        tell_text(&shown[..m], first(&text, n), place, book);
+    if let Loaded::Whole(n) = files::load(terminal.system(), path, &mut text) {
+        tell_text(terminal, &shown[..m], first(&text, n), place, book);
     }
 }

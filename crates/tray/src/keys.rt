@@ -6,10 +6,11 @@ use clerk::args::{Held, first};
 use clerk::print;
 use drawer::stale::{NextStale, Why, next_stale};
 use lookup::Place;
+use say::Terminal;
 use text::record::call_text;
 
 // What a book has for a key: nothing, the record that stands, or another, and why that does not stand.
-#[derive(Drop)]
+#[derive(Clone, Copy)]
 pub enum Own {
     Missing,
     Standing(Call),
@@ -47,16 +48,16 @@ fn own_in(book: &[u8], joined: &[u8], x: Call) -> Own {
 }
 
 // The same of the book that argument i names.
-pub fn own_of(i: usize, left: &mut [u8], joined: &[u8], x: Call) -> Own {
+pub fn own_of(terminal: &Terminal, i: usize, left: &mut [u8], joined: &[u8], x: Call) -> Own {
     let mut book = io::large_buffer();
-    let Held::Bytes(n) = take_book(i, left, &mut book) else {
+    let Held::Bytes(n) = take_book(terminal, i, left, &mut book) else {
         return Own::Missing;
     };
     own_in(first(&book, n), joined, x)
 }
 
-fn has_standing(i: usize, left: &mut [u8], joined: &[u8], x: Call) -> bool {
-    let own = own_of(i, left, joined, x);
+fn has_standing(terminal: &Terminal, i: usize, left: &mut [u8], joined: &[u8], x: Call) -> bool {
+    let own = own_of(terminal, i, left, joined, x);
     match own {
         Own::Missing => false,
         Own::Standing(_) => true,
@@ -65,11 +66,17 @@ fn has_standing(i: usize, left: &mut [u8], joined: &[u8], x: Call) -> bool {
 }
 
 // The first book that has the record that stands, or 0 where none has.
-pub fn holder_of(from: usize, left: &mut [u8], joined: &[u8], x: Call) -> usize {
-    let count = os::arg_count();
+pub fn holder_of(
+    terminal: &Terminal,
+    from: usize,
+    left: &mut [u8],
+    joined: &[u8],
+    x: Call,
+) -> usize {
+    let count = say::arguments(terminal);
     let mut i = from;
     while i < count {
-        if has_standing(i, left, joined, x) {
+        if has_standing(terminal, i, left, joined, x) {
             return i;
         }
         i += 1;
@@ -78,30 +85,30 @@ pub fn holder_of(from: usize, left: &mut [u8], joined: &[u8], x: Call) -> usize 
 }
 
 // A call, and what it is the call of.
-pub fn tell_call(what: &[u8], x: Call) {
+pub fn tell_call(terminal: &Terminal, what: &[u8], x: Call) {
     let mut line = io::buffer();
     let n = call_text(x, &mut line);
     if n == 0 {
         return;
     }
-    print::note(what, first(&line, n - 1));
+    print::note(terminal, what, first(&line, n - 1));
 }
 
 // The same of the book that argument i names; 0 is that of all books together.
-pub fn tell_call_of(i: usize, x: Call) {
+pub fn tell_call_of(terminal: &Terminal, i: usize, x: Call) {
     if i == 0 {
-        tell_call(b"joined", x);
+        tell_call(terminal, b"joined", x);
         return;
     }
     let mut name = io::buffer();
-    let n = os::arg(i, &mut name);
-    tell_call(&name[..n], x);
+    let n = say::word(terminal, i, &mut name);
+    tell_call(terminal, &name[..n], x);
 }
 
 // The call x, which stands, by a book that has it; nothing where a book is lost, for it may be the one.
-pub fn tell_standing(from: usize, left: &mut [u8], joined: &[u8], x: Call) {
-    let h = holder_of(from, left, joined, x);
-    if lost_at(from, left) == 0 {
-        tell_call_of(h, x);
+pub fn tell_standing(terminal: &Terminal, from: usize, left: &mut [u8], joined: &[u8], x: Call) {
+    let h = holder_of(terminal, from, left, joined, x);
+    if lost_at(terminal, from, left) == 0 {
+        tell_call_of(terminal, h, x);
     }
 }

@@ -4,9 +4,10 @@ use book::MOST_RECORDS;
 use clerk::args::{Held, first};
 use drawer::stale::{NextStale, StaleRecord, next_stale};
 use lookup::Index;
+use say::Terminal;
 
 // The joined book's records for whose keys some book has another; and the record at which a walk over a book goes on.
-#[derive(Drop)]
+#[derive(Clone, Copy)]
 pub struct Marks {
     pub each: [bool; MOST_RECORDS],
     pub next: usize,
@@ -74,21 +75,27 @@ fn mark_book(book: &[u8], joined: &[u8], before: Marks) -> Marks {
 }
 
 // Those of the book that argument i names.
-fn mark_file(i: usize, left: &mut [u8], joined: &[u8], before: Marks) -> Marks {
+fn mark_file(
+    terminal: &Terminal,
+    i: usize,
+    left: &mut [u8],
+    joined: &[u8],
+    before: Marks,
+) -> Marks {
     let mut book = io::large_buffer();
-    let Held::Bytes(n) = take_book(i, left, &mut book) else {
+    let Held::Bytes(n) = take_book(terminal, i, left, &mut book) else {
         return before;
     };
     mark_book(first(&book, n), joined, before)
 }
 
 // A pass over the books that are named from argument `from` on.
-pub fn marks_of(from: usize, left: &mut [u8], joined: &[u8]) -> Marks {
-    let count = os::arg_count();
+pub fn marks_of(terminal: &Terminal, from: usize, left: &mut [u8], joined: &[u8]) -> Marks {
+    let count = say::arguments(terminal);
     let mut marks = no_marks();
     let mut i = from;
     while i < count {
-        marks = mark_file(i, left, joined, marks);
+        marks = mark_file(terminal, i, left, joined, marks);
         i += 1;
     }
     marks

@@ -4,15 +4,16 @@ use clerk::args::{Held, first};
 use clerk::shelf::note_at;
 use drawer::nothing::adds_nothing;
 use node::{Node, node_of};
+use say::Terminal;
 
 // Whether the book that argument i names adds nothing to those that are not left out.
-fn is_spare(from: usize, i: usize, left: &mut [u8]) -> bool {
+fn is_spare(terminal: &Terminal, from: usize, i: usize, left: &mut [u8]) -> bool {
     let mut book = io::large_buffer();
-    let Held::Bytes(m) = take_book(i, left, &mut book) else {
+    let Held::Bytes(m) = take_book(terminal, i, left, &mut book) else {
         return false;
     };
     let mut all = io::large_buffer();
-    let n = join_others(from, i, left, &mut all);
+    let n = join_others(terminal, from, i, left, &mut all);
     if n == 0 {
         return false;
     }
@@ -20,26 +21,26 @@ fn is_spare(from: usize, i: usize, left: &mut [u8]) -> bool {
 }
 
 // Its turn: where it is listed, it is left out.
-fn spare_turn(from: usize, i: usize, left: &mut [u8]) {
-    if is_spare(from, i, left) {
+fn spare_turn(terminal: &Terminal, from: usize, i: usize, left: &mut [u8]) {
+    if is_spare(terminal, from, i, left) {
         leave(left, i, SPARE);
     }
 }
 
 // The turns, from the last to the first.
-fn turn_back(from: usize, left: &mut [u8]) {
-    let mut i = os::arg_count();
+fn turn_back(terminal: &Terminal, from: usize, left: &mut [u8]) {
+    let mut i = say::arguments(terminal);
     while from < i {
         i -= 1;
-        spare_turn(from, i, left);
+        spare_turn(terminal, from, i, left);
     }
 }
 
 // What the system says of the file that argument i names. Of a book that was read, that it is not there is not known to be so: it is lost.
-fn node_at(i: usize, left: &mut [u8]) -> Node {
+fn node_at(terminal: &Terminal, i: usize, left: &mut [u8]) -> Node {
     let mut name = io::buffer();
-    let n = os::arg(i, &mut name);
-    let node = node_of(&name[..n]);
+    let n = say::word(terminal, i, &mut name);
+    let node = node_of(terminal.system(), &name[..n]);
     if !node.there {
         leave(left, i, LOST);
     }
@@ -47,20 +48,20 @@ fn node_at(i: usize, left: &mut [u8]) -> Node {
 }
 
 // Whether argument j names another book with this mark, and it is the same file as that of argument i.
-fn is_twin(i: usize, j: usize, mark: u8, left: &mut [u8]) -> bool {
+fn is_twin(terminal: &Terminal, i: usize, j: usize, mark: u8, left: &mut [u8]) -> bool {
     if (i == j) | (mark_of(left, j) != mark) {
         return false;
     }
-    let one = node_at(i, left);
-    one.is_same(node_at(j, left))
+    let one = node_at(terminal, i, left);
+    one.is_same(node_at(terminal, j, left))
 }
 
 // Whether a book with this mark, named from argument `from` on, is the same file as that of argument i.
-fn has_twin(from: usize, i: usize, mark: u8, left: &mut [u8]) -> bool {
-    let count = os::arg_count();
+fn has_twin(terminal: &Terminal, from: usize, i: usize, mark: u8, left: &mut [u8]) -> bool {
+    let count = say::arguments(terminal);
     let mut j = from;
     while j < count {
-        if is_twin(i, j, mark, left) {
+        if is_twin(terminal, i, j, mark, left) {
             return true;
         }
         j += 1;
@@ -70,17 +71,18 @@ fn has_twin(from: usize, i: usize, mark: u8, left: &mut [u8]) -> bool {
 
 // That the book of argument i, which is listed, adds nothing, and one more. Who names one file twice must not put it away where it stays by the other name; where neither
 // stays, it is told once. Nothing is told where a book is lost meanwhile.
-fn tell_listed(from: usize, i: usize, left: &mut [u8], spare: usize) -> usize {
+fn tell_listed(terminal: &Terminal, from: usize, i: usize, left: &mut [u8], spare: usize) -> usize {
     if mark_of(left, i) != SPARE {
         return spare;
     }
-    let stays = has_twin(from, i, STAYS, left);
-    let is_told = has_twin(more(i), i, SPARE, left);
-    if lost_at(from, left) != 0 {
+    let stays = has_twin(terminal, from, i, STAYS, left);
+    let is_told = has_twin(terminal, more(i), i, SPARE, left);
+    if lost_at(terminal, from, left) != 0 {
         return spare;
     }
     if stays {
         note_at(
+            terminal,
             i,
             b"is the same file as another book that is named: keep it",
         );
@@ -89,31 +91,31 @@ fn tell_listed(from: usize, i: usize, left: &mut [u8], spare: usize) -> usize {
     if is_told {
         return spare;
     }
-    note_at(i, b"adds nothing to the other books that stay");
+    note_at(terminal, i, b"adds nothing to the other books that stay");
     more(spare)
 }
 
 // All that are listed, from the last to the first: how many are told.
-fn tell_back(from: usize, left: &mut [u8]) -> usize {
+fn tell_back(terminal: &Terminal, from: usize, left: &mut [u8]) -> usize {
     let mut spare: usize = 0;
-    let mut i = os::arg_count();
+    let mut i = say::arguments(terminal);
     while from < i {
         i -= 1;
-        spare = tell_listed(from, i, left, spare);
+        spare = tell_listed(terminal, from, i, left, spare);
     }
     spare
 }
 
 // How many of the books that are named from argument `from` on and not left out add nothing. Where one is lost meanwhile, that is marked.
-pub fn tell_spare(from: usize, left: &mut [u8]) -> usize {
+pub fn tell_spare(terminal: &Terminal, from: usize, left: &mut [u8]) -> usize {
     let mut listed = io::large_buffer();
     if listed.len() < left.len() {
         return 0;
     }
-    bytes::copy(left, &mut listed);
-    turn_back(from, &mut listed);
-    let spare = tell_back(from, &mut listed);
-    let lost = lost_at(from, &listed);
+    node::copy(left, &mut listed);
+    turn_back(terminal, from, &mut listed);
+    let spare = tell_back(terminal, from, &mut listed);
+    let lost = lost_at(terminal, from, &listed);
     if lost != 0 {
         leave(left, lost, LOST);
     }

@@ -5,6 +5,7 @@ use book::write::write_one;
 use book::{call_of, header_of};
 use call::service::START_STOP;
 use call::{Call, LIVE};
+use say::Terminal;
 
 // A start-stop, live at a revision.
 fn live(revision: u32, minutes: u16) -> Call {
@@ -30,42 +31,49 @@ fn joined(before: &[u8], x: Call, out: &mut [u8]) {
 }
 
 // The only call of a book of one.
-fn tell_only(name: &[u8], book: &[u8]) {
+fn tell_only(terminal: &Terminal, name: &[u8], book: &[u8]) {
     let o = header_of(book);
     if o.number != 0 {
         return;
     }
     if 0 < o.calls {
-        tell::record(name, call_of(book, 0));
+        tell::record(terminal, name, call_of(book, 0));
     }
 }
 
-fn two(name: &[u8], x: Call, y: Call) {
+fn two(terminal: &Terminal, name: &[u8], x: Call, y: Call) {
     let mut first = [0u8; 48];
     let mut out = [0u8; 48];
     write_one(january(), x, &mut first);
     joined(&first, y, &mut out);
-    tell_only(name, &out);
+    tell_only(terminal, name, &out);
 }
 
-fn three(name: &[u8], x: Call, y: Call, z: Call) {
+fn three(terminal: &Terminal, name: &[u8], x: Call, y: Call, z: Call) {
     let mut first = [0u8; 48];
     let mut second = [0u8; 48];
     let mut out = [0u8; 48];
     write_one(january(), x, &mut first);
     joined(&first, y, &mut second);
     joined(&second, z, &mut out);
-    tell_only(name, &out);
+    tell_only(terminal, name, &out);
 }
 
-pub fn all() {
+pub fn all(terminal: &Terminal) {
     two(
+        terminal,
         b"withdrawn at 2 and live at 7",
         live(2, 300).withdrawn(),
         live(7, 300),
     );
-    two(b"two unequal live at 3", live(3, 300), live(3, 240));
+    two(
+        terminal,
+        b"two unequal live at 3",
+        live(3, 300),
+        live(3, 240),
+    );
     three(
+        terminal,
         b"those two and a live at 4",
         live(3, 300),
         live(3, 240),

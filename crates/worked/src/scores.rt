@@ -5,6 +5,7 @@ use book::write::write_one;
 use call::service::{BLACK_START, DEEP_PEAK, FREQUENCY_EVENT, RESERVE, START_STOP};
 use call::{Call, LIVE};
 use pay::Member;
+use say::Terminal;
 use score::score;
 use units::Kw;
 
@@ -41,15 +42,15 @@ fn live(number: u32, service: u8, minutes: u16, a: i32, b: u32) -> Call {
 }
 
 // The score over a book of one record, the output the same all month.
-fn one(name: &[u8], member: Member, output: Kw, x: Call) {
+fn one(terminal: &Terminal, name: &[u8], member: Member, output: Kw, x: Call) {
     let mut b = [0u8; 48];
     write_one(january(), x, &mut b);
     let series = [output.0; 2976];
-    tell::score(name, score(member, &b, &series));
+    tell::score(terminal, name, score(member, &b, &series));
 }
 
 // The score over two books of one record, joined.
-fn two(name: &[u8], member: Member, x: Call, y: Call) {
+fn two(terminal: &Terminal, name: &[u8], member: Member, x: Call, y: Call) {
     let mut first = [0u8; 48];
     let mut second = [0u8; 48];
     let mut both = [0u8; 80];
@@ -57,12 +58,13 @@ fn two(name: &[u8], member: Member, x: Call, y: Call) {
     write_one(january(), y, &mut second);
     join::join(&first, &second, &mut both);
     let series = [0u32; 2976];
-    tell::score(name, score(member, &both, &series));
+    tell::score(terminal, name, score(member, &both, &series));
 }
 
-pub fn windows() {
+pub fn windows(terminal: &Terminal) {
     let deep_peak = live(1, DEEP_PEAK, 15, 0, 0);
     one(
+        terminal,
         b"coal 300001, deep peak at 150000",
         member(1, Kw(300_001)),
         Kw(150_000),
@@ -71,18 +73,21 @@ pub fn windows() {
     let coal = member(1, Kw(300_000));
     let reserve = live(1, RESERVE, 15, 300_000, 0);
     one(
+        terminal,
         b"coal 300000, reserve at 209999",
         coal,
         Kw(209_999),
         reserve,
     );
     one(
+        terminal,
         b"coal 300000, reserve at 210000",
         coal,
         Kw(210_000),
         reserve,
     );
     one(
+        terminal,
         b"coal 300000, reserve at 210001",
         coal,
         Kw(210_001),
@@ -90,15 +95,17 @@ pub fn windows() {
     );
 }
 
-pub fn rates() {
+pub fn rates(terminal: &Terminal) {
     let coal = member(1, Kw(300_000));
     one(
+        terminal,
         b"coal 300000, start-stop 4320",
         coal,
         Kw(0),
         live(1, START_STOP, 4_320, 0, 0),
     );
     one(
+        terminal,
         b"coal 300000, start-stop 4321",
         coal,
         Kw(0),
@@ -106,12 +113,14 @@ pub fn rates() {
     );
     let black_start = live(1, BLACK_START, 0, 0, 0);
     one(
+        terminal,
         b"hydro 3000000, black start",
         member(3, Kw(3_000_000)),
         Kw(0),
         black_start,
     );
     one(
+        terminal,
         b"hydro 3000001, black start",
         member(3, Kw(3_000_001)),
         Kw(0),
@@ -119,27 +128,31 @@ pub fn rates() {
     );
 }
 
-pub fn wind() {
+pub fn wind(terminal: &Terminal) {
     let wind = member(4, Kw(100_000));
     one(
+        terminal,
         b"wind 7999",
         wind,
         Kw(0),
         live(1, FREQUENCY_EVENT, 0, 0, 7_999),
     );
     one(
+        terminal,
         b"wind 8000",
         wind,
         Kw(0),
         live(1, FREQUENCY_EVENT, 0, 0, 8_000),
     );
     one(
+        terminal,
         b"wind 8999",
         wind,
         Kw(0),
         live(1, FREQUENCY_EVENT, 0, 0, 8_999),
     );
     one(
+        terminal,
         b"wind 9000",
         wind,
         Kw(0),
@@ -147,15 +160,17 @@ pub fn wind() {
     );
 }
 
-pub fn events() {
+pub fn events(terminal: &Terminal) {
     let coal = member(1, Kw(100_000));
     two(
+        terminal,
         b"events -500 and 300",
         coal,
         live(1, FREQUENCY_EVENT, 0, -500, 400),
         live(2, FREQUENCY_EVENT, 0, 300, 400),
     );
     one(
+        terminal,
         b"event 500",
         coal,
         Kw(0),

@@ -1,13 +1,14 @@
 // Grains to fen, and the sharing sums.
+use say::Terminal;
 use share::{Line, Shared, share};
 use units::{Fen, Grains, Mwh, SignedFen, Thousandths};
 
-pub fn grains(n: u64) {
-    say::number(n);
-    say::text(b" grains: ");
+pub fn grains(terminal: &Terminal, n: u64) {
+    say::number(terminal, n);
+    say::text(terminal, b" grains: ");
     let fen = Grains(n).to_fen();
-    say::number(fen.0);
-    say::text(b" fen\n");
+    say::number(terminal, fen.0);
+    say::text(terminal, b" fen\n");
 }
 
 fn line(number: u16, status: u8, energy: Mwh, compensation: Fen, assessment: Thousandths) -> Line {
@@ -22,67 +23,68 @@ fn line(number: u16, status: u8, energy: Mwh, compensation: Fen, assessment: Tho
     }
 }
 
-fn tell_line(l: Line) {
-    say::text(b"; ");
-    say::number(l.number as u64);
-    say::text(b" ");
-    say::money(l.share);
-    say::text(b" ");
-    say::money(l.amount);
+fn tell_line(terminal: &Terminal, l: Line) {
+    say::text(terminal, b"; ");
+    say::number(terminal, l.number as u64);
+    say::text(terminal, b" ");
+    say::money(terminal, l.share);
+    say::text(terminal, b" ");
+    say::money(terminal, l.amount);
 }
 
 // What a sharing says besides its lines: a refusal's number and place, or R.
-fn tell_head(name: &[u8], s: Shared) {
-    say::text(name);
+fn tell_head(terminal: &Terminal, name: &[u8], s: Shared) {
+    say::text(terminal, name);
     if s.number != 0 {
-        say::text(b": refused ");
-        say::number(s.number as u64);
-        say::text(b" ");
-        say::number(s.place as u64);
+        say::text(terminal, b": refused ");
+        say::number(terminal, s.number as u64);
+        say::text(terminal, b" ");
+        say::number(terminal, s.place as u64);
     } else {
-        say::text(b": total ");
-        say::money(s.gap);
+        say::text(terminal, b": total ");
+        say::money(terminal, s.gap);
     }
 }
 
-fn tell_user(s: Shared) {
+fn tell_user(terminal: &Terminal, s: Shared) {
     if s.number == 0 {
-        say::text(b"; user ");
-        say::money(s.user);
+        say::text(terminal, b"; user ");
+        say::money(terminal, s.user);
     }
-    say::text(b"\n");
+    say::text(terminal, b"\n");
 }
 
 // The sharing of three lines, and none behind them counts: R, then number, share and amount of each, then the user's amount.
-fn three(name: &[u8], part: u32, a: Line, b: Line, c: Line) {
+fn three(terminal: &Terminal, name: &[u8], part: u32, a: Line, b: Line, c: Line) {
     let mut lines = [a; 64];
     lines[1] = b;
     lines[2] = c;
     let s = share(part, lines, 3);
-    tell_head(name, s);
+    tell_head(terminal, name, s);
     if s.number == 0 {
         let filled = s.lines;
-        tell_line(filled[0]);
-        tell_line(filled[1]);
-        tell_line(filled[2]);
+        tell_line(terminal, filled[0]);
+        tell_line(terminal, filled[1]);
+        tell_line(terminal, filled[2]);
     }
-    tell_user(s);
+    tell_user(terminal, s);
 }
 
 // The sharing of one line.
-fn alone(name: &[u8], part: u32, a: Line) {
+fn alone(terminal: &Terminal, name: &[u8], part: u32, a: Line) {
     let s = share(part, [a; 64], 1);
-    tell_head(name, s);
+    tell_head(terminal, name, s);
     if s.number == 0 {
         let filled = s.lines;
-        tell_line(filled[0]);
+        tell_line(terminal, filled[0]);
     }
-    tell_user(s);
+    tell_user(terminal, s);
 }
 
 // Compensation 100 fen, no assessment, three equal energies above zero at status 0.
-pub fn three_equal() {
+pub fn three_equal(terminal: &Terminal) {
     three(
+        terminal,
         b"100 fen over three",
         10_000,
         line(1, 0, Mwh(500), Fen(100), Thousandths(0)),
@@ -92,8 +94,9 @@ pub fn three_equal() {
 }
 
 // The lines that the program `statement` is shown with, with a part for the generators.
-fn sample(name: &[u8], part: u32) {
+fn sample(terminal: &Terminal, name: &[u8], part: u32) {
     three(
+        terminal,
         name,
         part,
         line(1, 0, Mwh(100), Fen(300_000), Thousandths(0)),
@@ -102,27 +105,30 @@ fn sample(name: &[u8], part: u32) {
     );
 }
 
-pub fn statement() {
-    sample(b"statement", 10_000);
+pub fn statement(terminal: &Terminal) {
+    sample(terminal, b"statement", 10_000);
 }
 
 // Part of the gap goes to consumers: the generators' R is cut toward zero, and 16 asks for it alone.
-pub fn parts() {
-    sample(b"statement, part 5000", 5_000);
-    sample(b"statement, part 3333", 3_333);
-    sample(b"statement, part 0", 0);
-    sample(b"statement, part 10001", 10_001);
+pub fn parts(terminal: &Terminal) {
+    sample(terminal, b"statement, part 5000", 5_000);
+    sample(terminal, b"statement, part 3333", 3_333);
+    sample(terminal, b"statement, part 0", 0);
+    sample(terminal, b"statement, part 10001", 10_001);
     alone(
+        terminal,
         b"200001 fen, part 5000",
         5_000,
         line(1, 0, Mwh(100), Fen(200_001), Thousandths(0)),
     );
     alone(
+        terminal,
         b"9999 fen without energy, part 1",
         1,
         line(1, 0, Mwh(0), Fen(9_999), Thousandths(0)),
     );
     alone(
+        terminal,
         b"10000 fen without energy, part 1",
         1,
         line(1, 0, Mwh(0), Fen(10_000), Thousandths(0)),

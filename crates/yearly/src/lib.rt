@@ -1,33 +1,36 @@
 // The year at the desk: the statements that `desk month` wrote, taken one by one in the order of the months, and the table of the year.
+#![tactic(auto)]
+
 use annual::year_text;
 use clerk::args::{Held, first};
 use clerk::print;
 use clerk::shelf::{load_at, note_at, refused_at};
 use intake::Intake;
 use intake::told::reason_text;
+use say::Terminal;
 
 // The argument that names the first statement.
 const STATEMENTS: usize = 2;
 
 // The statements so far, and whether there is no more to say of them: one could not be read, or was refused, and that was told.
-#[derive(Drop)]
+#[derive(Clone, Copy)]
 struct Run {
     intake: Intake,
     over: bool,
 }
 
 // Why the statement that argument i names is not taken behind those before it, in words, and its refusal.
-fn tell_reason(i: usize, before: Intake, text: &[u8], place: usize) {
+fn tell_reason(terminal: &Terminal, i: usize, before: Intake, text: &[u8], place: usize) {
     let year = before.year;
     let reason = before.reason(text);
     let mut why = io::buffer();
     let n = reason_text(before.area, year.year, year.month, reason, &mut why);
-    note_at(i, first(&why, n));
-    refused_at(10, place, i);
+    note_at(terminal, i, first(&why, n));
+    refused_at(terminal, 10, place, i);
 }
 
 // The statement that argument i names, behind those before it.
-fn next(i: usize, run: Run) -> Run {
+fn next(terminal: &Terminal, i: usize, run: Run) -> Run {
     let before = run.intake;
     let stopped = Run {
         intake: before,
@@ -37,13 +40,13 @@ fn next(i: usize, run: Run) -> Run {
         return run;
     }
     let mut text = io::large_buffer();
-    let Held::Bytes(n) = load_at(i, &mut text) else {
+    let Held::Bytes(n) = load_at(terminal, i, &mut text) else {
         return stopped;
     };
     let intake = before.with(first(&text, n));
     let year = intake.year;
     if year.number != 0 {
-        tell_reason(i, before, first(&text, n), year.place);
+        tell_reason(terminal, i, before, first(&text, n), year.place);
         return stopped;
     }
     Run {
@@ -53,8 +56,8 @@ fn next(i: usize, run: Run) -> Run {
 }
 
 // All statements that are named.
-fn take_all() -> Run {
-    let count = os::arg_count();
+fn take_all(terminal: &Terminal) -> Run {
+    let count = say::arguments(terminal);
     let intake = Intake::start();
     let mut run = Run {
         intake,
@@ -62,15 +65,15 @@ fn take_all() -> Run {
     };
     let mut i = STATEMENTS;
     while i < count {
-        run = next(i, run);
+        run = next(terminal, i, run);
         i += 1;
     }
     run
 }
 
 // The year of the statements that the arguments name.
-pub fn tell_year() {
-    let run = take_all();
+pub fn tell_year(terminal: &Terminal) {
+    let run = take_all(terminal);
     if run.over {
         return;
     }
@@ -79,6 +82,6 @@ pub fn tell_year() {
     let mut text = io::large_buffer();
     let n = year_text(taken.area, year, &mut text);
     let mut page = io::large_buffer();
-    let end = say::add(&mut page, 0, first(&text, n));
-    print::finish(&mut page, end);
+    let end = say::add(terminal, &mut page, 0, first(&text, n));
+    print::finish(terminal, &mut page, end);
 }
