@@ -20,7 +20,6 @@ use Rattle.pay.specs.declared.open.Month.{Month}
 use Rattle.pay.specs.Sum.{total, total_z}
 use Rattle.pay.specs.Event.{energy_pay}
 use Rattle.pay.specs.Open.{open_to}
-use Rattle.pay.proofs.OpenExact.{open_of, of_open}
 use Rattle.pay.proofs.Sums.{total_none, total_one, total_split, total_z_none, total_z_suc}
 use Rattle.score.specs.declared.answer.Score.{Score}
 use Rattle.score.specs.declared.answer.Earned.TheVariants.{Accepted}
@@ -90,7 +89,7 @@ module _ (month : Month) (m : Member) (book : ℕ → Call) (i : ℕ) where
   passes_own : OwnLive m (book i) → Passes month m book i → (open_to month m (book i) ≡ true) × ((j : ℕ) → j < i → Against m.number (book i) (book j) → ⊥)
   passes_own o (other n) = absurd (n o.own)
   passes_own o (gone p q) = absurd (let s = o.live in omega arith)
-  passes_own o (good p q t n) = (of_open month m (book i) t, n)
+  passes_own o (good p q t n) = (t, n)
 
   passes_not : (book i).participant ≡ m.number → (book i).state ≡ contested → Passes month m book i → ⊥
   passes_not p q (other n) = n p
@@ -139,7 +138,7 @@ module _ (month : Month) (m : Member) (b : List ℕ) (ok : check b ≡ accepted)
       stated p (no q) (yes c) = absurd (s.uncontested (record_at b k) (place_call b k l) p c)
       stated p (no q) (no c) =
           let z : (record_at b k).state ≡ live = omega (arith, low) in
-          good p z (open_of month m (record_at b k) (s.each_open (record_at b k) (place_call b k l) (record { own = p; live = z }))) (against p z)
+          good p z (s.each_open (record_at b k) (place_call b k l) (record { own = p; live = z })) (against p z)
 
       own : Dec ((record_at b k).participant ≡ m.number) → Passes month m (record_at b) k
       own (no p) = other p

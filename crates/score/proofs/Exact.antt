@@ -22,9 +22,7 @@ use Rattle.pay.specs.declared.Member.{Member}
 use Rattle.pay.specs.declared.open.Month.{Month}
 use Rattle.pay.specs.Member.{member_is_sound, MemberWithin}
 use Rattle.pay.specs.Open.{open_to}
-use Rattle.pay.specs.OpenRows.{Open}
 use Rattle.pay.proofs.Within.{line_of, of_line_lem}
-use Rattle.pay.proofs.OpenExact.{open_of, of_open}
 use Rattle.score.specs.declared.answer.Score.{Score}
 use Rattle.score.specs.declared.answer.Earned.{Earned}
 use Rattle.score.specs.declared.answer.Earned.TheVariants.{Accepted, Refused}
@@ -121,8 +119,8 @@ any_some f (suc n) h =
 data Judged (month : Month) (m : Member) (book : ℕ → Call) (i : ℕ) : Type 0 where
   passed : refusal_at month m book i ≡ 0 → Passes month m book i → Judged month m book i
   contests : refusal_at month m book i ≡ 14 → (book i).participant ≡ m.number → (book i).state ≡ contested → Judged month m book i
-  shut : refusal_at month m book i ≡ 12 → (book i).participant ≡ m.number → (book i).state ≡ live → (Open month m (book i) → ⊥) → Judged month m book i
-  stopped : (j : ℕ) → refusal_at month m book i ≡ 13 → (book i).participant ≡ m.number → (book i).state ≡ live → Open month m (book i)
+  shut : refusal_at month m book i ≡ 12 → (book i).participant ≡ m.number → (book i).state ≡ live → (open_to month m (book i) ≡ true → ⊥) → Judged month m book i
+  stopped : (j : ℕ) → refusal_at month m book i ≡ 13 → (book i).participant ≡ m.number → (book i).state ≡ live → open_to month m (book i) ≡ true
       → j < i → Against m.number (book i) (book j) → Judged month m book i
 
 module _ (month : Month) (m : Member) (book : ℕ → Call) (i : ℕ) (low : (book i).state ≤ withdrawn) where
@@ -134,13 +132,13 @@ module _ (month : Month) (m : Member) (book : ℕ → Call) (i : ℕ) (low : (bo
   judged = own (ℕ_discrete (book i).participant m.number)
     where
       is_live : (book i).participant ≡ m.number → (book i).state ≡ live → (t : Bool) → open_to month m (book i) ≡ t → (u : Bool) → any_below against i ≡ u → Judged month m book i
-      is_live p s false o u a = shut (refuse_live month m book i p s false u (sym o) (sym a)) p s (λ q. holds_or_fails (of_open month m (book i) q) o)
+      is_live p s false o u a = shut (refuse_live month m book i p s false u (sym o) (sym a)) p s (λ q. holds_or_fails q o)
       is_live p s true o false a =
           passed (refuse_live month m book i p s true false (sym o) (sym a))
-          (good p s (open_of month m (book i) o) (λ j l g. holds_or_fails (of_against m.number (book i) (book j) g) (any_not against i a j l)))
+          (good p s o (λ j l g. holds_or_fails (of_against m.number (book i) (book j) g) (any_not against i a j l)))
       is_live p s true o true a =
           let e = any_some against i a in
-          stopped e.0 (refuse_live month m book i p s true true (sym o) (sym a)) p s (open_of month m (book i) o) e.1 (against_of m.number (book i) (book e.0) e.2)
+          stopped e.0 (refuse_live month m book i p s true true (sym o) (sym a)) p s o e.1 (against_of m.number (book i) (book e.0) e.2)
 
       is_contest : (book i).participant ≡ m.number → ((book i).state ≡ withdrawn → ⊥) → Dec ((book i).state ≡ contested) → Judged month m book i
       is_contest p two (yes q) = contests (refuse_contested month m book i p q) p q
@@ -290,7 +288,7 @@ module _ (month : Month) (m : Member) (book : ℕ → Call) (i : ℕ) where
   unfolding number_of
   of_passes (other p) = refuse_other month m book i p
   of_passes (gone p q) = refuse_withdrawn month m book i p q
-  of_passes (good p q o n) = refuse_live month m book i p q true false (sym (of_open month m (book i) o)) (sym (any_zero against i (λ j l. not_yes (against j) (λ h. n j l (at j h)))))
+  of_passes (good p q o n) = refuse_live month m book i p q true false (sym o) (sym (any_zero against i (λ j l. not_yes (against j) (λ h. n j l (at j h)))))
     where
       against : ℕ → Bool
       against = clash_at m.number (book i) book
@@ -329,13 +327,11 @@ module _ (m : Member) (b series : List ℕ) where
       e ∙ sym (faulty f (refused 11 i) (series_value series (quarters m b series) s i (sym at) l) (λ z. omega arith))
   decides r (is_contested_lem i e t q) = e ∙ sym (turned i 14 t (refuse_contested (month_at b) m (record_at b) i t.own q) (λ z. omega arith))
   decides r (not_open_lem i e t q n) =
-      let shut = not_yes (open_to (month_at b) m (record_at b i)) (λ o. n (open_of (month_at b) m (record_at b i) o)) in
-      e ∙ sym (turned i 12 t (refuse_live (month_at b) m (record_at b) i t.own q false _ (sym shut) refl) (λ z. omega arith))
+      e ∙ sym (turned i 12 t (refuse_live (month_at b) m (record_at b) i t.own q false _ (sym (not_yes (open_to (month_at b) m (record_at b i)) n)) refl) (λ z. omega arith))
   decides r (stands_against_lem i j e t q o l a) =
       let x = record_at b i in
       let h = clash_at_lem m.number x (record_at b) j ∙ of_against m.number x (record_at b j) a in
-      let fit = of_open (month_at b) m x o in
-      e ∙ sym (turned i 13 t (refuse_live (month_at b) m (record_at b) i t.own q true true (sym fit) (sym (any_hit (clash_at m.number x (record_at b)) j i l h))) (λ z. omega arith))
+      e ∙ sym (turned i 13 t (refuse_live (month_at b) m (record_at b) i t.own q true true (sym o) (sym (any_hit (clash_at m.number x (record_at b)) j i l h))) (λ z. omega arith))
   decides r (scored g e ready clear d) =
       e ∙ ap (λ (k : ℕ). in_fen (Accepted (record { 0 = k }))) d
       ∙ sym (score_is m b series _ (ready_records ready ∙ records_sum (month_at b) m series (record_at b) (count_at b) (clear_first (count_at b) clear)))

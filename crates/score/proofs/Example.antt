@@ -2,7 +2,6 @@
 use mathlib.Core.Path.{◌≡◌, refl, sym, ◌∙◌}
 use mathlib.Core.Bool.{true≢false}
 use mathlib.Core.List.{List}
-use mathlib.Core.Logic.{inl}
 use Prim.Native.Nat.{ℕ, zero, suc}
 use native.Mathlib.Omega.{arith}
 use lib.Dec.{lit≤}
@@ -19,11 +18,9 @@ use Rattle.pay.specs.Kinds.{coal, wind}
 use Rattle.pay.specs.Sum.{total, total_z}
 use Rattle.pay.specs.Member.{member_is_sound, MemberWithin, is_by_rate}
 use Rattle.pay.proofs.Within.{line_of}
-use Rattle.pay.proofs.OpenExact.{of_open}
 use Rattle.pay.specs.Rate.{start_stop_rate, rate_of, rated_pay}
 use Rattle.pay.specs.Event.{clamp, energy_pay}
 use Rattle.pay.specs.Open.{is_zero, event_open, open_to}
-use Rattle.pay.specs.OpenRows.{start_stop_coal_gas_hydro}
 use Rattle.pay.specs.Live.{live_pay, live_wh}
 use Rattle.score.specs.Scoring.{is_own_live, pay_of, wh_of, pay_at, wh_at, month_grains, month_at, score_refused, scoring}
 use Rattle.score.specs.Outcomes.{ValuesWithin, Ready, Passes, other, good, Clear, RecordsTurn, scored, not_open_lem}
@@ -53,8 +50,8 @@ module _ (series : List ℕ) (month : length series ≡ 2688) (within : ValuesWi
 
   -- coal's stop is open to it, and no call comes before it
   stop_passes : Passes (month_at bytes) member7 (record_at bytes) 0
-  unfolding bytes record_at call_at le_at
-  stop_passes = good refl refl (start_stop_coal_gas_hydro refl (inl refl)) (λ j l. absurd (omega (arith, l)))
+  unfolding bytes record_at call_at le_at open_to
+  stop_passes = good refl refl refl (λ j l. absurd (omega (arith, l)))
 
   event_passes : Passes (month_at bytes) member7 (record_at bytes) 1
   unfolding bytes record_at call_at le_at
@@ -90,7 +87,7 @@ module _ (series : List ℕ) (month : length series ≡ 2688) (within : ValuesWi
   -- wind's events have a = 0, and this one has a = −70,000: 12, told at record 1 of the book
   pub format_book_refused : scoring member9 bytes series ≡ score_refused 12 1
   unfolding bytes record_at call_at le_at open_to event_open is_by_rate is_zero
-  format_book_refused = sym ((outcome_exact member9 bytes series _).1 (not_open_lem 1 refl event_turn refl (λ o. true≢false (sym (of_open (month_at bytes) member9 (record_at bytes 1) o)))))
+  format_book_refused = sym ((outcome_exact member9 bytes series _).1 (not_open_lem 1 refl event_turn refl (λ e. true≢false (sym e))))
 
 -- there are such series: a month without output
 still_within : ValuesWithin (still 2688) 2688

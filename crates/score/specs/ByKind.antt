@@ -1,5 +1,5 @@
 -- Scoring as it was before a service ended with a month: what is open goes by the kind alone. Only what request 9 is held against; no contract cites it. Assumes nothing.
-use Rattle.std.specs.Prelude.{Bool, true, cond, not, ◌||◌, List, ℕ, eqb, ltb}
+use Rattle.std.specs.Prelude.{◌≡◌, Bool, true, cond, not, ◌||◌, List, ◌⊎◌, ℕ, ◌<◌, eqb, ltb}
 use Rattle.units.specs.Month.{quarters_of}
 use Rattle.call.specs.declared.Call.{Call}
 use Rattle.call.specs.Revising.{contested, withdrawn}
@@ -7,6 +7,7 @@ use Rattle.call.specs.Services.{deep_peak, reserve, start_stop, standby, black_s
 use Rattle.book.specs.Book.{header_at, count_at, record_at}
 use Rattle.book.specs.Check.{check}
 use Rattle.pay.specs.declared.Member.{Member}
+use Rattle.pay.specs.declared.open.Month.{Month}
 use Rattle.pay.specs.Kinds.{coal, gas, hydro, closed}
 use Rattle.pay.specs.Member.{member_is_sound, has_availability}
 use Rattle.pay.specs.Open.{reserve_open, event_open}
@@ -56,3 +57,7 @@ scoring_by_kind m b series =
     (after (check b)
     (after (series_fault series (quarters_of (header_at b).year (header_at b).month))
     (earned_by_kind m series (record_at b) (count_at b)))))
+
+-- a month comes before another: it is of an earlier year, or of the same year and an earlier month
+abbrev pub Before : Month → Month → Type 0
+Before month other = (month.year < other.year) ⊎ (month.year ≡ other.year) × (month.month < other.month)

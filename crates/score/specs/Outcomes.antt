@@ -1,5 +1,5 @@
 -- What scoring answers exactly when: a row for each refusal and one for a score, each with its condition and with those before it not met. Assumes nothing.
-use Rattle.std.specs.Prelude.{◌≡◌, List, ◌⊎◌, ℕ, ◌+◌, ◌≤◌, ◌<◌, get_or, length}
+use Rattle.std.specs.Prelude.{◌≡◌, true, List, ◌⊎◌, ℕ, ◌+◌, ◌≤◌, ◌<◌, get_or, length}
 use Rattle.units.specs.Month.{quarters_of}
 use Rattle.units.specs.Money.{grains_to_fen}
 use Rattle.call.specs.declared.Call.{Call}
@@ -10,7 +10,7 @@ use Rattle.book.specs.Check.{accepted, check}
 use Rattle.pay.specs.declared.Member.{Member}
 use Rattle.pay.specs.declared.open.Month.{Month}
 use Rattle.pay.specs.Member.{MemberWithin}
-use Rattle.pay.specs.OpenRows.{Open}
+use Rattle.pay.specs.Open.{open_to}
 use Rattle.score.specs.declared.answer.Score.{Score}
 use Rattle.score.specs.Series.{most_output, length_place}
 use Rattle.score.specs.Scoring.{month_grains, month_at, score_refused}
@@ -49,7 +49,7 @@ pub data Against (number : ℕ) (x y : Call) : Type 0 where
 pub data Passes (month : Month) (m : Member) (book : ℕ → Call) (i : ℕ) : Type 0 where
   other : ((book i).participant ≡ m.number → ⊥) → Passes month m book i
   gone : (book i).participant ≡ m.number → (book i).state ≡ withdrawn → Passes month m book i
-  good : (book i).participant ≡ m.number → (book i).state ≡ live → Open month m (book i)
+  good : (book i).participant ≡ m.number → (book i).state ≡ live → open_to month m (book i) ≡ true
       → ((j : ℕ) → j < i → Against m.number (book i) (book j) → ⊥) → Passes month m book i
 
 -- the records before record i raise none
@@ -72,8 +72,8 @@ pub data ScoreOutcome (m : Member) (b series : List ℕ) (r : Score) : Type 0 wh
       → i < length series → ValuesWithin series i → most_output < get_or series i 0 → ScoreOutcome m b series r
   is_contested_lem : (i : ℕ) → r ≡ score_refused 14 i → RecordsTurn m b series i → (record_at b i).state ≡ contested → ScoreOutcome m b series r
   not_open_lem : (i : ℕ) → r ≡ score_refused 12 i → RecordsTurn m b series i → (record_at b i).state ≡ live
-      → (Open (month_at b) m (record_at b i) → ⊥) → ScoreOutcome m b series r
+      → (open_to (month_at b) m (record_at b i) ≡ true → ⊥) → ScoreOutcome m b series r
   stands_against_lem : (i j : ℕ) → r ≡ score_refused 13 i → RecordsTurn m b series i → (record_at b i).state ≡ live
-      → Open (month_at b) m (record_at b i) → j < i → Against m.number (record_at b i) (record_at b j) → ScoreOutcome m b series r
+      → open_to (month_at b) m (record_at b i) ≡ true → j < i → Against m.number (record_at b i) (record_at b j) → ScoreOutcome m b series r
   scored : (g : ℕ) → r ≡ record { number = 0; place = 0; grains = record { 0 = g }; fen = record { 0 = grains_to_fen g } }
       → Ready m b series → Clear (month_at b) m (record_at b) (count_at b) → g ≡ month_grains m series (record_at b) (count_at b) → ScoreOutcome m b series r

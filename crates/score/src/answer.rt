@@ -5,7 +5,7 @@ ghost use Rattle.score.specs.Scoring.{in_fen};
 use units::{Fen, Grains};
 
 // A refusal's number and place, otherwise zeros; accepted, both are 0, and grains and fen are the month's.
-#[derive(Drop)]
+#[derive(Clone, Copy)]
 pub struct Score {
     pub number: u32,
     pub place: usize,
@@ -14,7 +14,7 @@ pub struct Score {
 }
 
 // A member's month before it is money: its grains, to which others may be added, or the refusal's number and place.
-#[derive(Drop)]
+#[derive(Clone, Copy)]
 pub enum Earned {
     Accepted(Grains),
     Refused(u32, usize),

@@ -1,4 +1,6 @@
 // A member's month, scored: the register line, the book, the series, then the member's records in turn.
+#![tactic(auto)]
+
 ghost use Rattle.std.specs.Prelude.{◌≡◌, true};
 ghost use Rattle.pay.specs.Member.{member_is_sound};
 ghost use Rattle.book.specs.Check.{check, accepted};

@@ -23,7 +23,7 @@ fn is_own_live(member: Member, x: Call) -> bool
 }
 
 // What a record's turn gives: a refusal's number, or 0 and the record's grains and energy.
-#[derive(Drop)]
+#[derive(Clone, Copy)]
 pub struct ScoreTurn {
     pub number: u32,
     pub grains: Grains,
