@@ -15,6 +15,7 @@
 #include <stdio.h>
 #include <stdlib.h>
 #include <string.h>
+#include <sys/file.h>
 #include <sys/stat.h>
 #include <sys/syscall.h>
 #include <unistd.h>
@@ -104,8 +105,15 @@ int close(int fd) {
 
 int rename(const char *from, const char *to) { return next("rename", from) < 0 ? -1 : REAL(int, rename, const char *, const char *)(from, to); }
 int unlink(const char *path) { return next("unlink", path) < 0 ? -1 : REAL(int, unlink, const char *)(path); }
-int stat(const char *path, struct stat *s) { return next("stat", path) < 0 ? -1 : REAL(int, stat, const char *, struct stat *)(path, s); }
+int statx(int folder, const char *restrict path, int flags, unsigned mask, struct statx *restrict s) {
+    return next("stat", *path ? path : name_of(folder)) < 0 ? -1 : REAL(int, statx, int, const char *, int, unsigned, struct statx *)(folder, path, flags, mask, s);
+}
 int fchmod(int fd, mode_t mode) { return next("fchmod", name_of(fd)) < 0 ? -1 : REAL(int, fchmod, int, mode_t)(fd, mode); }
+
+// What the library can call besides and the desk does not: it would be seen.
+int fdatasync(int fd) { return next("fdatasync", name_of(fd)) < 0 ? -1 : REAL(int, fdatasync, int)(fd); }
+int ftruncate(int fd, off_t size) { return next("ftruncate", name_of(fd)) < 0 ? -1 : REAL(int, ftruncate, int, off_t)(fd, size); }
+int flock(int fd, int way) { return next("flock", name_of(fd)) < 0 ? -1 : REAL(int, flock, int, int)(fd, way); }
 
 ssize_t readlink(const char *path, char *text, size_t size) {
     return next("readlink", path) < 0 ? -1 : REAL(ssize_t, readlink, const char *, char *, size_t)(path, text, size);
