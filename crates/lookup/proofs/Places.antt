@@ -6,12 +6,11 @@ use Prim.Native.Nat.{ℕ, zero, suc, ◌+◌, ◌-◌, ◌<◌, ◌≤◌}
 use native.Mathlib.Decide.{ℕ_discrete}
 use native.Mathlib.Nat.{zero-add, sub-zero, not-suc-le-zero}
 use native.Mathlib.Omega.{arith}
-use base.Fml.{GName}
 use lib.ListN.{length, take, drop}
 use borrow.Author.Tests.{eq-eqb, ne_eqb}
-use borrow.Rule.Slice.PartAt.{sl_part}
+use borrow.Rule.Slice.PartAt.{sl_partˢ}
 use borrow.Rule.Slice.Shared.{by_byte}
-use denote.Ref.{Bor, MutBor}
+use denote.Ref.{Bor}
 use Rattle.call.specs.declared.Call.{Call}
 use Rattle.call.specs.Key.{key_of, call_key}
 use Rattle.call.specs.Layout.{record_size}
@@ -230,8 +229,8 @@ module _ (a b : List ℕ) (p k : ℕ) (w : Place) (e : w ≡ which a b p k) wher
   second_fits j h = let r = subst (InBooks a b) (sym e ∙ h) (which_in a b p k) in fits b j r.0 r.1
 
 -- the part that is cut lies where it should
-pub lies : (s : MutBor (List ℕ)) (at n : ℕ) (g : GName) → at ≡ n → Lies s n record_size (sl_part s (by_byte at s.ref_ptr.1) at (at + record_size) g)
-lies s at n g a =
+pub lies : (s : Bor (List ℕ)) (at n : ℕ) → at ≡ n → Lies s n record_size (sl_partˢ s (by_byte at s.ref_ptr.1) at (at + record_size))
+lies s at n a =
     let e : at + record_size - at ≡ record_size = omega arith in
     record { bytes = ap₂ (λ (k m : ℕ). take k (drop m s.now)) e a; block = refl; offset = omega arith }
 

@@ -1,4 +1,6 @@
 // One key in two books: the record that stands, as it lies in the first or the second book.
+#![tactic(auto)]
+
 ghost use Rattle.std.specs.Prelude.{◌≡◌, ◌<◌};
 ghost use Rattle.call.specs.Key.{key_of, call_key};
 ghost use Rattle.book.specs.Book.{count_at, record_at};
@@ -13,14 +15,14 @@ use pair::screen;
 use rule::{Decision, decide_at};
 
 // The index of a record, where a book has it.
-#[derive(Drop)]
+#[derive(Clone, Copy)]
 pub enum Index {
     Missing,
     At(usize),
 }
 
 // Where a record lies: in neither book, or at an index of the first or the second.
-#[derive(Drop)]
+#[derive(Clone, Copy)]
 pub enum Place {
     Nowhere,
     InFirst(usize),
