@@ -1,4 +1,6 @@
 // The register of a month: a line a member, with what its sharing line needs besides the compensation, and with its limit.
+#![tactic(auto)]
+
 ghost use Rattle.std.specs.Prelude.{◌≡◌, ◌≤◌, get_or, take};
 ghost use Rattle.register.specs.Register.{most_entries, blank_entry, entry_line, entry_is_sound, first_bad_entry, limited_for};
 
@@ -10,7 +12,7 @@ use share::limits::numbers_are_sound;
 use units::{Fen, Kw, Mwh, SignedFen, Thousandths};
 
 // A member, what its sharing line needs besides its compensation, and what it pays at most.
-#[derive(Drop)]
+#[derive(Clone, Copy)]
 pub struct Entry {
     pub member: Member,
     pub status: u8,
