@@ -1,5 +1,7 @@
 // Sharing over bytes, 24 a line in, 16 a line out and the user's 16 behind them, as include/nwb.h has them. The lines are read where they lie, as
 // often as they are needed: no copy of them is made.
+#![tactic(auto)]
+
 ghost use Rattle.std.specs.Prelude.{◌≡◌, [], ◌∷◌, ◌++◌, ℕ, ◌+◌, ◌*◌, ◌^◌, ◌<◌, ◌≤◌, length, get_or, replicate};
 ghost use Rattle.le.specs.Le.{Stores};
 ghost use Rattle.apportion.specs.Apportion.{total, apportion};
