@@ -1,4 +1,6 @@
 // Ramping of ordinary units: one hour's control actions, scored to the grain.
+#![tactic(auto)]
+
 ghost use Rattle.std.specs.Prelude.{◌≡◌, ◌*◌, ◌≤◌, length};
 ghost use Rattle.ramp.specs.Ramping.{is_ramping, hour_refused, hour_paid, first_bad_action};
 ghost use Rattle.ramp.specs.Bytes.{action_size, actions_from, ramping_bytes};
@@ -14,7 +16,7 @@ pub mod actions;
 pub mod so_far;
 
 // A control action: power at the start and the end and commanded power in kW, delay in seconds, real and standard rate in kW a minute.
-#[derive(Drop)]
+#[derive(Clone, Copy)]
 pub struct Action {
     pub start: Kw,
     pub end: Kw,
@@ -25,7 +27,7 @@ pub struct Action {
 }
 
 // A refusal's number and place, otherwise zeros; or the hour's grains.
-#[derive(Drop)]
+#[derive(Clone, Copy)]
 pub struct Hour {
     pub number: u32,
     pub place: usize,

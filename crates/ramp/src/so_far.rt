@@ -13,7 +13,7 @@ use units::{Grains, Kw};
 pub const MOST_ACTIONS: usize = 60;
 
 // The standard rate and the number of the actions so far; of the right-way ones their number and, added up, moves, errors, real rates and delays.
-#[derive(Drop)]
+#[derive(Clone, Copy)]
 pub struct HourSoFar {
     pub count: usize,
     pub right: u64,
