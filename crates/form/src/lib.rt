@@ -5,6 +5,8 @@
 //   %% %[ %| %] the sign itself
 // Numbers are taken one after the other, by each mark of a small letter and each [, shown or not. One with a sign goes as its bits.
 // A form is a constant: what comes from outside goes in as a text.
+#![tactic(auto)]
+
 ghost use Rattle.std.specs.Prelude.{◌≡◌, true, ◌+◌, ◌≤◌, length};
 ghost use Rattle.io.specs.Counts.{IsPrefixLen};
 ghost use Rattle.render.specs.Inner.{Puts};

@@ -8,7 +8,7 @@ use render::put_word;
 
 // How far a form is put: the place behind what is put, how many of the form's bytes and of the numbers are used up, and whether bytes are shown
 // here.
-#[derive(Drop)]
+#[derive(Clone, Copy)]
 pub struct Far {
     pub at: usize,
     pub read: usize,
