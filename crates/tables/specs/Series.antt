@@ -1,5 +1,5 @@
 -- The series of a member: a line a quarter hour, of one number, the mean output in kW. Assumes nothing.
-use Rattle.std.specs.Prelude.{cond, List, [], ◌∷◌, ◌++◌, map, ℕ, min, ◌/◌, ◌%◌, length, get_or, take, drop}
+use Rattle.std.specs.Prelude.{cond, List, ◌∷◌, ◌++◌, map, ℕ, min, ◌/◌, ◌%◌, length, get_or, take, drop}
 use Rattle.row.specs.Numbers.{not_empty, digit_byte}
 use Rattle.row.specs.Files.{slash, csv}
 use Rattle.grid.specs.Grid.{rows_of}

@@ -15,7 +15,7 @@ use share::limits::numbers_are_sound;
 use units::{Fen, Kw, Mwh, Thousandths};
 
 // The answer: 10 and a place, or zeros, how many entries there are, and the entries.
-#[derive(Drop)]
+#[derive(Clone, Copy)]
 pub struct Register {
     pub number: u32,
     pub place: usize,
@@ -25,7 +25,7 @@ pub struct Register {
 
 // How many entries were sound, the number of the last of them (else 0), and the entries; `refused`: the one after them was not; `blank`: a blank line is held back, which is
 // one of them where another line stands behind it.
-#[derive(Drop)]
+#[derive(Clone, Copy)]
 pub struct Roll {
     pub refused: bool,
     pub blank: bool,

@@ -11,7 +11,7 @@ use row::MOST_COLUMNS;
 const NO_OUTPUT: u32 = 0xffff_ffff;
 
 // The next place of the list, and how many blank lines are held back.
-#[derive(Drop)]
+#[derive(Clone, Copy)]
 pub struct Place {
     pub next: usize,
     pub blanks: usize,
