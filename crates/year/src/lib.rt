@@ -1,4 +1,6 @@
 // The year in exact numbers: monthly statements taken one by one, in fixed memory, and what they come to for each member.
+#![tactic(auto)]
+
 ghost use Rattle.std.specs.Prelude.{◌≡◌, true, List, [], ◌∷◌, ◌++◌};
 ghost use Rattle.year.specs.declared.MonthStatement.{MonthStatement};
 ghost use Rattle.year.specs.Year.{year_refused, HasTaken};
@@ -18,7 +20,7 @@ pub const MOST_STATEMENTS: usize = 12;
 pub const MOST_MEMBERS: usize = 64;
 
 // A member's line of a monthly statement.
-#[derive(Drop)]
+#[derive(Clone, Copy)]
 pub struct YearLine {
     pub number: u16,
     pub compensation: Fen,
@@ -28,7 +30,7 @@ pub struct YearLine {
 }
 
 // A month's statement: its lines are the first `count`, and the others are not looked at; the user's amount has no number.
-#[derive(Drop)]
+#[derive(Clone, Copy)]
 pub struct MonthStatement {
     pub year: u16,
     pub month: u8,
@@ -38,7 +40,7 @@ pub struct MonthStatement {
 }
 
 // A member's sums over the months it is in.
-#[derive(Drop)]
+#[derive(Clone, Copy)]
 pub struct Sums {
     pub compensation: Fen,
     pub assessment: Thousandths,
@@ -47,14 +49,14 @@ pub struct Sums {
 }
 
 // The largest monthly amount, which may be below zero, and its month, the earliest at a tie; zeros where there is none.
-#[derive(Drop)]
+#[derive(Clone, Copy)]
 pub struct Largest {
     pub amount: SignedFen,
     pub month: u8,
 }
 
 // A member's year: which months it is in, from January on, its sums, and its largest monthly amount.
-#[derive(Drop)]
+#[derive(Clone, Copy)]
 pub struct MemberYear {
     pub months: [bool; MOST_STATEMENTS],
     pub sums: Sums,
@@ -63,7 +65,7 @@ pub struct MemberYear {
 
 // A refusal's number and place, otherwise zeros; or the year, the last month taken, how many statements there are, each member's year, and the users' amounts
 // together.
-#[derive(Drop)]
+#[derive(Clone, Copy)]
 pub struct Year {
     pub number: u32,
     pub place: usize,
