@@ -1,4 +1,6 @@
 // A member's month, scored a second way: services 1 and 2 minute by minute. Refusals, and the other services, go the first way.
+#![tactic(auto)]
+
 ghost use Rattle.std.specs.Prelude.{◌≡◌, true, ℕ, ◌*◌, ◌<◌, ◌≤◌, length};
 ghost use Rattle.units.specs.Month.{quarters_of};
 ghost use Rattle.book.specs.Book.{header_at, count_at};

@@ -17,7 +17,7 @@ use pay::live::{is_by_energy, live_pay};
 use units::{Grains, Wh};
 
 // What a record gives, or many: grains and energy.
-#[derive(Drop)]
+#[derive(Clone, Copy)]
 pub struct Other {
     pub grains: Grains,
     pub wh: Wh,

@@ -34,7 +34,7 @@ pub fn covers(x: Call, minute: u32) -> bool
 }
 
 // The places of the windows in the book: so many at the front of `at`.
-#[derive(Drop)]
+#[derive(Clone, Copy)]
 pub struct Windows {
     pub count: usize,
     pub at: [usize; MOST_RECORDS],

@@ -1,0 +1,30 @@
+use native.Mathlib.Omega.{arith}
+use mathlib.Core.Path.{◌≡◌, sym, ◌∙◌}
+use Prim.Native.Nat.{◌^◌, ◌<◌}
+use lib.Signed.{mag}
+use Rattle.pay.specs.Event.{event_wh}
+use Rattle.pay.proofs.Signed.{back32}
+use Rattle.reckon.proofs.OtherPay.{energy_turned, deep_turned, reserve_turned, rated_turned}
+use Rattle.reckon.proofs.others.other_live.Goals as goal
+
+pub returns-then-is_by_energy : goal.returns-then-is_by_energy
+returns-then-is_by_energy c =
+    let a-fits : mag c.args.x.a < 2 ^ 31 = omega arith in
+    let a = c.args in
+    let e : c.event_wh-wh.result.0 ≡ event_wh a.x.a a.x.b a.x.c = simp (back32 a.x.a a-fits) at c.event_wh-wh.ensures.0 in
+    energy_turned a.member a.x c.requires.x_value_2 (sym c.is_by_energy.ensures ∙ c.if-is_by_energy.true) _ e c.event_wh-wh.ensures.1
+
+pub returns-in-1 : goal.returns-in-1
+returns-in-1 c =
+    deep_turned c.args.member c.args.x c.requires.x_value_2 (sym c.is_by_energy.ensures ∙ c.if-is_by_energy.false) c.in-1.is
+
+pub returns-in-2 : goal.returns-in-2
+returns-in-2 c =
+    reserve_turned c.args.member c.args.x c.requires.x_value_2 (sym c.is_by_energy.ensures ∙ c.if-is_by_energy.false) c.in-2.is
+
+pub returns-in_default : goal.returns-in_default
+returns-in_default c =
+    let r = c.in_default.in_default-own.rest in
+    let e = c.live_pay-grains.ensures in
+    let h = sym c.is_by_energy.ensures ∙ c.if-is_by_energy.false in
+    rated_turned c.args.member c.args.x c.requires.x_value_2 h c.args.series.now r.0.1 r.1 _ e.0 e.1
