@@ -10,7 +10,7 @@ use row::{Row, grown, hold, is_digit};
 use share::Line;
 
 // What the lines say: 10 and a place, or zeros, how many there are, and the lines.
-#[derive(Drop)]
+#[derive(Clone, Copy)]
 pub struct Listed {
     pub number: u32,
     pub place: usize,
@@ -19,7 +19,7 @@ pub struct Listed {
 }
 
 // The line that is being read, and the lines before it.
-#[derive(Drop)]
+#[derive(Clone, Copy)]
 pub struct Body {
     pub row: Row,
     pub sheet: Sheet,

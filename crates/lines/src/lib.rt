@@ -1,4 +1,6 @@
 // A sharing text, read a byte at a time, in fixed memory, whatever its length: the generators' part on a line of its own, then the lines.
+#![tactic(auto)]
+
 mod body;
 mod line;
 mod part;
@@ -21,7 +23,7 @@ use share::{Line, Shared};
 pub const MOST_LINES: usize = 64;
 
 // The answer: 10 and a place, or zeros, how many lines there are, and the lines; and the part, where it is one.
-#[derive(Drop)]
+#[derive(Clone, Copy)]
 pub struct Taken {
     pub number: u32,
     pub place: usize,
@@ -31,7 +33,7 @@ pub struct Taken {
 }
 
 // All that is kept of the text so far: the first line while it is `ahead` of the others, then the part; and the lines.
-#[derive(Drop)]
+#[derive(Clone, Copy)]
 pub struct Reader {
     first: Row,
     body: Body,
@@ -40,7 +42,7 @@ pub struct Reader {
 }
 
 // What some bytes have of the first line: it as far as it is read, whether it is still ahead, otherwise the part and where the lines begin.
-#[derive(Drop)]
+#[derive(Clone, Copy)]
 pub struct Head {
     pub first: Row,
     pub next: usize,

@@ -6,7 +6,7 @@ use row::Row;
 use share::limits::MOST_PART;
 
 // The row after the bytes of its line, and the place of the line feed behind it, or where the bytes end.
-#[derive(Drop)]
+#[derive(Clone, Copy)]
 pub struct FirstLine {
     pub row: Row,
     pub next: usize,

@@ -14,7 +14,7 @@ use share::Line;
 use share::array::blank_lines;
 
 // How many lines were sound, the number of the last of them (else 0), and the lines; `refused`: the one after them was not.
-#[derive(Drop)]
+#[derive(Clone, Copy)]
 pub struct Sheet {
     pub refused: bool,
     pub before: u16,

@@ -1,0 +1,12 @@
+use mathlib.Core.Path.{◌≡◌, ap, sym, ◌∙◌}
+use mathlib.Core.List.{◌∷◌}
+use Prim.Native.Nat.{ℕ, suc, ◌+◌, ◌-◌}
+use native.Mathlib.Omega.{arith}
+use Rattle.lines.specs.Meaning.{row_line, zeros}
+use Rattle.lines.proofs.line.best.Goals as goal
+
+pub loop-i-preserved : goal.loop-i-preserved
+loop-i-preserved c =
+    let one : 4 - c.loop-i.i ≡ suc (4 - (c.loop-i.i + 1)) = omega (arith, c.loop-i-test.true) in
+    c.stepped-row.ensures.line (zeros (4 - (c.loop-i.i + 1))) ∙ c.stepped-parted.ensures.line (48 ∷ zeros (4 - (c.loop-i.i + 1)))
+    ∙ ap (λ (n : ℕ). row_line c.loop-i.row (zeros n)) (sym one) ∙ c.loop-i.invariant
