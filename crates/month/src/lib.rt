@@ -1,4 +1,6 @@
 // The month as one operation: the generators' part, the register, the joined book, the members' series and ramping files in, the month's statement out.
+#![tactic(auto)]
+
 ghost use Rattle.std.specs.Prelude.{◌≡◌, ◌≤◌, take};
 ghost use Rattle.book.specs.Book.{HasHeader};
 ghost use Rattle.ceiling.specs.Ceiling.{ceiling};
@@ -22,7 +24,7 @@ use rows::{blank_rows, filled_rows, is_below};
 
 // Why a month is not settled: the generators' part; a register's line; a book's refusal, by number and place; the call of a member without a line; a line whose
 // member is refused, by number and place; a line whose ramping file is refused, by number and place; sharing's refusal, by number and place.
-#[derive(Drop)]
+#[derive(Clone, Copy)]
 pub enum Fault {
     NoFault,
     InPart,
@@ -36,7 +38,7 @@ pub enum Fault {
 
 // What a member's ramping file gives: a refusal's number and place, or zeros; how many hours it has, and their grains together. All zeros
 // where there is no file.
-#[derive(Drop)]
+#[derive(Clone, Copy)]
 pub struct Ramped {
     pub grains: Grains,
     pub place: usize,
@@ -45,7 +47,7 @@ pub struct Ramped {
 }
 
 // A member's line of the statement: its share is the first sharing's; what is not collected of it, and what it gives up. The short fields come last, so that no gap stands between the others.
-#[derive(Drop)]
+#[derive(Clone, Copy)]
 pub struct Row {
     pub grains: Grains,
     pub compensation: Fen,
@@ -62,7 +64,7 @@ pub struct Row {
 
 // The statement: why there is none, and zeros; or the book's header and its calls, the generators' part, R, the user's amount, and a line for
 // each member.
-#[derive(Drop)]
+#[derive(Clone, Copy)]
 pub struct Statement {
     pub calls: usize,
     pub gap: SignedFen,

@@ -14,7 +14,7 @@ use score::grains_earned;
 use units::{Fen, Grains};
 
 // What a member's turn gives: the grains of its score and of its ramping file together; the score's refusal; the file's.
-#[derive(Drop)]
+#[derive(Clone, Copy)]
 pub enum MemberEarned {
     ScoreAndHours(Grains),
     NotScored(u32, usize),
@@ -22,7 +22,7 @@ pub enum MemberEarned {
 }
 
 // What the members earned: whether one is refused, and its refusal; else the grains of each.
-#[derive(Drop)]
+#[derive(Clone, Copy)]
 pub struct Members {
     pub grains: [Grains; MOST_ENTRIES],
     pub fault: Fault,
