@@ -1,4 +1,6 @@
 // Why a member got its grains: a part for each of its live calls, the month's energy, and what its ramping hours add.
+#![tactic(auto)]
+
 ghost use Rattle.std.specs.Prelude.{◌≡◌};
 ghost use Rattle.score.specs.declared.answer.Earned.TheVariants.{Accepted};
 ghost use Rattle.score.specs.Scoring.{grains_earned};
@@ -19,7 +21,7 @@ pub const MOST_HOURS: usize = 744;
 
 // One live call of the member: its record, the grains for each kW of rating, the Wh of its event, its grains, and the quarter hours
 // of a window that paid.
-#[derive(Drop)]
+#[derive(Clone, Copy)]
 pub struct CallPart {
     pub place: usize,
     pub rate: u64,
@@ -30,7 +32,7 @@ pub struct CallPart {
 
 // A refusal's number and place, otherwise zeros; or how many parts there are, the month's Wh and their pay, what the ramping hours add, all
 // the grains, and the parts.
-#[derive(Drop)]
+#[derive(Clone, Copy)]
 pub struct Explained {
     pub number: u32,
     pub place: usize,

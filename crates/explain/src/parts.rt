@@ -74,7 +74,7 @@ fn call_part(member: Member, series: &[u32], i: usize, x: Call) -> CallPart
 }
 
 // What a record's turn gives: 1 and its part, or 0 and a blank one.
-#[derive(Drop)]
+#[derive(Clone, Copy)]
 pub struct PartTurn {
     pub count: usize,
     pub part: CallPart,
@@ -97,7 +97,7 @@ fn part_turn(member: Member, b: &[u8], i: usize, series: &[u32]) -> PartTurn
 }
 
 // How many parts there are, the sum of their Wh, and the parts.
-#[derive(Drop)]
+#[derive(Clone, Copy)]
 pub struct PartsFound {
     pub count: usize,
     pub wh: Wh,

@@ -19,9 +19,7 @@ use Rattle.explain.specs.Explaining.{filled_up, month_wh, explain_earned}
 use Rattle.explain.specs.Inner.{parts_before}
 use Rattle.explain.proofs.Before.{parts_are}
 use Rattle.explain.proofs.Scored.{accepted_ready}
-use borrow.Author.Rules.{rules}
-use Rattle.explain.proofs.explain_accepted.Statement.{statement}
-use Rattle.explain.proofs.explain_accepted.Tie as tie
+use Rattle.explain.proofs.explain_accepted.Goals as goal
 
 abbrev answer : ℕ → ℤ → ℕ → Grains → ℕ → List CallPart → Explained
 answer count wh energy added grains parts =
@@ -40,38 +38,34 @@ answer count wh energy added grains parts =
 same : (added : Grains) {n n' e e' g g' : ℕ} {w w' : ℤ} {ps ps' : List CallPart} → n ≡ n' → w ≡ w' → e ≡ e' → g ≡ g' → ps ≡ ps' → answer n w e added g ps ≡ answer n' w' e' added g' ps'
 same added a b c d e = rw (a, b, c, d, e) refl
 
-ready : (s : tie.Start) → Ready s.args.member s.args.book.now s.args.series.now
-ready s = (accepted_ready s.args.member s.args.book.now s.args.series.now s.args.grains s.requires).0
+pub count_at-n-requires : goal.count_at-n-requires
+count_at-n-requires c =
+    let ready : Ready c.args.member c.args.book.now c.args.series.now = (accepted_ready c.args.member c.args.book.now c.args.series.now c.args.grains c.requires).0 in
+    let tested : Accepted c.args.book.now = accepted_tests c.args.book.now ready.front.book in
+    tested.long
 
-tested : (s : tie.Start) → Accepted s.args.book.now
-tested s = accepted_tests s.args.book.now (ready s).front.book
+pub parts_before-found-requires : goal.parts_before-found-requires
+parts_before-found-requires c =
+    let ready : Ready c.args.member c.args.book.now c.args.series.now = (accepted_ready c.args.member c.args.book.now c.args.series.now c.args.grains c.requires).0 in
+    let tested : Accepted c.args.book.now = accepted_tests c.args.book.now ready.front.book in
+    let few : count_at c.args.book.now ≤ most_keys = accepted_few c.args.book.now ready.front.book in
+    let k = tested.count in
+    let w = few in
+    let n = c.count_at-n.ensures.0 in
+    let m = spans_month c.args.book.now c.args.series.now ready.spans in
+    record {
+      small = (ready.front.line.rated.1, m.1);
+      n_in_bounds = omega arith;
+      n_le_most_keys = omega arith;
+      by_index = λ i l. rw m.0 (all_sound c.args.book.now ready.front.book i (omega arith));
+    }
 
-few : (s : tie.Start) → count_at s.args.book.now ≤ most_keys
-few s = accepted_few s.args.book.now (ready s).front.book
-
-count-at-requires : tie.Need-count-at-requires
-count-at-requires c κs = (tested c.before.before).long
-
-parts-before-requires : tie.Need-parts-before-requires
-parts-before-requires c κs =
-    let s = c.before.before.before in
-    let k = (tested s).count in
-    let w = few s in
-    let n = c.count_at.ensures.0 in
-    let m = spans_month s.args.book.now s.args.series.now (ready s).spans in
-    (((ready s).front.line.rated.1, m.1), (omega arith, (omega arith, λ i l. rw m.0 (all_sound s.args.book.now (ready s).front.book i (omega arith)))))
-
-returns : tie.Need-returns
+pub returns : goal.returns
 unfolding explain_earned month_wh
 returns c =
-    let a = c.before.before.before.before.before.before.before.before.args in
-    let n = c.before.before.before.before.before.count_at.ensures.0 in
-    let found = c.before.before.before.before.parts-before.ensures in
+    let a = c.args in
+    let n = c.count_at-n.ensures.0 in
+    let found = c.parts_before-found.ensures in
     let whole = ap (parts_before a.member a.book.now a.series.now) n ∙ sym (parts_are a.member a.book.now a.series.now) in
     let wh = found.energy ∙ ap (total_z (wh_at a.member (record_at a.book.now))) n in
-    same a.added (found.count ∙ ap length whole) wh (c.before.before.month-pay.ensures ∙ zero-add _ ∙ ap energy_pay wh) c.before.plus.ensures (found.parts ∙ ap filled_up whole)
-
-pub explain-accepted-spec : {M : Type 1} → statement M
-explain-accepted-spec =
-    tie.close
-    (tie.spec count-at-requires parts-before-requires (λ c κs. search rules) (λ c κs. search rules) returns)
+    same a.added (found.count ∙ ap length whole) wh (c.month_pay-energy.ensures ∙ zero-add _ ∙ ap energy_pay wh) c.plus-all.ensures (found.parts ∙ ap filled_up whole)
