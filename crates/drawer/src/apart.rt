@@ -5,7 +5,7 @@ ghost use Rattle.drawer.specs.Apart.{apart_in};
 use call::Call;
 
 // What a call asks for, by the fields of its record; or none of them.
-#[derive(Drop)]
+#[derive(Clone, Copy)]
 pub enum Field {
     Service,
     Start,

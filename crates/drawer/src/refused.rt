@@ -16,7 +16,7 @@ use score::refusal::{clashes, first_own, idle_refusal, refusal_at};
 
 // A record that scoring would refuse: its index, the number, and the index of the first earlier call that stands against it, or its own
 // where none does.
-#[derive(Drop)]
+#[derive(Clone, Copy)]
 pub struct RefusedRecord {
     pub place: usize,
     pub number: u32,
@@ -24,7 +24,7 @@ pub struct RefusedRecord {
 }
 
 // The next such record; none; or a book that its check refuses, by number and place.
-#[derive(Drop)]
+#[derive(Clone, Copy)]
 pub enum NextRefused {
     BadBook(u32, usize),
     NoneLeft,

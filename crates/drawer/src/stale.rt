@@ -12,7 +12,7 @@ use pair::screen;
 
 // Why a record does not stand: the call is withdrawn, there is a higher revision, it is contested at this revision; for none of these where
 // the record that stands does not come from joining it.
-#[derive(Drop)]
+#[derive(Clone, Copy)]
 pub enum Why {
     Withdrawn,
     Higher,
@@ -21,7 +21,7 @@ pub enum Why {
 }
 
 // A record that is not the one that stands for its key: its index, that of the record that stands, and why.
-#[derive(Drop)]
+#[derive(Clone, Copy)]
 pub struct StaleRecord {
     pub place: usize,
     pub stands: Index,
@@ -29,7 +29,7 @@ pub struct StaleRecord {
 }
 
 // The next such record; none; or two books that joining would refuse, by number and place.
-#[derive(Drop)]
+#[derive(Clone, Copy)]
 pub enum NextStale {
     BadBooks(u32, usize),
     NoneLeft,
@@ -37,7 +37,7 @@ pub enum NextStale {
 }
 
 // What a record's turn gives: whether it is listed, and what is told of it.
-#[derive(Drop)]
+#[derive(Clone, Copy)]
 pub struct StaleTurn {
     pub listed: bool,
     pub told: StaleRecord,
