@@ -11,7 +11,7 @@ use Rattle.call.specs.declared.Call.{Call}
 use Rattle.book.specs.declared.Opened.{Opened}
 use Rattle.book.specs.declared.Verdict.{Verdict}
 use Rattle.book.specs.Book.{version_at, header_at, count_at, calls_of}
-use Rattle.book.specs.Check.{accepted, check, turned_away, header_of}
+use Rattle.book.specs.Check.{check, turned_away, header_of}
 use Rattle.book.specs.Sound.{Sound}
 use Rattle.book.proofs.Records.{length_calls}
 use Rattle.book.proofs.Exact.{sound_accepted, accepted_exactly, sound_version, sound_reads}

@@ -13,7 +13,7 @@ use borrow.Author.Tests.{leb-true, le-leb, eqb-true, eq-eqb}
 use Rattle.le.proofs.Tests.{each, all}
 use Rattle.call.specs.Limits.{table, limits_of, limits_allow, call_is_sound}
 use Rattle.units.specs.Month.{minutes_per_quarter, most_minutes}
-use Rattle.call.specs.Revising.{live, contested, withdrawn}
+use Rattle.call.specs.Revising.{withdrawn}
 use Rattle.call.specs.Services.{most_participant, most_called, most_moved, least_moved, any_minutes, stability_trip}
 use Rattle.call.specs.Service.{Window, NoTime, Blank, Stated, is_live, is_contested_lem, is_withdrawn_lem, CallWithin}
 use Rattle.call.specs.Service.{ServiceRow, is_deep_peak, is_reserve, is_start_stop, is_standby, is_black_start}

@@ -1,6 +1,5 @@
 use mathlib.Core.Path.{◌≡◌, sym, ◌∙◌, ap}
 use mathlib.Core.Bool.{true}
-use borrow.Author.Tests.{not-false}
 use Rattle.book.specs.Book.{size_of, HasHeader, count_at}
 use Rattle.book.specs.Check.{is_marked, is_versioned, is_headed, header_minutes}
 use Rattle.book.proofs.Turns.{short, unmarked, unversioned, unheaded, uncounted, counted}

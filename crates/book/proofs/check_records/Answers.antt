@@ -1,5 +1,4 @@
 use mathlib.Core.Path.{◌≡◌, sym, ◌∙◌, ap}
-use Prim.Native.Nat.{◌-◌}
 use native.Mathlib.Omega.{arith}
 use Rattle.book.specs.declared.RecordTurn.{RecordTurn}
 use Rattle.book.proofs.Turns.{stops, goes_on_lem, ends}

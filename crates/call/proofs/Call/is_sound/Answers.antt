@@ -3,9 +3,8 @@ use mir.Syntax.{w32}
 use mir.Val.{SFits}
 use mir.ValLaws.{to_z-of_z}
 use borrow.Author.Rules.{rules}
-use borrow.Author.Tests.{not-true, not-false}
 use Rattle.call.specs.Limits.{limits_allow}
-use Rattle.call.proofs.Limits.{framed, unframed, no_live, live, struck}
+use Rattle.call.proofs.Limits.{unframed, no_live, live, struck}
 use Rattle.call.proofs.Call.is_sound.Goals as goal
 
 pub returns-then-not-framed : goal.returns-then-not-framed
