@@ -11,7 +11,7 @@ use borrow.Author.Tests.{eqb-true}
 use Rattle.le.proofs.Tests.{each}
 use Rattle.book.specs.declared.Header.{Header}
 use Rattle.book.specs.declared.Verdict.{Verdict}
-use Rattle.book.specs.Book.{most_records, most_keys, version_at, header_at, calls_of}
+use Rattle.book.specs.Book.{most_records, version_at, header_at, calls_of}
 use Rattle.book.specs.Check.{header_minutes}
 use Rattle.book.specs.Sound.{Known, Heading, Sound}
 use Rattle.book.proofs.Exact.{version_of, reads_back, sound_reads}

@@ -8,7 +8,7 @@ use native.Mathlib.Omega.{arith}
 use Rattle.book.specs.declared.Verdict.{Verdict}
 use Rattle.book.specs.Book.{header_at}
 use Rattle.book.specs.Check.{check}
-use Rattle.pair.specs.Screening.{same_month, both_sound, screen}
+use Rattle.pair.specs.Screening.{same_month, screen}
 use Rattle.pair.proofs.Screening.{Both, first_bad_lem, second_bad, neither_bad, both, screen_both, screen_month, screen_passes}
 use Rattle.join.specs.declared.Joined.{Joined}
 use Rattle.join.specs.Joining.{JoinOutcome, join_outcome, joining}

@@ -1,23 +1,22 @@
 -- What a join gives now against what it gave in the first edition. Assumes nothing.
-use mathlib.Core.Path.{◌≡◌, refl, sym, ◌∙◌, ap}
-use mathlib.Core.Bool.{Bool, true, false, cond, not}
+use mathlib.Core.Path.{◌≡◌, refl, sym, ◌∙◌}
+use mathlib.Core.Bool.{Bool, true, false}
 use mathlib.Core.Logic.{inl, inr}
 use mathlib.Core.List.{List}
-use Prim.Native.Nat.{ℕ, ◌<◌, ◌≤◌}
+use Prim.Native.Nat.{ℕ, ◌≤◌}
 use native.Mathlib.Omega.{arith}
-use lib.Dec.{eqb, ltb}
+use lib.Dec.{ltb}
 use lib.ListN.{length}
-use borrow.Author.Tests.{eqb-true, ltb-false, le-ltb, le-leb, eq-eqb}
-use Rattle.book.specs.declared.Verdict.{Verdict}
+use borrow.Author.Tests.{eqb-true, ltb-false, le-ltb, le-leb}
 use Rattle.book.specs.Book.{first_version, second_version, most_records, most_keys, size_of, version_at}
-use Rattle.book.specs.Check.{accepted, check}
+use Rattle.book.specs.Check.{accepted}
 use Rattle.book.specs.Sound.{Known}
 use Rattle.book.proofs.Heads.{versioned_is, first_fits}
 use Rattle.book.proofs.Exact.{accepted_tests}
 use Rattle.book.proofs.FirstEdition.{check_as_before}
 use Rattle.pair.specs.Screening.{IsAccepted, passes, both_sound, same_month, screen}
-use Rattle.pair.proofs.Screening.{Screened, passed_screen, zero_screened}
-use Rattle.join.specs.Joining.{JoinOutcome, keys_of_both, overflow, joined_of, pair_version, joined_version, join_sound, joining}
+use Rattle.pair.proofs.Screening.{passed_screen, zero_screened}
+use Rattle.join.specs.Joining.{keys_of_both, overflow, joined_of, pair_version, joined_version, join_sound, joining}
 use Rattle.join.specs.FirstEdition as before
 
 module _ (a b : List ℕ) (not_a : version_at a ≡ second_version → ⊥) (not-b : version_at b ≡ second_version → ⊥) where

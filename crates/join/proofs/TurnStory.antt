@@ -1,11 +1,10 @@
 -- The three books of the story, turn by turn: they meet the hypotheses of what is promised of a run, of a chain and of a tree. Assumes nothing.
-use mathlib.Core.Path.{◌≡◌, refl, sym, ◌∙◌, ap, subst}
+use mathlib.Core.Path.{◌≡◌, refl, sym, ◌∙◌, ap}
 use mathlib.Core.Bool.{Bool, true, ◌&&◌}
 use mathlib.Core.Logic.{⊎_elim}
 use mathlib.Core.List.Memᴰ.{cases_cons as in-cons}
 use mathlib.Core.List.Memᴰ.{not-nil as in-nil}
 use mathlib.Core.List.{List, [], ◌∷◌, map, Memᴰ as In}
-use Prim.Native.Nat.{ℕ}
 use native.Mathlib.Omega.{arith}
 use lib.Dec.{eqb}
 use lib.ListN.{length, take}
@@ -27,7 +26,7 @@ use Rattle.rule.specs.Joined.{joined_at, joined_for, join_calls}
 use Rattle.pair.specs.Screening.{both_sound, same_month, screen}
 use Rattle.join.specs.Turns.{lower_of, lowest_key, placed, turn_for, turn, turns_run, begun, ran}
 use Rattle.join.specs.Joining.{JoinOutcome, key_count, overflow, joined_of, pair_version, join_sound, joining}
-use Rattle.join.specs.Chain.{Link, linked, chain, empty_book, turns_of, keys_up_to}
+use Rattle.join.specs.Chain.{Link, chain, empty_book, turns_of, keys_up_to}
 use Rattle.join.specs.Trees.{result}
 use Rattle.join.specs.Verdict.{Joinable}
 use Rattle.join.proofs.Turning.{after_turns, lowest_first, written_once, run_ends, joinable_accepted, turns_are_keys}

@@ -1,5 +1,5 @@
 -- The ways out of a join: refused by its screen, by 8 or by 9, or joined. Assumes nothing.
-use mathlib.Core.Path.{◌∙◌, ◌≡◌, refl, sym, ap}
+use mathlib.Core.Path.{◌∙◌, ◌≡◌, refl, ap}
 use mathlib.Core.List.{List}
 use Prim.Native.Nat.{ℕ, ◌<◌, ◌≤◌}
 use native.Mathlib.Omega.{arith}

@@ -1,10 +1,10 @@
 -- One key in two books: the record that stands, as it lies in the first or the second. Assumes nothing.
-use Rattle.std.specs.Prelude.{◌≡◌, cond, List, [], ◌∷◌, ℕ, suc, ◌+◌, ◌<◌, eqb, take, drop}
+use Rattle.std.specs.Prelude.{◌≡◌, cond, List, [], ◌∷◌, ℕ, suc, ◌+◌, eqb, take, drop}
 use Rattle.std.specs.Borrow.{Bor}
 use Rattle.call.specs.declared.Call.{Call}
 use Rattle.call.specs.Key.{key_of, call_key}
 use Rattle.call.specs.Layout.{record_size}
-use Rattle.book.specs.Book.{place_of, count_at, record_at, calls_of}
+use Rattle.book.specs.Book.{place_of, record_at, calls_of}
 use Rattle.rule.specs.declared.Decision.{Decision}
 use Rattle.rule.specs.declared.Decision.TheVariants.{First, Second, Struck}
 use Rattle.rule.specs.Standing.{decide}

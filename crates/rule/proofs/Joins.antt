@@ -14,7 +14,7 @@ use Rattle.call.specs.declared.Call.{Call}
 use Rattle.call.specs.Key.{call_key}
 use Rattle.book.specs.Sound.{Rises}
 use Rattle.rule.specs.Standing.{standing}
-use Rattle.rule.specs.Keys.{record_of, different_keys, records_at}
+use Rattle.rule.specs.Keys.{record_of, different_keys}
 use Rattle.rule.specs.Joined.{joined_at, joined_for, join_calls}
 use Rattle.rule.proofs.Keyed.{find_in}
 use Rattle.rule.proofs.Lattice.{stand_key}

@@ -14,7 +14,7 @@ use borrow.Author.Tests.{eq-eqb, ne_eqb}
 use Rattle.call.specs.declared.Call.{Call}
 use Rattle.call.specs.Key.{call_key}
 use Rattle.book.specs.Sound.{Rises}
-pub use Rattle.book.proofs.Rising.{Rising, in_above, ext_in, rising, weaken, call_above, within_in}
+pub use Rattle.book.proofs.Rising.{Rising, in_above, Same, ext_in, rising, weaken, call_above, within_in}
 use Rattle.rule.specs.Keys.{record_of}
 
 -- less, equal or greater

@@ -1,8 +1,8 @@
 use mathlib.Core.Path.{◌≡◌, refl, sym, ◌∙◌, ap}
-use Prim.Native.Nat.{◌-◌, ◌<◌}
+use Prim.Native.Nat.{◌<◌}
 use native.Mathlib.Omega.{arith}
 use lib.ListN.{length}
-use Rattle.book.specs.Book.{size_of, count_at}
+use Rattle.book.specs.Book.{size_of}
 use Rattle.join.proofs.Steps.{both_left, one_over}
 use Rattle.join.proofs.Books.{long, size}
 use Rattle.join.proofs.Taken.{none_yet, another, next_room, both_over}

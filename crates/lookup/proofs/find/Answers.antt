@@ -3,7 +3,7 @@ use native.Mathlib.Omega.{arith}
 use lib.ListN.{length}
 use Rattle.call.specs.Layout.{record_size}
 use Rattle.book.specs.Book.{place_of}
-use Rattle.lookup.proofs.Places.{in_word, first_fits, second_fits, lies}
+use Rattle.lookup.proofs.Places.{in_word, first_fits, second_fits}
 use Rattle.lookup.proofs.find.Goals as goal
 
 pub place_of-a-requires : goal.place_of-a-requires
