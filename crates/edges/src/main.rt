@@ -11,7 +11,7 @@ mod spelling;
 mod tally;
 mod texts;
 
-ghost use Rattle.std.specs.Prelude.{◌≡◌, length};
+ghost use Rattle.std.specs.Prelude.{◌≡◌, ◌≤◌, length};
 
 use numbers::{Numbers, before};
 use say::Terminal;
