@@ -1,4 +1,6 @@
 // What is asked of a call, what a book has of it, and whether that would change the book.
+#![tactic(auto)]
+
 ghost use Rattle.std.specs.Prelude.{◌≡◌};
 ghost use Rattle.wish.specs.Wish.{old_in, verdict, over, higher};
 
@@ -7,7 +9,7 @@ use call::{Call, WITHDRAWN};
 use lookup::{Index, index_of, key_of};
 
 // A call is entered, revised or withdrawn.
-#[derive(Drop)]
+#[derive(Clone, Copy)]
 pub enum Wish {
     Enter,
     Revise,
@@ -15,14 +17,14 @@ pub enum Wish {
 }
 
 // What a book has under the call's key.
-#[derive(Drop)]
+#[derive(Clone, Copy)]
 pub enum Old {
     Missing,
     Stands(Call),
 }
 
 // Whether the wish changes the book; where not, why: the number is in use, this revision is as high, the call is withdrawn.
-#[derive(Drop)]
+#[derive(Clone, Copy)]
 pub enum Verdict {
     Changes,
     InUse,
