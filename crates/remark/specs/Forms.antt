@@ -1,9 +1,6 @@
 -- What the desk says before a refusal's number, as it is printed: one form a message. Assumes nothing.
 use Rattle.std.specs.Prelude.{List, ◌++◌, ℕ}
-use Rattle.render.specs.Decimal.{word, decimal}
-use Rattle.names.specs.Names.{month_word}
-use Rattle.pay.specs.declared.open.Month.{Month}
-use Rattle.pay.specs.Open.{closing_month}
+use Rattle.render.specs.Decimal.{word}
 
 -- a bad field of a call: its name and what it has, and which of these is wrong with it; or the bytes of the record that no field has
 abbrev pub field_form : List ℕ
@@ -23,13 +20,12 @@ record_form = word "%1 record %n: %2\n"
 abbrev pub other_month_form : List ℕ
 other_month_form = word "%1 is of %m %n, area %n; the books before it of %m %n, area %n\n"
 
--- 12: a call of a service, with the fields by which that may be closed; the plant and the month to which it is closed; and what is open instead. The month of the auction is the closing month
+-- 12: a call of a service, with the fields by which that may be closed; the plant and the month to which it is closed; and what is open instead
 abbrev pub not_open_form : List ℕ
 not_open_form =
     word "call %n: %v[ with A %i][ and B %n] is not open to %k of %n kW in %m %n"
     ++ word "[: only coal has it][: only coal, gas and hydro have it][: coal has A from 1 to its rating][: %k has A 0]"
-    ++ word "[: it is bought by auction from " ++ month_word closing_month.month ++ word " " ++ decimal closing_month.year ++ word " on; withdraw the call]"
-    ++ word "[: all kinds but wind and photovoltaic have it]"
+    ++ word "[: it is bought by auction from January 2027 on; withdraw the call][: all kinds but wind and photovoltaic have it]"
     ++ word "[: wind and photovoltaic have A 0 and B up to 10000]\n"
 
 -- 13: a call that shares a minute with an earlier one; or a second call of a service of which a month has one

@@ -27,7 +27,7 @@ pub const UNNAMED: u8 = 7;
 pub const NOT_LIVE: u8 = 8;
 
 // A field's number as it goes into the form, the least and the most that it may be, and what is wrong with it.
-#[derive(Drop)]
+#[derive(Clone, Copy)]
 pub struct Bad {
     pub number: u64,
     pub least: u64,
