@@ -1,4 +1,6 @@
 // What is wrong with a register, or a series: each line judged by itself, told one after the other.
+#![tactic(auto)]
+
 pub mod words;
 
 ghost use Rattle.std.specs.Prelude.{◌≡◌, ℕ, ◌+◌, ◌%◌, ◌^◌, ◌<◌, ◌≤◌, true, false, List, [], length, take, drop, slice_index};
@@ -12,7 +14,7 @@ use grid::cell::NONE_TOLD;
 use row::{CEILING, MOST_COLUMNS, is_digit};
 
 // Which table it is.
-#[derive(Drop)]
+#[derive(Clone, Copy)]
 pub enum Table {
     Register,
     Series,
@@ -20,7 +22,7 @@ pub enum Table {
 
 // What is wrong with a line: nothing; it is blank, with another behind it; so many cells, and so many that it should have; a column, counted from 1, that has no number,
 // or one outside its limits, with these; a member's number that is not above the one before it.
-#[derive(Drop)]
+#[derive(Clone, Copy)]
 pub enum Wrong {
     Sound,
     Blank,
@@ -31,7 +33,7 @@ pub enum Wrong {
 }
 
 // A fault at its line, all lines of the file counted from 1.
-#[derive(Drop)]
+#[derive(Clone, Copy)]
 pub struct Found {
     pub line: usize,
     pub wrong: Wrong,
@@ -39,7 +41,7 @@ pub struct Found {
 
 // Where a walk over a table stands: the next byte, the line that is being read, which one that is where no blank line before it is held back, how many are, and the number
 // that it is held against.
-#[derive(Drop)]
+#[derive(Clone, Copy)]
 pub struct Walk {
     pub table: Table,
     pub at: usize,
@@ -51,7 +53,7 @@ pub struct Walk {
 }
 
 // A fault, or none, and where the walk stands then.
-#[derive(Drop)]
+#[derive(Clone, Copy)]
 pub struct Faulted {
     pub found: Found,
     pub walk: Walk,
@@ -198,7 +200,7 @@ fn first_line(text: &[u8]) -> usize
 }
 
 // What the cells of a line say: the first `count` of the list.
-#[derive(Drop)]
+#[derive(Clone, Copy)]
 pub struct Cells {
     pub cells: [u64; MOST_COLUMNS],
     pub count: usize,

@@ -1,0 +1,9 @@
+use Rattle.std.proofs.Common.{arith}
+use Rattle.render.proofs.Placed.{and_then, looser}
+use Rattle.faults.specs.Words.{outside_text}
+use Rattle.faults.proofs.words.put_outside.Goals as goal
+
+pub returns : goal.returns
+unfolding outside_text
+returns c = looser _ (omega arith) (and_then (and_then c.put_column-a.ensures
+    c.put_number-b.ensures) c.put_limits.ensures)
