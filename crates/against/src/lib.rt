@@ -1,4 +1,6 @@
 // Which earlier call stands against a call that scoring refuses with 13.
+#![tactic(auto)]
+
 ghost use Rattle.std.specs.Prelude.{◌≡◌, ◌<◌};
 ghost use Rattle.book.specs.Book.{most_keys, HasRecord, record_at};
 ghost use Rattle.score.specs.Refusing.{clashes};
