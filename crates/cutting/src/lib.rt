@@ -1,4 +1,6 @@
 // Cutting a window in two, so that nobody's pay changes: the two parts, or what stands in the way.
+#![tactic(auto)]
+
 ghost use Rattle.std.specs.Prelude.{◌≡◌, ◌+◌, ◌<◌};
 ghost use Rattle.cutting.specs.declared.Cut.TheVariants.{InTwo};
 ghost use Rattle.cutting.specs.Parts.{first_part_of, second_part_of};
@@ -10,7 +12,7 @@ use units::calendar::MINUTES_PER_QUARTER;
 use wish::{Old, old_in};
 
 // The two parts; or what stands in the way, with the call that was to be cut, or, of a number in use, the call that has it.
-#[derive(Drop)]
+#[derive(Clone, Copy)]
 pub enum Cut {
     InTwo(Call, Call),
     NoCall,

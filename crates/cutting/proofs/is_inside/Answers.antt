@@ -1,0 +1,7 @@
+use mathlib.Core.Path.{refl}
+use Rattle.cutting.specs.Cutting.{is_inside}
+use Rattle.cutting.proofs.is_inside.Goals as goal
+
+pub returns : goal.returns
+unfolding is_inside
+returns c = refl
