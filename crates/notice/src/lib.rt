@@ -1,5 +1,7 @@
 // What is told of the drawer, as bytes in a buffer that the caller lends. Each function answers how long its text is. It answers 0, and
 // leaves the buffer alone, where that is shorter than the most bytes its text may have.
+#![tactic(auto)]
+
 ghost use Rattle.std.specs.Prelude.{[], ◌∷◌, ◌≡◌, eqb};
 ghost use Rattle.io.specs.Counts.{IsPrefixLen};
 ghost use Rattle.render.specs.Room.{Renders};
@@ -22,7 +24,7 @@ const HIGHEST_REVISION: u32 = 0xffff_ffff;
 // How many of each: records that do not stand; calls that are contested, closed to the member's kind, or against another; calls of members
 // without a line; bad lines of the register; series, ramping files and books that are not taken; books that add nothing; the part; sharing's
 // refusals.
-#[derive(Drop)]
+#[derive(Clone, Copy)]
 pub struct Counted {
     pub stale: usize,
     pub contested: usize,

@@ -12,8 +12,7 @@ use Rattle.drawer.specs.declared.apart.Field.{Field}
 use Rattle.drawer.specs.declared.apart.Field.TheVariants.{Service, Start, Length, A, B, C, Nothing}
 use Rattle.notice.specs.Forms.{field_flags, highest_revision, differing_values}
 use borrow.Author.Rules.{rules}
-use Rattle.notice.proofs.differing_text.Statement.{statement}
-use Rattle.notice.proofs.differing_text.Tie as tie
+use Rattle.notice.proofs.differing_text.Goals as goal
 
 -- so many numbers of a list, one by one
 abbrev seven : List ℕ → List ℕ → List ℕ
@@ -32,39 +31,12 @@ values-are : (r : ℕ) (f : Field) (x y : ℤ) {w : List ℕ} {a b higher : ℕ}
     → (r ∷ seven w (a ∷ b ∷ higher ∷ (r + 1) ∷ [])) ≡ differing_values r f x y
 values-are r f x y e p q h = (λ i. r ∷ seven (e i) (p i ∷ q i ∷ h i ∷ (r + 1) ∷ [])) ∙ ap (λ (vs : List ℕ). r ∷ vs) (flags-seven f _)
 
-x_fits : (c : tie.Start) → SFits w64 c.args.x
-x_fits c = search rules
-
-y-fits : (c : tie.Start) → SFits w64 c.args.y
-y-fits c = search rules
-
-returns : tie.Need-returns
-returns c =
-    let s = c.before.before.before.before.before.before.before.before.before.before.before.before.before in
-    let w = c.before.before.before.before.before.before.before.before.before.field-flags.ensures in
-    let a = c.before.before.before.before.before.before.before.before.bits64.ensures ∙ ap (of_z w64) (to_z-of_z w64 s.args.x (x_fits s)) in
-    let b = c.before.before.before.before.before.before.before.bits642.ensures ∙ ap (of_z w64) (to_z-of_z w64 s.args.y (y-fits s)) in
-    let higher = c.before.before.before.before.before.before.flag.ensures in
-    rw (values-are s.args.r s.args.f s.args.x s.args.y w a b higher) at c.before.before.say-with.ensures
-
-pub differing-text-spec : {M : Type 1} → statement M
-differing-text-spec =
-    tie.close
-    (tie.spec
-    (λ c κs. search rules)
-    (λ c κs. search rules)
-    (λ c κs. search rules)
-    (λ c κs. search rules)
-    (λ c. search rules)
-    (λ c. search rules)
-    (λ c. search rules)
-    (λ c. search rules)
-    (λ c. search rules)
-    (λ c. search rules)
-    (λ c. search rules)
-    (λ c. search rules)
-    (λ c. search rules)
-    (λ c. search rules)
-    (λ c κs. search rules)
-    (λ c. search rules)
-    returns)
+pub returns-clause-tells : goal.returns-clause-tells
+returns-clause-tells c =
+    let x_fits : SFits w64 c.args.x = search rules in
+    let y-fits : SFits w64 c.args.y = search rules in
+    let w = c.field_flags-w.ensures in
+    let a = c.bits64-a.ensures ∙ ap (of_z w64) (to_z-of_z w64 c.args.x x_fits) in
+    let b = c.bits64-b.ensures ∙ ap (of_z w64) (to_z-of_z w64 c.args.y y-fits) in
+    let higher = c.flag-higher.ensures in
+    rw (values-are c.args.r c.args.f c.args.x c.args.y w a b higher) at c.say_with.ensures.renders
