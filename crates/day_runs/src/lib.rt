@@ -1,4 +1,6 @@
 // One day of a member's month, for new staff: the runs of minutes that one window covers at one output.
+#![tactic(auto)]
+
 ghost use Rattle.std.specs.Prelude.{◌≡◌, true, [], ◌≤◌};
 ghost use Rattle.book.specs.Check.{check, accepted};
 ghost use Rattle.pay.specs.Member.{member_is_sound, most_rated};
@@ -25,7 +27,7 @@ pub mod runs;
 pub const MOST_RUNS: usize = 192;
 
 // The month's answer, as `reckon` gives it, and so many runs of the day.
-#[derive(Drop)]
+#[derive(Clone, Copy)]
 pub struct DayReckoned {
     pub number: u32,
     pub place: usize,
@@ -36,7 +38,7 @@ pub struct DayReckoned {
 }
 
 // So many runs, at the front.
-#[derive(Drop)]
+#[derive(Clone, Copy)]
 pub struct RunList {
     pub count: usize,
     pub list: [DayRun; MOST_RUNS],

@@ -11,7 +11,7 @@ use units::{Grains, Kw};
 
 // A run: its service, from and up to as minutes of the day, the end not included; its call, the output, what a minute pays, and the day's
 // sum with it.
-#[derive(Drop)]
+#[derive(Clone, Copy)]
 pub struct DayRun {
     pub service: u8,
     pub from: u16,

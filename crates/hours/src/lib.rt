@@ -1,4 +1,6 @@
 // A ramping file read from text, a byte at a time, in fixed memory, whatever the text's length: what each hour of the month pays.
+#![tactic(auto)]
+
 mod line;
 pub mod name;
 mod sheet;
@@ -22,14 +24,14 @@ use units::Grains;
 pub const MOST_HOURS: usize = 744;
 
 // A line of the file: its hour of the month, and its action.
-#[derive(Drop)]
+#[derive(Clone, Copy)]
 pub struct HourLine {
     pub hour: u16,
     pub action: Action,
 }
 
 // What is wrong: nothing; the register line (10) or its kind (12); a line of the file, counted from 0.
-#[derive(Drop)]
+#[derive(Clone, Copy)]
 pub enum HoursFault {
     NoFault,
     OfMember(u32),
@@ -37,7 +39,7 @@ pub enum HoursFault {
 }
 
 // A fault, otherwise zeros; or how many hours the file has, their grains together, and for each hour of the month its grains and its actions.
-#[derive(Drop)]
+#[derive(Clone, Copy)]
 pub struct Hours {
     pub fault: HoursFault,
     pub count: usize,
@@ -55,7 +57,7 @@ pub fn month_hours(hours: u16) -> u16
 }
 
 // All that is kept of the file so far: the line that is being read, whether a blank line before it is held back, and what the lines before that come to.
-#[derive(Drop)]
+#[derive(Clone, Copy)]
 pub struct Reader {
     grid: Grid,
     ended: [u64; MOST_COLUMNS],

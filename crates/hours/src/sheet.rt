@@ -22,7 +22,7 @@ use units::{Grains, Kw};
 // How many lines were taken, the hour of the last of them (else 0), its actions, how many they are, and for each hour of the month its grains and its actions.
 // `refused`: the member, or the line after them, has the fault. The actions of the last hour are kept, and their sums made of them anew at every line: sums that
 // came from no actions could be past what adding to them allows.
-#[derive(Drop)]
+#[derive(Clone, Copy)]
 pub struct Sheet {
     pub refused: bool,
     pub fault: HoursFault,
