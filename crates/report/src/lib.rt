@@ -1,5 +1,7 @@
 // What people read of a month, as bytes in a buffer that the caller lends. Each function answers how long its text is. It answers 0, and
 // leaves the buffer alone, where that is shorter than the most bytes its text may have.
+#![tactic(auto)]
+
 ghost use Rattle.std.specs.Prelude.{◌≡◌, ◌+◌, ◌*◌, ◌≤◌, length};
 ghost use Rattle.io.specs.Counts.{IsPrefixLen};
 ghost use Rattle.render.specs.Inner.{Puts};

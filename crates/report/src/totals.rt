@@ -8,7 +8,7 @@ use render::size;
 use units::SignedFen;
 
 // C, A, what is due to members and what members owe, in fen.
-#[derive(Drop)]
+#[derive(Clone, Copy)]
 pub struct Totals {
     pub compensation: u64,
     pub assessment: u64,

@@ -1,0 +1,14 @@
+use mathlib.Core.Path.{◌∙◌, ap}
+use Rattle.report.specs.declared.totals.Totals.{Totals}
+use Rattle.report.specs.Totals.{with_user}
+use Rattle.report.specs.Texts.{month_of}
+use Rattle.render.proofs.Placed.{and_then}
+use Rattle.report.proofs.put_month.Goals as goal
+
+pub returns : goal.returns
+unfolding month_of
+returns c =
+    let s = c.args.s in
+    let t = c.totals_of-t.ensures in
+    let e = c.with_user-all.ensures ∙ ap (λ (x : Totals). with_user x s.user.0) t in
+    and_then c.put_rows-a.ensures (rw e at c.put_foot.ensures)

@@ -1,0 +1,11 @@
+use native.Mathlib.Omega.{arith}
+use Rattle.report.specs.Totals.{apart}
+use Rattle.report.proofs.totals.apart.Goals as goal
+
+pub returns-then-a-b : goal.returns-then-a-b
+unfolding apart
+returns-then-a-b c = omega arith
+
+pub returns-else-a-b : goal.returns-else-a-b
+unfolding apart
+returns-else-a-b c = omega arith

@@ -1,9 +1,0 @@
-use borrow.Author.Rules.{rules}
-use Rattle.report.proofs.why.explained_text.Statement.{statement}
-use Rattle.report.proofs.why.explained_text.Tie as tie
-
-returns : tie.Need-returns
-returns c = rw c.before.before.before.before.before.before.to-fen.ensures at c.before.before.say.ensures
-
-pub explained-text-spec : {M : Type 1} → statement M
-explained-text-spec = tie.close (tie.spec (λ c κs. search rules) (λ c. search rules) (λ c. search rules) (λ c κs. search rules) (λ c. search rules) returns)
