@@ -21,7 +21,7 @@ use call::{CONTESTED, LIVE, RECORD_SIZE};
 use rule::{Decision, decide_at};
 
 // Where a member's records lie in a book: from a place up to an end.
-#[derive(Drop)]
+#[derive(Clone, Copy)]
 pub struct Run {
     pub at: usize,
     pub end: usize,
@@ -40,7 +40,7 @@ fn run_on(given: &[u8], member: u16) -> Run
 }
 
 // The first record of a member's, up to an end, whose key is not below an incoming one's, and whether it has that key.
-#[derive(Drop)]
+#[derive(Clone, Copy)]
 pub struct Found {
     pub at: usize,
     pub known: bool,

@@ -1,4 +1,6 @@
 // The page of tabs beside a book: made afresh, held against its book, and brought forward over a join.
+#![tactic(auto)]
+
 ghost use Rattle.std.specs.Prelude.{◌≡◌, ◌≤◌, length};
 ghost use Rattle.book.specs.Book.{header_at, calls_of};
 ghost use Rattle.pair.specs.Screening.{IsAccepted};
@@ -20,7 +22,7 @@ pub mod page;
 pub mod walk;
 
 // A member's calls: the index of the first one, how many they are, and how many are live, contested and withdrawn.
-#[derive(Drop)]
+#[derive(Clone, Copy)]
 pub struct Tab {
     pub index: u16,
     pub count: u16,

@@ -15,7 +15,7 @@ use call::layout::{participant_at, state_at};
 use call::{CONTESTED, LIVE, MOST_PARTICIPANT, RECORD_SIZE, WITHDRAWN};
 
 // A member's calls by their states.
-#[derive(Drop)]
+#[derive(Clone, Copy)]
 pub struct Tally {
     pub live: u16,
     pub contested: u16,
@@ -48,7 +48,7 @@ impl Tally {
 }
 
 // The calls that are not live.
-#[derive(Drop)]
+#[derive(Clone, Copy)]
 pub struct Others {
     pub contested: u16,
     pub withdrawn: u16,
