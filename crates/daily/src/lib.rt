@@ -1,5 +1,7 @@
 // What the desk prints of one run of a day, and of the month behind the runs: lines in a buffer that the caller lends. Each function answers how long its
 // text is; 0, and the buffer is left alone, where that is shorter than the most bytes that such a text may have.
+#![tactic(auto)]
+
 ghost use Rattle.io.specs.Counts.{IsPrefixLen};
 ghost use Rattle.render.specs.Room.{Renders};
 ghost use Rattle.form.specs.Form.{most_of};
