@@ -2,18 +2,18 @@
 use mathlib.Core.Path.{◌≡◌, refl, ap, sym, ◌∙◌}
 use mathlib.Core.Bool.{Bool, true, false, cond, not, ◌&&◌, ◌||◌}
 use mathlib.Core.List.{List, [], ◌∷◌, ◌++◌, map}
-use Prim.Native.Nat.{ℕ, suc, ◌+◌, ◌-◌, ◌≤◌, ◌<◌}
+use Prim.Native.Nat.{ℕ, suc, ◌+◌, ◌≤◌, ◌<◌}
 use native.Mathlib.Nat.{zero-add}
 use native.Mathlib.Numerals.{add-one}
 use native.Mathlib.Omega.{arith}
 use lib.Dec.{ltb, eqb, eqb-suc-suc}
-use lib.ListN.{take, set, length, replicate, get_or}
+use lib.ListN.{take, set, length, get_or}
 use lib.Seq.{take-suc-set, append_snoc}
 use borrow.Author.Tests.{lt-ltb, ne_eqb, eq-eqb, eqb-true}
 use Rattle.le.proofs.Tests.{each}
 use Rattle.row.specs.declared.Row.{Row}
 use Rattle.row.specs.Numbers.{onto, parts_of, is_digit, digits, not_empty, numbers, value, numbers_in, ceiling, hold, numbers_of}
-use Rattle.row.specs.Meaning.{most_columns, row_is_begun, is_row, row_at, row_parts, row_numbers, RowFresh, RowFollows}
+use Rattle.row.specs.Meaning.{row_is_begun, is_row, row_at, row_parts, row_numbers, RowFresh, RowFollows}
 use Rattle.row.proofs.Texts.{and_false, or_true, by_parts, grows}
 
 -- A number past every limit is told alike, whatever digits follow

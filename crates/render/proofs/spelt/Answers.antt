@@ -1,4 +1,3 @@
-use Prim.Native.Nat.{◌-◌}
 use native.Mathlib.Omega.{arith}
 use lib.ListN.{length-set}
 use Rattle.render.proofs.Spelling.{one_spelt, all_spelt, two_places_lem, tenth}
