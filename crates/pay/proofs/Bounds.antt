@@ -8,7 +8,7 @@ use native.Mathlib.Nat.{mul-le-mul, lt_of_le_of_lt}
 use native.Mathlib.Omega.{arith}
 use lib.Dec.{T, lit<, eqb, ltb, leb}
 use lib.Signed.{le_z}
-use lib.ListN.{get_or, length}
+use lib.ListN.{get_or}
 use borrow.Author.Tests.{leb-true, ltb-true, eqb-true}
 use Rattle.le.proofs.Tests.{Hold, each}
 use Rattle.call.specs.declared.Call.{Call}

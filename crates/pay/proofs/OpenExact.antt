@@ -1,16 +1,15 @@
 -- The test of what is open holds exactly where a row of the paper's list opens the call; and which months the closing month parts. Assumes nothing.
 use mathlib.Core.Path.{◌≡◌, refl, sym, ◌∙◌, ap}
 use mathlib.Core.Bool.{Bool, true, false, cond, ◌&&◌, ◌||◌, true≢false}
-use mathlib.Core.List.{List, [], ◌∷◌}
+use mathlib.Core.List.{[], ◌∷◌}
 use mathlib.Core.Logic.{◌⊎◌, inl, inr, ⊎_elim, ◌↔◌}
-use Prim.Native.Nat.{ℕ, zero, suc, ◌≤◌, ◌<◌}
-use native.Mathlib.Decide.{ℕ_discrete}
+use Prim.Native.Nat.{ℕ, zero, suc, ◌≤◌}
 use native.Mathlib.Omega.{arith}
 use lib.Dec.{eqb, ltb, leb}
 use lib.IntN.{ℤ, pos, negsuc}
 use lib.Signed.{le_z}
-use borrow.Author.Tests.{lt-ltb, le-leb, eq-eqb, ne_eqb, eqb-true, eqb-false, ltb-true, leb-true}
-use Rattle.le.proofs.Tests.{each, all}
+use borrow.Author.Tests.{lt-ltb, le-leb, ne_eqb, eqb-true, eqb-false, ltb-true, leb-true}
+use Rattle.le.proofs.Tests.{each}
 use Rattle.call.specs.declared.Call.{Call}
 use Rattle.call.specs.Services.{deep_peak, reserve, start_stop, standby, black_start, agc_availability, agc_contribution, frequency_event, avc, stability_trip, most_rate}
 use Rattle.pay.specs.declared.Member.{Member}

@@ -1,6 +1,6 @@
 use native.Mathlib.Omega.{arith}
 use mathlib.Core.Path.{◌≡◌, sym}
-use Prim.Native.Nat.{◌-◌, ◌/◌}
+use Prim.Native.Nat.{◌/◌}
 use Rattle.pay.specs.Window.{window_quarters}
 use Rattle.pay.proofs.Sums.{total_none, total_step}
 use borrow.Author.Rules.{rules}
