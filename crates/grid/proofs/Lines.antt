@@ -17,7 +17,7 @@ use Rattle.grid.specs.declared.cell.Cell.TheVariants.{Fresh, Bad}
 use Rattle.grid.specs.declared.Grid.{Grid}
 use Rattle.grid.specs.Grid.{comma, carriage_return, plain, is_blank, quote, unquoted}
 use Rattle.grid.specs.Told.{dash, told}
-use Rattle.grid.specs.Meaning.{told_left, cell_so_far, cell_quote, cell_dash, row_by, cells_left, plain_left, head_left, blank_left, row_left, grid_opened, grid_spoilt, grid_digits}
+use Rattle.grid.specs.Meaning.{told_left, cell_so_far, cell_quote, cell_dash, cells_left, plain_left, head_left, blank_left, row_left, grid_opened, grid_spoilt, grid_digits}
 use Rattle.grid.proofs.Cells.{foreign, by_quote, by_dash, by_digit}
 
 -- the line by one byte more

@@ -8,7 +8,7 @@ use lib.Dec.{eqb}
 use borrow.Author.Tests.{lt-ltb}
 use lib.ListN.{drop, take, replicate}
 use Rattle.le.proofs.Tests.{each}
-use Rattle.row.specs.Numbers.{lines_of, numbers_in, parts_of}
+use Rattle.row.specs.Numbers.{lines_of, numbers_in}
 use Rattle.row.specs.Meaning.{most_columns}
 use Rattle.row.proofs.Texts.{by_parts}
 use Rattle.grid.specs.declared.cell.Cell.TheVariants.{Fresh}

@@ -8,7 +8,7 @@ use lib.Dec.{eqb, ltb}
 use lib.ListN.{drop}
 use borrow.Author.Tests.{ne_eqb, le-ltb}
 use Rattle.le.proofs.Tests.{holds_or_fails}
-use Rattle.row.specs.Numbers.{onto, lines_of, numbers}
+use Rattle.row.specs.Numbers.{onto, lines_of}
 use Rattle.grid.specs.declared.cell.Cell.TheVariants.{Bad}
 use Rattle.grid.specs.declared.Grid.{Grid}
 use Rattle.grid.specs.Grid.{comma, is_separator, separator_of, as_comma, has_digit}

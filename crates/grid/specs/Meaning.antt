@@ -1,14 +1,14 @@
 -- What the reader's state says: the rows of a text of which it has read all but the rest. It serves the contracts of the reader alone; what a text says is in Grid.
 -- Assumes nothing.
 use Rattle.std.specs.Prelude.{◌≡◌, Bool, true, false, cond, not, ◌&&◌, List, [], ◌∷◌, ◌++◌, map, ℕ, suc, ◌+◌, ◌-◌, ◌≤◌, ◌<◌, eqb, leb, ltb, length, take, drop, replicate, get_or}
-use Rattle.row.specs.Numbers.{line_feed, not_empty, lines_of, parts_of, is_digit, digits, is_number, value, ceiling, hold}
+use Rattle.row.specs.Numbers.{line_feed, not_empty, lines_of, parts_of, is_digit, digits, value, ceiling, hold}
 use Rattle.row.specs.Meaning.{most_columns}
 use Rattle.grid.specs.declared.cell.Cell.{Cell}
 use Rattle.grid.specs.declared.cell.Cell.TheVariants.{Fresh, Bare, Opened, Quoted, Dashed, Closed, Bad}
 use Rattle.grid.specs.declared.Grid.{Grid}
 use Rattle.grid.specs.declared.Step.{Step}
 use Rattle.grid.specs.declared.cell.Run.{Run}
-use Rattle.grid.specs.Grid.{mark, begins_with, comma, is_separator, separator_of, as_comma, commas, has_digit, carriage_return, plain, is_blank, trimmed, closing, unquoted, cells_of, body_of}
+use Rattle.grid.specs.Grid.{mark, begins_with, comma, is_separator, separator_of, as_comma, commas, has_digit, carriage_return, plain, is_blank, trimmed, closing, unquoted}
 use Rattle.grid.specs.Told.{dash, no_number, none_told, told, row_in, rows_by}
 
 -- Cells
