@@ -1,4 +1,6 @@
 // The month's statement as a file: its text, and the reader of it.
+#![tactic(auto)]
+
 ghost use Rattle.std.specs.Prelude.{◌≡◌};
 ghost use Rattle.io.specs.Counts.{IsPrefixLen};
 ghost use Rattle.render.specs.Room.{Renders};
@@ -18,14 +20,14 @@ use line::{head_at, rows_at, sum_at};
 use put::put_posted;
 
 // How a text reads: whole, or refused at a line, counted from 0.
-#[derive(Drop)]
+#[derive(Clone, Copy)]
 pub enum Reading {
     Whole,
     BadLine(usize),
 }
 
 // How a text reads, and the statement where it is read whole. How it reads decides: beside a refusal stand zeros, whose fault says nothing.
-#[derive(Drop)]
+#[derive(Clone, Copy)]
 pub struct Posted {
     pub statement: Statement,
     pub reading: Reading,

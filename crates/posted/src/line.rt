@@ -11,7 +11,7 @@ use register::MOST_ENTRIES;
 use units::{Fen, Grains, Mwh, SignedFen, Thousandths};
 
 // The numbers of a first line.
-#[derive(Drop)]
+#[derive(Clone, Copy)]
 pub struct Heads {
     pub calls: usize,
     pub part: u32,
@@ -19,7 +19,7 @@ pub struct Heads {
 }
 
 // The numbers of the three parts of a member's line.
-#[derive(Drop)]
+#[derive(Clone, Copy)]
 pub struct Earned {
     pub number: u64,
     pub hours: u64,
@@ -29,7 +29,7 @@ pub struct Earned {
     pub next: usize,
 }
 
-#[derive(Drop)]
+#[derive(Clone, Copy)]
 pub struct Carried {
     pub energy: u64,
     pub weight: u64,
@@ -37,7 +37,7 @@ pub struct Carried {
     pub next: usize,
 }
 
-#[derive(Drop)]
+#[derive(Clone, Copy)]
 pub struct Got {
     pub uncollected: u64,
     pub given: u64,
@@ -45,7 +45,7 @@ pub struct Got {
 }
 
 // A line: whether it is one, what it says, and the place behind it.
-#[derive(Drop)]
+#[derive(Clone, Copy)]
 pub struct HeadLine {
     pub calls: usize,
     pub next: usize,
@@ -54,14 +54,14 @@ pub struct HeadLine {
     pub is: bool,
 }
 
-#[derive(Drop)]
+#[derive(Clone, Copy)]
 pub struct RowLine {
     pub row: Row,
     pub next: usize,
     pub is: bool,
 }
 
-#[derive(Drop)]
+#[derive(Clone, Copy)]
 pub struct SumLine {
     pub amount: SignedFen,
     pub next: usize,
@@ -69,7 +69,7 @@ pub struct SumLine {
 }
 
 // The members' lines, and the place behind them.
-#[derive(Drop)]
+#[derive(Clone, Copy)]
 pub struct RowLines {
     pub rows: [Row; MOST_ENTRIES],
     pub count: usize,

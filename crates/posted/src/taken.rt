@@ -11,13 +11,13 @@ const LARGEST: u64 = 18446744073709551615;
 const LARGEST_SIGNED: u64 = 9223372036854775807;
 
 // A number and the place behind it.
-#[derive(Drop)]
+#[derive(Clone, Copy)]
 pub struct Number {
     pub value: u64,
     pub next: usize,
 }
 
-#[derive(Drop)]
+#[derive(Clone, Copy)]
 pub struct SignedNumber {
     pub value: i64,
     pub next: usize,

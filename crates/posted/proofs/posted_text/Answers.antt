@@ -1,0 +1,19 @@
+use mathlib.Core.Path.{sym, ◌∙◌}
+use native.Mathlib.Omega.{arith}
+use Rattle.render.proofs.Placed.{rendered, same_put, looser, none_put}
+use Rattle.posted.specs.Posted.{most_posted}
+use Rattle.posted.proofs.Posting.{settled_text, unsettled_text}
+use Rattle.posted.proofs.posted_text.Goals as goal
+
+pub returns-then-not-is_settled : goal.returns-then-not-is_settled
+returns-then-not-is_settled c =
+    let a = c.args in
+    let no = sym c.is_settled.ensures ∙ c.if-not-is_settled.true in
+    let both = rendered most_posted c.if-out-lt-MOST_POSTED.false (same_put (unsettled_text a.s no) (looser most_posted (omega arith) (none_put a.out.now 0))) in
+    record { renders = both.0; prefix_len = both.1 }
+
+pub returns : goal.returns
+returns c =
+    let yes = sym c.is_settled.ensures ∙ c.if-not-is_settled.false in
+    let both = rendered most_posted c.if-out-lt-MOST_POSTED.false (same_put (settled_text c.args.s yes) c.put_posted.ensures) in
+    record { renders = both.0; prefix_len = both.1 }
