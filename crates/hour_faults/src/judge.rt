@@ -15,7 +15,7 @@ pub const COLUMNS: usize = 7;
 
 // The fault of the first bad line, or that there is none so far; the hours of the month; how many lines were sound before it, the hour of the last of them (else 0), how
 // many actions that has, and the standard rate of its first.
-#[derive(Drop)]
+#[derive(Clone, Copy)]
 pub struct Judge {
     pub wrong: HourWrong,
     pub hours: u16,

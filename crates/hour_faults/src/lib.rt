@@ -1,4 +1,6 @@
 // What is wrong with a ramping file: its first bad line, found in a stream of any length in fixed memory.
+#![tactic(auto)]
+
 mod judge;
 pub mod words;
 
@@ -18,7 +20,7 @@ use row::{CEILING, MOST_COLUMNS, is_digit};
 // What is wrong with a line: nothing; it is blank, with another behind it; so many cells, and so many that it should have; a column, counted from 1, that has no number;
 // one whose number is outside its limits, with these; an hour below that of the line before, with that; an hour that has 60 actions before it; a standard rate of an hour
 // that is not its first action's, with that; a real rate more than 100 times the standard; a commanded power that is the start's.
-#[derive(Drop)]
+#[derive(Clone, Copy)]
 pub enum HourWrong {
     Sound,
     Blank,
@@ -33,7 +35,7 @@ pub enum HourWrong {
 }
 
 // A fault at its line, all lines of the file counted from 1; 0 where there is none.
-#[derive(Drop)]
+#[derive(Clone, Copy)]
 pub struct HourFound {
     pub line: usize,
     pub wrong: HourWrong,
@@ -41,7 +43,7 @@ pub struct HourFound {
 
 // All that is kept of the file so far: the line that is being read, whether a blank line before it is held back, the line of its first row where that is known (else 0),
 // and what the lines before that come to.
-#[derive(Drop)]
+#[derive(Clone, Copy)]
 pub struct Finder {
     grid: Grid,
     ended: [u64; MOST_COLUMNS],

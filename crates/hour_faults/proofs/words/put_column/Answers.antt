@@ -1,0 +1,10 @@
+use Rattle.std.proofs.Common.{arith}
+use Rattle.render.proofs.Placed.{and_then, looser}
+use Rattle.hour_faults.specs.Words.{column_text}
+use Rattle.hour_faults.proofs.words.put_column.Goals as goal
+
+pub returns : goal.returns
+unfolding column_text
+returns c =
+    looser _ (omega arith) (and_then (and_then c.put_field-a.ensures
+    c.put_word-b.ensures) c.put_name.ensures)

@@ -1,0 +1,11 @@
+use Rattle.std.proofs.Common.{arith}
+use Rattle.render.proofs.Placed.{and_then, looser}
+use Rattle.hour_faults.specs.Words.{other_text}
+use Rattle.hour_faults.proofs.words.put_other.Goals as goal
+
+pub returns : goal.returns
+unfolding other_text
+returns c =
+    looser _ (omega arith) (and_then (and_then
+    c.put_cell-a.ensures
+    c.put_field-b.ensures) c.put_field.ensures)
