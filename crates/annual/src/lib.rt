@@ -1,5 +1,7 @@
 // What people read of a year, as bytes in a buffer that the caller lends: a line for each member that is in a month, the users' sum, and the sums of all. It answers how
 // long the text is; 0, and leaves the buffer alone, where that is shorter than the most bytes such a text may have.
+#![tactic(auto)]
+
 ghost use Rattle.std.specs.Prelude.{◌≡◌, ◌+◌, ◌*◌, ◌≤◌, length};
 ghost use Rattle.io.specs.Counts.{IsPrefixLen};
 ghost use Rattle.render.specs.Inner.{Puts};

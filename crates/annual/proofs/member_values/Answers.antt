@@ -6,9 +6,7 @@ use lib.ListN.{get_or}
 use mir.Val.{bool_byte}
 use Rattle.form.specs.Form.{flag}
 use Rattle.annual.specs.Forms.{month_flags, member_values}
-use borrow.Author.Rules.{rules}
-use Rattle.annual.proofs.member_values.Statement.{statement}
-use Rattle.annual.proofs.member_values.Tie as tie
+use Rattle.annual.proofs.member_values.Goals as goal
 
 flagged : (is : Bool) → bool_byte is ≡ flag is
 unfolding flag
@@ -30,48 +28,13 @@ months-are m rest = λ i.
     ∷ flagged (get_or m 8 false) i ∷ flagged (get_or m 9 false) i ∷ flagged (get_or m 10 false) i ∷ flagged (get_or m 11 false) i
     ∷ rest
 
-returns : tie.Need-returns
+pub returns : goal.returns
 unfolding member_values
 returns c =
-    let a = c.before.before.before.before.before.before.before.before.before.before.args in
-    let e = c.before.before.before.before.to-fen.ensures in
-    let s = c.before.before.before.fen-bits.ensures in
-    let t = c.before.before.fen-bits2.ensures in
-    let l = c.before.fen-bits3.ensures in
+    let a = c.args in
+    let e = c.to_fen-charged.ensures in
+    let s = c.fen_bits-share.ensures in
+    let t = c.fen_bits-amount.ensures in
+    let l = c.fen_bits-most.ensures in
     ap (λ (vs : List ℕ). a.number ∷ vs)
     ((λ i. twelve a.m.months (a.m.sums.compensation.0 ∷ e i ∷ s i ∷ t i ∷ l i ∷ a.m.largest.month ∷ [])) ∙ months-are a.m.months _)
-
-pub member-values-spec : {M : Type 1} → statement M
-member-values-spec =
-    tie.close
-    (tie.spec
-    (λ c κs. search rules)
-    (λ c κs. search rules)
-    (λ c κs. search rules)
-    (λ c κs. search rules)
-    (λ c. search rules)
-    (λ c. search rules)
-    (λ c. search rules)
-    (λ c. search rules)
-    (λ c. search rules)
-    (λ c. search rules)
-    (λ c. search rules)
-    (λ c. search rules)
-    (λ c. search rules)
-    (λ c. search rules)
-    (λ c. search rules)
-    (λ c. search rules)
-    (λ c. search rules)
-    (λ c. search rules)
-    (λ c. search rules)
-    (λ c. search rules)
-    (λ c. search rules)
-    (λ c. search rules)
-    (λ c. search rules)
-    (λ c. search rules)
-    (λ c. search rules)
-    (λ c. search rules)
-    (λ c. search rules)
-    (λ c. search rules)
-    (λ c. search rules)
-    returns)
