@@ -1,5 +1,4 @@
 use mathlib.Core.Path.{sym, ◌∙◌}
-use Prim.Native.Nat.{◌-◌}
 use native.Mathlib.Omega.{arith}
 use Rattle.clock.proofs.Parts.{here, on, over}
 use Rattle.clock.proofs.mark_at.Goals as goal

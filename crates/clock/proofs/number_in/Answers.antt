@@ -1,7 +1,5 @@
 use mathlib.Core.Path.{sym, ◌∙◌}
-use Prim.Native.Nat.{◌-◌}
 use native.Mathlib.Omega.{arith}
-use Rattle.row.specs.Numbers.{hold}
 use Rattle.clock.proofs.Parts.{no_digits, bad_digit, all_digits}
 use Rattle.clock.proofs.number_in.Goals as goal
 
