@@ -1,4 +1,3 @@
-use Prim.Native.Nat.{◌-◌}
 use native.Mathlib.Omega.{arith}
 use Rattle.names.proofs.Words.{same_on, same_not, same_all, same_long}
 use Rattle.names.proofs.is_same.Goals as goal

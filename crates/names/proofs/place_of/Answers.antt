@@ -1,4 +1,3 @@
-use Prim.Native.Nat.{◌-◌}
 use native.Mathlib.Omega.{arith}
 use Rattle.names.proofs.Words.{place_here, place_on, no_place}
 use Rattle.names.proofs.place_of.Goals as goal

@@ -1,4 +1,3 @@
-use Prim.Native.Nat.{◌-◌}
 use native.Mathlib.Omega.{arith}
 use Rattle.names.proofs.Words.{skip_on, skip_done, skip_end}
 use Rattle.names.proofs.skipped.Goals as goal
