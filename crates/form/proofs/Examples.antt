@@ -11,7 +11,7 @@ use Rattle.render.specs.Yuan.{two_places, five_places, yuan, signed_yuan, points
 use Rattle.clock.specs.Clock.{before, behind, two_digits, clock_text, date_text, hours_text, minutes_text, length_text}
 use Rattle.names.specs.Names.{skip, word_at, services, kinds, months, same, service_word, kind_word, month_word}
 use Rattle.form.specs.Form.{bits, time_text, shown, word_shown, is_number, is_sign, byte_text, next_on, next_marked, taken_by, filled_from, filled, filled_with}
-use Rattle.form.specs.Form.{most_shown, most_word_shown, most_byte, most_from, most_of}
+use Rattle.form.specs.Form.{most_shown, most_byte, most_from, most_of}
 
 -- a form, its numbers, and what is shown
 pub data Case : Type 0 where

@@ -1,4 +1,3 @@
-use Prim.Native.Nat.{◌-◌}
 use native.Mathlib.Omega.{arith}
 use Rattle.form.proofs.Filling.{walk_end}
 use Rattle.form.proofs.fill_with.Goals as goal

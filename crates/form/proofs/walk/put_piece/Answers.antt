@@ -1,4 +1,3 @@
-use mathlib.Core.Path.{refl}
 use native.Mathlib.Omega.{arith}
 use Rattle.form.proofs.Filling.{walk_run, walk_then, run_room}
 use Rattle.form.proofs.walk.put_piece.Goals as goal
