@@ -2,7 +2,7 @@
 use mathlib.Core.Path.{◌≡◌, refl, sym, ◌∙◌, ap}
 use mathlib.Core.List.{List, [], ◌∷◌, ◌++◌, map, append_assoc}
 use mathlib.Core.Logic.{◌≢◌}
-use Prim.Native.Nat.{ℕ, zero, suc, ◌+◌, ◌-◌, ◌/◌, ◌%◌, ◌≤◌, ◌<◌}
+use Prim.Native.Nat.{ℕ, zero, suc, ◌/◌, ◌%◌, ◌≤◌, ◌<◌}
 use native.Mathlib.Decide.{dec_lt}
 use native.Mathlib.Omega.{arith}
 use borrow.Author.Tests.{ne_eqb}
@@ -17,7 +17,7 @@ use Rattle.render.specs.Decimal.{word, digit, decimal_in, decimal, signed_decima
 use Rattle.form.specs.Form.{bits, filled, shown, is_number, is_sign, byte_text, next_on, next_marked, taken_by, filled_from}
 use Rattle.text.specs.Forms.{refused_form, total_form, line_form, user_form}
 use Rattle.text.specs.Reading.{blank_byte, minus, word_number, rows_of, nothing_named, named, but_last, last_named, Reading, read_rows, read_numbers, line_numbers}
-use Rattle.text.specs.Reading.{LineFits, LinesFit, no_line, one_line, StatementFits}
+use Rattle.text.specs.Reading.{LinesFit, no_line, one_line, StatementFits}
 use Rattle.text.specs.Texts.{line_text, lines_text, statement_text}
 use Rattle.render.proofs.Decimals.{small, none_left, large}
 use Rattle.form.proofs.Said.{signed_back}

@@ -1,6 +1,6 @@
 use native.Mathlib.Omega.{arith}
 use borrow.Author.Rules.{rules}
-use Rattle.render.proofs.Placed.{no_room, rendered, same_put, looser}
+use Rattle.render.proofs.Placed.{rendered, same_put, looser}
 use Rattle.text.specs.Texts.{most_statement}
 use Rattle.text.proofs.Statements.{accepted_text_lem, refusal_text, most_refused}
 use mathlib.Core.List.{List, [], ◌∷◌}
