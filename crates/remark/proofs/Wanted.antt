@@ -1,22 +1,20 @@
 -- What the words of 12 say is open is open. Assumes nothing.
 use mathlib.Core.Path.{◌≡◌, refl, sym, ◌∙◌}
-use mathlib.Core.Bool.{Bool, true, false, true≢false}
-use mathlib.Core.List.{List, [], ◌∷◌}
+use mathlib.Core.Bool.{true≢false}
+use mathlib.Core.List.{[], ◌∷◌}
 use mathlib.Core.Logic.{◌⊎◌, inl, inr, ⊎_elim}
 use Prim.Native.Nat.{ℕ, zero, suc, ◌≤◌, ◌<◌}
-use native.Mathlib.Decide.{ℕ_discrete}
 use native.Mathlib.Omega.{arith}
-use lib.Dec.{eqb, ltb}
 use lib.IntN.{ℤ, pos}
 use borrow.Author.Tests.{lt-ltb, le-ltb, ne_eqb, eqb-true}
 use Rattle.call.specs.declared.Call.{Call}
-use Rattle.call.specs.Services.{deep_peak, reserve, start_stop, standby, black_start, agc_availability, agc_contribution, frequency_event, avc, stability_trip, most_rate}
+use Rattle.call.specs.Services.{deep_peak, reserve, start_stop, standby, black_start, agc_availability, frequency_event, stability_trip, most_rate}
 use Rattle.pay.specs.declared.Member.{Member}
 use Rattle.pay.specs.declared.open.Month.{Month}
 use Rattle.pay.specs.Kinds.{coal, gas, hydro, wind, photovoltaic}
 use Rattle.pay.specs.Member.{MemberWithin, has_availability}
-use Rattle.pay.specs.Open.{closing_month, open_to}
-use Rattle.pay.specs.OpenRows.{Before, HasAvailability, Open, deep_peak_coal, reserve_coal, reserve_gas_hydro, start_stop_coal_gas_hydro, standby_coal, black_start_all}
+use Rattle.pay.specs.Open.{open_to}
+use Rattle.pay.specs.OpenRows.{HasAvailability, Open, deep_peak_coal, reserve_coal, reserve_gas_hydro, start_stop_coal_gas_hydro, standby_coal, black_start_all}
 use Rattle.pay.specs.OpenRows.{availability_named, contribution_all, event_wind_photovoltaic, event_others, avc_all, trip_all}
 use Rattle.pay.proofs.OpenExact.{before_of, of_open}
 use Rattle.form.specs.Form.{flag}
