@@ -1,7 +1,5 @@
 -- Two runs as they are printed, worked out apart. Assumes nothing.
 use mathlib.Core.Path.{◌≡◌, refl}
-use mathlib.Core.List.{List}
-use Prim.Native.Nat.{ℕ}
 use Rattle.call.specs.Services.{deep_peak, reserve}
 use Rattle.clock.specs.Clock.{before, behind, two_digits}
 use Rattle.names.specs.Names.{skip, word_at, services, service_word}
