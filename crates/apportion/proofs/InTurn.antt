@@ -9,8 +9,7 @@ use lib.Dec.{eqb, ltb}
 use lib.ListN.{length, get_or, set, length-set}
 use borrow.Author.Tests.{ltb-true}
 use lib.Seq.{get_or-set_same, get_or-set_other, set-get_or}
-use Rattle.apportion.specs.Apportion.{total}
-use Rattle.apportion.specs.Giving.{top, largest_at, give_out}
+use Rattle.apportion.specs.Giving.{top, largest_at}
 use Rattle.apportion.specs.Ties.{UnitsGiven, UnitInTurn, served, passed}
 use Rattle.apportion.proofs.Laws.{total_set, at_largest}
 use Rattle.apportion.proofs.Loops.{give_turn, largest_is, le_top}

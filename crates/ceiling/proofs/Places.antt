@@ -2,7 +2,7 @@
 use mathlib.Core.Path.{◌≡◌, refl, sym, ap, ◌∙◌, subst}
 use mathlib.Core.Bool.{true, false}
 use mathlib.Core.List.{List, [], ◌∷◌, ◌++◌}
-use Prim.Native.Nat.{ℕ, zero, suc, ◌+◌, ◌*◌, min, ◌≤◌, ◌<◌}
+use Prim.Native.Nat.{ℕ, zero, suc, ◌*◌, min, ◌≤◌, ◌<◌}
 use native.Mathlib.Nat.{not-suc-le-zero, min-eq_left, min-eq_right}
 use native.Mathlib.Decide.{dec_le}
 use native.Mathlib.Omega.{arith}
@@ -12,7 +12,7 @@ use lib.Seq.{length-take-le, get_or-take, take_all}
 use Rattle.apportion.specs.Apportion.{total}
 use Rattle.share.specs.declared.Line.{Line}
 use Rattle.share.specs.Sharing.{Part}
-use Rattle.share.specs.Forms.{fill_in, filled, blank_line}
+use Rattle.share.specs.Forms.{fill_in, blank_line}
 use Rattle.share.proofs.Lists.{get_d_mapped}
 use Rattle.ceiling.specs.declared.LimitedLine.{LimitedLine}
 use Rattle.ceiling.specs.Ceiling.{limited_is_sound, first_bad_limited, plain_lines, beyond, positive, uncollected_of, positives, CeiledPart, ceiled_part, ceiled_by}

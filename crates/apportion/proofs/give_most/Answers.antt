@@ -1,5 +1,4 @@
 use mathlib.Core.Path.{sym, ◌∙◌}
-use Prim.Native.Nat.{◌-◌}
 use native.Mathlib.Omega.{arith}
 use Rattle.apportion.proofs.Loops.{get_d_total}
 use Rattle.apportion.proofs.InTurn.{given_one, given_more, struck_le}

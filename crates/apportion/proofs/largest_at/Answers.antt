@@ -1,4 +1,3 @@
-use Prim.Native.Nat.{◌-◌}
 use native.Mathlib.Omega.{arith}
 use Rattle.apportion.proofs.Loops.{ahead_end}
 use Rattle.apportion.proofs.largest_at.Goals as goal

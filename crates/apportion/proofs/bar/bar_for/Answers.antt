@@ -1,4 +1,3 @@
-use Prim.Native.Nat.{◌-◌}
 use native.Mathlib.Omega.{arith}
 use Rattle.apportion.proofs.Turns.{above_none}
 use Rattle.apportion.proofs.bar.bar_for.Goals as goal

@@ -1,4 +1,3 @@
-use Prim.Native.Nat.{◌-◌}
 use native.Mathlib.Omega.{arith}
 use Rattle.apportion.proofs.Turns.{above_step, above_le}
 use Rattle.apportion.proofs.bar.count_above.Goals as goal

@@ -1,4 +1,4 @@
-use Rattle.std.proofs.Common.{◌≡◌, ◌≤◌, ℕ, min, List, length, get_or, set, refl, sym, ap, ◌∙◌, arith}
+use Rattle.std.proofs.Common.{◌≡◌, ◌≤◌, min, List, length, get_or, set, refl, sym, ap, ◌∙◌, arith}
 use lib.ListN.{length-set}
 use native.Mathlib.Numerals.{add-one}
 use Rattle.ceiling.specs.declared.LimitedLine.{LimitedLine}

@@ -1,4 +1,4 @@
-use Rattle.std.proofs.Common.{◌≡◌, List, ◌++◌, drop, ap₂, ap, ◌∙◌}
+use Rattle.std.proofs.Common.{List, ◌++◌, drop, ap₂, ap, ◌∙◌}
 use Rattle.share.specs.declared.Line.{Line}
 use Rattle.share.specs.Inner.{beside, lend_front}
 use Rattle.share.proofs.lent.lend_front.Goals as goal
