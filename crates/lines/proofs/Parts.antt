@@ -1,29 +1,25 @@
 -- The part's line, and what stands behind it. Assumes nothing.
 use mathlib.Core.Path.{◌≡◌, refl, ap, sym, ◌∙◌}
-use mathlib.Core.Bool.{Bool, true, false, cond, ◌||◌, true≢false}
+use mathlib.Core.Bool.{true, false, true≢false}
 use mathlib.Core.List.{List, [], ◌∷◌, ◌++◌, map}
-use Prim.Native.Nat.{ℕ, zero, suc, min, ◌+◌, ◌*◌, ◌-◌, ◌/◌, ◌≤◌, ◌<◌}
+use Prim.Native.Nat.{ℕ, suc, ◌+◌, ◌≤◌, ◌<◌}
 use native.Mathlib.Decide.{dec_le}
 use native.Mathlib.Omega.{arith}
-use lib.Dec.{leb, ltb}
-use lib.ListN.{length, get_or, take, drop, drop_of_length-le}
-use borrow.Author.Tests.{le-leb, lt-leb, leb-true, leb-false, ltb-true, ltb-false, eq-eqb, ne_eqb}
+use lib.ListN.{length, get_or, drop, drop_of_length-le}
+use borrow.Author.Tests.{le-leb, lt-leb, eq-eqb, ne_eqb}
 use Rattle.row.specs.declared.Row.{Row}
-use Rattle.row.specs.Numbers.{onto, lines_of, parts_of, numbers_in, numbers_of, hold, value, not_empty}
-use Rattle.row.specs.Meaning.{is_row, row_at, row_parts, row_numbers, RowFresh, RowFollows}
-use Rattle.row.proofs.Texts.{by_parts, grows}
+use Rattle.row.specs.Numbers.{onto, lines_of, parts_of, numbers_in, numbers_of, hold}
+use Rattle.row.specs.Meaning.{is_row, RowFresh, RowFollows}
 use Rattle.row.proofs.Left.{next_byte}
-use Rattle.row.proofs.Rows.{whole_row, none_row, foreign}
+use Rattle.row.proofs.Rows.{whole_row, none_row}
 use Rattle.share.specs.Sharing.{most_part}
 use Rattle.lines.specs.declared.body.Body.{Body}
 use Rattle.lines.specs.declared.body.Listed.{Listed}
 use Rattle.lines.specs.declared.part.FirstLine.{FirstLine}
 use Rattle.lines.specs.declared.Head.{Head}
 use Rattle.lines.specs.declared.Reader.{Reader}
-use Rattle.lines.specs.declared.Taken.{Taken}
 use Rattle.lines.specs.Text.{space, part_in, text_part, text_lines, with_part, part_refused, part_then, read_text}
-use Rattle.lines.specs.Meaning.{body_outcome, body_meaning, BodyFresh, BodyStays, part_when, fair_part, first_says, FirstLineIs, HeadIs, meaning}
-use Rattle.lines.specs.Stream.{Tells, Stays}
+use Rattle.lines.specs.Meaning.{body_outcome, body_meaning, BodyFresh, part_when, fair_part, first_says, FirstLineIs, HeadIs, meaning}
 
 -- A part and what is behind it
 

@@ -15,15 +15,14 @@ use Rattle.row.specs.Judging.{filled_up, refused_at, all_taken, first_unsound}
 use Rattle.row.proofs.Judging.{lowest_unsound, every_sound, after_most}
 use Rattle.share.specs.declared.Line.{Line}
 use Rattle.share.specs.declared.Shared.{Shared}
-use Rattle.share.specs.Sharing.{line_is_sound, first_bad_line, SharingOutcome, sharing_refused, sharing, most_number, most_part, part_place}
+use Rattle.share.specs.Sharing.{line_is_sound, first_bad_line, sharing_refused, sharing, most_number, most_part, part_place}
 use Rattle.share.specs.Forms.{blank_line, cleared, array_of, nothing_shared, sharing_counted, shared_array}
-use Rattle.share.proofs.Bounds.{few_sound}
 use Rattle.share.proofs.Cases.{sharing_10, sharing_part}
 use Rattle.share.proofs.Counted.{counted_few}
 use Rattle.lines.specs.declared.Reader.{Reader}
 use Rattle.lines.specs.declared.body.Listed.{Listed}
 use Rattle.lines.specs.declared.Taken.{Taken}
-use Rattle.lines.specs.Text.{text_part, text_lines, sharing_lines, with_part, part_refused, part_then, read_text, taken_shared}
+use Rattle.lines.specs.Text.{text_part, text_lines, sharing_lines, with_part, part_refused, read_text, taken_shared}
 use Rattle.lines.specs.Meaning.{meaning}
 use Rattle.lines.specs.Stream.{HasRead, Settled, Tells, GoesOn, Stays}
 use Rattle.lines.proofs.Lines.{lawful}

@@ -7,6 +7,7 @@ pub mod Cases
 pub mod Counted
 pub mod Outcomes
 pub mod Gather
+pub mod Front
 pub mod Promises
 pub mod Refusals
 pub mod WholePart

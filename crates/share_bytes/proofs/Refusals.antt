@@ -2,13 +2,11 @@
 use mathlib.Core.Path.{◌≡◌, refl, sym, ap, ◌∙◌}
 use mathlib.Core.Bool.{Bool, true, false, true≢false}
 use mathlib.Core.List.{List}
-use mathlib.Core.Logic.{◌≢◌}
 use Prim.Native.Nat.{ℕ, ◌*◌, ◌%◌, ◌≤◌, ◌<◌}
 use native.Mathlib.Decide.{dec_lt, ℕ_discrete}
 use native.Mathlib.Omega.{arith}
 use lib.Dec.{lit<}
 use lib.ListN.{length}
-use Rattle.share.specs.declared.Line.{Line}
 use Rattle.share.specs.Sharing.{most_number, most_part, part_place, SharingOutcome, sharing_refused, sharing_accepted, sharing}
 use Rattle.share.specs.Verdict.{AllSound, SharingVerdict}
 use Rattle.share.specs.Verdict as lines

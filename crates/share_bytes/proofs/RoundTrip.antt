@@ -1,7 +1,7 @@
 -- Every list of sound lines has its bytes, and these spell the same lines again.
 use mathlib.Core.Path.{◌≡◌, refl, sym, ap, ap₂, ◌∙◌}
-use mathlib.Core.List.{List, [], ◌∷◌, ◌++◌, map}
-use Prim.Native.Nat.{ℕ, zero, suc, ◌+◌, ◌*◌, ◌/◌, ◌^◌, ◌≤◌, ◌<◌}
+use mathlib.Core.List.{List, [], ◌∷◌, ◌++◌}
+use Prim.Native.Nat.{ℕ, zero, suc, ◌+◌, ◌*◌, ◌^◌, ◌≤◌, ◌<◌}
 use native.Mathlib.Nat.{add_assoc}
 use native.Mathlib.Omega.{arith}
 use lib.ListN.{length, get_or, drop}
@@ -13,7 +13,7 @@ use Rattle.share.specs.Forms.{blank_line, cleared, clear}
 use Rattle.share.specs.Verdict.{SoundLine, AllSound}
 use Rattle.share.proofs.TwoForms.{bad_cleared}
 use Rattle.share.proofs.Refusals.{none_bad}
-use Rattle.share_bytes.specs.Bytes.{line_size, fields_at, reserved_zero, lines_by, byte_count, byte_lines, line_then, lines_bytes, part_size, sharing_bytes}
+use Rattle.share_bytes.specs.Bytes.{fields_at, reserved_zero, lines_by, byte_count, byte_lines, line_then, lines_bytes, part_size, sharing_bytes}
 use Rattle.share_bytes.specs.Inner.{line_at, lines_at}
 use Rattle.share_bytes.proofs.Reading.{read, bad_read, same_read}
 use Rattle.share_bytes.proofs.ThreeForms.{bytes_as_list}

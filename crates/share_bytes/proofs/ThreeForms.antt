@@ -1,13 +1,12 @@
 -- The three forms give the same answer, two outcomes over bytes that the contract allows are one, and a refusal changes no byte. Assumes nothing.
 use mathlib.Core.Path.{◌≡◌, refl, sym, ap, ◌∙◌}
-use mathlib.Core.List.{List, [], ◌∷◌, map}
+use mathlib.Core.List.{List, [], ◌∷◌}
 use mathlib.Core.Logic.{◌≢◌}
 use Prim.Native.Nat.{ℕ, suc, ◌+◌, ◌*◌, ◌/◌, ◌%◌, ◌≤◌, ◌<◌}
 use native.Mathlib.Omega.{arith}
 use lib.ListN.{length, get_or, set, take, length-map}
 use lib.Seq.{sets, get_or-set_other}
 use Rattle.share.specs.declared.Line.{Line}
-use Rattle.share.specs.declared.Shared.{Shared}
 use Rattle.share.specs.declared.Answer.{Answer}
 use Rattle.share.specs.Sharing.{Part, SharingOutcome, sharing}
 use Rattle.share.specs.Forms.{cleared, fill_in, clear, shared_array, answer_in, answer_of, Lent}

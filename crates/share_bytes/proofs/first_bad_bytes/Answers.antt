@@ -1,7 +1,6 @@
 use mathlib.Core.Path.{sym, ap, ◌∙◌}
-use Prim.Native.Nat.{◌+◌, ◌-◌}
+use Prim.Native.Nat.{◌+◌}
 use native.Mathlib.Omega.{arith}
-use borrow.Author.Tests.{not-false}
 use Rattle.share.specs.declared.Line.{Line}
 use Rattle.share_bytes.proofs.Rows.{bad_from, bad_row}
 use Rattle.share_bytes.proofs.first_bad_bytes.Goals as goal

@@ -1,5 +1,4 @@
 use mathlib.Core.Path.{ap}
-use Prim.Native.Nat.{◌-◌}
 use native.Mathlib.Omega.{arith}
 use Rattle.share.specs.declared.Line.{Line}
 use Rattle.share.specs.Sharing.{assessment_fen, compensated, assessed}

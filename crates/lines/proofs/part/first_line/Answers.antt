@@ -1,4 +1,3 @@
-use Prim.Native.Nat.{◌-◌}
 use native.Mathlib.Omega.{arith}
 use Rattle.lines.proofs.Parts.{left_step}
 use Rattle.lines.proofs.part.first_line.Goals as goal

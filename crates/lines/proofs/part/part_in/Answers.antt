@@ -1,6 +1,5 @@
 use mathlib.Core.Path.{sym, ◌∙◌}
 use native.Mathlib.Omega.{arith}
-use borrow.Author.Tests.{not-true, not-false}
 use Rattle.lines.proofs.Parts.{part_whole, part_none}
 use Rattle.lines.proofs.part.part_in.Goals as goal
 

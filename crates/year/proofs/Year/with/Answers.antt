@@ -1,5 +1,4 @@
 use mathlib.Core.Path.{sym, ◌∙◌}
-use borrow.Author.Tests.{not-true, not-false}
 use Rattle.year.proofs.Taking.{with_both, with_stands, with_refuses, with_takes}
 use Rattle.year.proofs.Year.with.Goals as goal
 

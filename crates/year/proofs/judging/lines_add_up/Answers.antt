@@ -1,11 +1,9 @@
 use mathlib.Core.Path.{◌≡◌, ap, sym, ◌∙◌}
 use mathlib.Core.Bool.{true}
-use Prim.Native.Nat.{◌-◌}
 use native.Mathlib.Omega.{arith}
 use lib.IntN.{ℤ, nat_abs}
 use lib.ListN.{length, get_or, take}
 use borrow.Author.Rules.{rules}
-use borrow.Author.Tests.{not-true, not-false}
 use Rattle.year.specs.Year.{year_line_is_sound, adds_to_zero}
 use Rattle.year.specs.Verdict.{blank_line}
 use Rattle.year.proofs.Signs.{abs_plus}

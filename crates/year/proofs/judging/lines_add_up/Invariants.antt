@@ -1,6 +1,6 @@
 use mathlib.Core.Path.{◌≡◌}
 use Prim.Native.Nat.{◌*◌, ◌-◌, ◌≤◌}
-use lib.IntN.{ℤ, nat_abs, ◌+ℤ◌}
+use lib.IntN.{nat_abs, ◌+ℤ◌}
 use lib.ListN.{take, drop}
 use Rattle.year.specs.Year.{most_either_way, lines_are_sound, sumℤ, amounts_of}
 use Rattle.year.proofs.judging.lines_add_up.Given as goal

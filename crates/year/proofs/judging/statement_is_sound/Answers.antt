@@ -1,5 +1,4 @@
 use mathlib.Core.Path.{sym, ◌∙◌}
-use borrow.Author.Tests.{not-true, not-false}
 use Rattle.year.proofs.Statements.{undated, too_many, user_beyond, by_lines}
 use Rattle.year.proofs.judging.statement_is_sound.Goals as goal
 

@@ -1,5 +1,4 @@
 use mathlib.Core.Path.{sym, ◌∙◌}
-use Prim.Native.Nat.{◌-◌}
 use native.Mathlib.Omega.{arith}
 use lib.ListN.{get_or}
 use Rattle.lines.proofs.Sheets.{feed_on, in_place, out_of_place, ByteRead, digit_arm, line_arm, blank_arm, bad_arm}

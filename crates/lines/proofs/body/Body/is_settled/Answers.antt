@@ -4,7 +4,6 @@ use native.Mathlib.Omega.{arith}
 use lib.ListN.{length}
 use Rattle.row.specs.Meaning.{most_columns}
 use borrow.Author.Rules.{rules}
-use borrow.Author.Tests.{not-true, not-false}
 use Rattle.lines.proofs.Settling.{tells_refused, tells_shut, tells_open}
 use Rattle.lines.proofs.body.Body.is_settled.Goals as goal
 
