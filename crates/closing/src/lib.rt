@@ -38,6 +38,7 @@ use sound::sound_register;
 const PART: usize = 2;
 
 // Whether a month with such a fault is settled.
+#[tactic(auto, unfolding(crate::specs::Closing::is_settled))]
 fn is_settled(fault: Fault) -> bool
     ensures { result ≡ is_settled fault }
 {

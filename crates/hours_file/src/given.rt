@@ -11,6 +11,7 @@ use units::calendar::days_of;
 const HOURS_PER_DAY: u32 = 24;
 
 // The hours of a month.
+#[tactic(auto, using(units::proofs::Laws::days_most), unfolding(crate::specs::Given::hours_of))]
 pub fn hours_of(year: u16, month: u8) -> u16
     ensures { result ≡ hours_of year month }
 {
@@ -18,6 +19,7 @@ pub fn hours_of(year: u16, month: u8) -> u16
 }
 
 // As many hours, of which no month has more than 744.
+#[tactic(auto, unfolding(hours::specs::Hours::month_hours))]
 fn hours_told(count: usize) -> u16
     ensures { result ≡ month_hours count }
 {
@@ -28,6 +30,7 @@ fn hours_told(count: usize) -> u16
 }
 
 // How many hours there are and their grains together, or the refusal.
+#[tactic(auto, unfolding(crate::specs::Given::ramped_of))]
 pub fn ramped_of(h: Hours) -> Ramped
     ensures { result ≡ ramped_of h }
 {
