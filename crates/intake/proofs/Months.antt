@@ -23,7 +23,6 @@ use Rattle.month.specs.Settling.{MonthGiven, blank_row, filled_rows, settling}
 use Rattle.month.specs.Outcomes.{ramped_of_line, lines_in, grains_in, shared_in}
 use Rattle.month.proofs.Accepted.{rows_settled, length_rows, length_in, passed}
 use Rattle.month.proofs.Promises.{compensation_is, line_is, line_count, amounts_zero}
-use Rattle.fitting.proofs.Promises.{month_fits}
 use Rattle.posted.specs.declared.Posted.{Posted}
 use Rattle.posted.specs.Posted.{posted_text}
 use Rattle.posted.specs.Reading.{ReadPosted}
@@ -186,7 +185,7 @@ module _ (g : MonthGiven) (hours : HoursOfMonth g) (none : (settling g).fault �
 
   -- and its text is its own.
   pub month_own : OwnText (settling g).header.area (posted_text (settling g)) (settling g)
-  month_own = record { settled = month_settled g (λ i. omega (arith, hours i)) none; is = refl; area = refl; within = month_is_within; fits = month_fits g none }
+  month_own = record { settled = month_settled g (λ i. omega (arith, hours i)) none; is = refl; area = refl; within = month_is_within }
 
   -- A SETTLED MONTH'S TEXT IS TAKEN: behind statements of its area and its year, the last of them of an earlier month, the year is that of theirs and of the month's own numbers.
   pub month_taken : (ps : List Posted) {p : Posted} → ReadPosted (posted_text (settling g)) p → (intake_of ps).year.number ≡ 0

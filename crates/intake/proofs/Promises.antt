@@ -9,9 +9,6 @@ use borrow.Author.Tests.{eq-eqb, eqb-true, le-ltb}
 use lib.Dec.{eqb, ltb}
 use lib.ListN.{length, length-append}
 use Rattle.le.proofs.Tests.{each, all}
-use Rattle.fitting.specs.declared.Finding.TheVariants.{Fits}
-use Rattle.fitting.specs.Fitting.{is_fits, finding_in}
-use Rattle.fitting.proofs.Findings.{fits_is, is_fits_lem}
 use Rattle.month.specs.declared.Statement.{Statement}
 use Rattle.posted.specs.declared.Posted.{Posted}
 use Rattle.posted.specs.declared.Reading.{Reading}
@@ -88,13 +85,12 @@ reason_determined {g = g} f h = f.is ∙ ap (reason_of g) (posted_determined f.r
 
 -- Which texts stand for their own numbers
 
--- the text of a settled statement of an area, every number within its limit, and every number that follows from others as it follows
+-- the text of a settled statement of an area, every number within its limit
 pub record OwnText (held : ℕ) (text : List ℕ) (s : Statement) : Type 0 where
   pub settled : Settled s
   pub is : text ≡ posted_text s
   pub area : s.header.area ≡ held
   pub within : statement_is_within s ≡ true
-  pub fits : finding_in s ≡ Fits
 
 whole_is : (r : Reading) → is_whole r ≡ true → r ≡ Whole
 unfolding is_whole
@@ -104,16 +100,15 @@ whole_is (BadLine line) h = absurd (let z : ◌≡◌ {A = Bool} false true = h 
 pub taken_own : {t : List ℕ} {p : Posted} (area : ℕ) → ReadPosted t p → is_taken area p ≡ true → OwnText area t p.statement
 unfolding is_taken
 taken_own {p = p} area f h =
-    let e = each (is_whole p.reading) (eqb p.statement.header.area area ∷ statement_is_within p.statement ∷ is_fits (finding_in p.statement) ∷ []) h in
+    let e = each (is_whole p.reading) (eqb p.statement.header.area area ∷ statement_is_within p.statement ∷ []) h in
     let o = posted_only f (whole_is p.reading e.0) in
-    record { settled = o.0; is = o.1; area = eqb-true p.statement.header.area area e.1.0; within = e.1.1.0; fits = fits_is (finding_in p.statement) e.1.1.1.0 }
+    record { settled = o.0; is = o.1; area = eqb-true p.statement.header.area area e.1.0; within = e.1.1.0 }
 
 pub own_taken : {t : List ℕ} {p : Posted} (area : ℕ) (s : Statement) → ReadPosted t p → OwnText area t s → (is_taken area p ≡ true) × (p.statement ≡ s)
 unfolding is_taken is_whole
 own_taken {p = p} area s f o =
     let same = posted_back s o.settled (rw o.is at f) in (
-      rw same (all true (eqb s.header.area area ∷ statement_is_within s ∷ is_fits (finding_in s) ∷ [])
-          (refl, (eq-eqb s.header.area area o.area, (o.within, (is_fits_lem (finding_in s) o.fits, tt))))),
+      rw same (all true (eqb s.header.area area ∷ statement_is_within s ∷ []) (refl, (eq-eqb s.header.area area o.area, (o.within, tt)))),
       ap (λ (x : Posted). x.statement) same,
     )
 
@@ -142,7 +137,7 @@ more_accepted ss s none = (λ h. goes_on_lem ss s (to (goes_on ss s) refl h), λ
 pub blank_never : (ss : List MonthStatement) → GoesOn ss blank_statement → ⊥
 blank_never ss g = omega (arith, g.month)
 
--- A TEXT IS TAKEN EXACTLY where it is the text of a settled statement, of the first one's area, within every limit, whose numbers fit, that goes on behind those before it: not a thirteenth, of
+-- A TEXT IS TAKEN EXACTLY where it is the text of a settled statement, of the first one's area, within every limit, that goes on behind those before it: not a thirteenth, of
 -- their year, of a later month, its amounts and the user's adding up to zero. It then counts with its own numbers; otherwise 10 stands at its place.
 pub text_exactly : (ps : List Posted) (p : Posted) (t : List ℕ) → ReadPosted t p → (intake_of ps).year.number ≡ 0
     → ((intake_with (intake_of ps) p).year.number ≡ 0)

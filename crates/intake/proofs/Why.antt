@@ -4,14 +4,13 @@ use mathlib.Core.Bool.{Bool, true, false, not, ◌&&◌}
 use Prim.Native.Nat.{ℕ, ◌≤◌, ◌<◌}
 use borrow.Author.Tests.{le-leb, lt-leb}
 use lib.Dec.{eqb}
-use Rattle.fitting.specs.Fitting.{is_fits, finding_in}
 use Rattle.month.specs.declared.Statement.{Statement}
 use Rattle.posted.specs.declared.Posted.{Posted}
 use Rattle.posted.specs.declared.Reading.TheVariants.{Whole, BadLine}
 use Rattle.year.specs.Year.{lines_in, adds_to_zero}
 use Rattle.intake.specs.declared.Intake.{Intake}
 use Rattle.intake.specs.declared.Reason.{Reason}
-use Rattle.intake.specs.declared.Reason.TheVariants.{Nothing, NotLine, Beyond, Apart, OtherArea, OtherYear, NotLater, NotZero}
+use Rattle.intake.specs.declared.Reason.TheVariants.{Nothing, NotLine, Beyond, OtherArea, OtherYear, NotLater, NotZero}
 use Rattle.intake.specs.Limits.{line_beyond, statement_is_within}
 use Rattle.intake.specs.Intake.{month_statement}
 use Rattle.intake.specs.Reasons.{reason_in, reason_whole, reason_by, reason_of}
@@ -30,13 +29,9 @@ module _ (g : Intake) (s : Statement) where
   unfolding reason_whole
   too_far e = rw e
 
-  pub unlike : statement_is_within s ≡ true → is_fits (finding_in s) ≡ false → Apart (finding_in s) ≡ reason_whole g s
+  pub judged : statement_is_within s ≡ true → reason_in g s ≡ reason_whole g s
   unfolding reason_whole
-  unlike e f = rw (e, f)
-
-  pub alike : statement_is_within s ≡ true → is_fits (finding_in s) ≡ true → reason_in g s ≡ reason_whole g s
-  unfolding reason_whole
-  alike e f = rw (e, f)
+  judged e = rw e
 
   abbrev elsewhere : Bool
   elsewhere = not (eqb g.area 0) && not (eqb s.header.area g.area)

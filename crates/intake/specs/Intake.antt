@@ -1,6 +1,5 @@
 -- The texts of monthly statements, taken into a year: what each stands for, and the year of them. Assumes nothing.
 use Rattle.std.specs.Prelude.{◌≡◌, Bool, true, false, cond, ◌&&◌, List, [], ◌∷◌, map, ℕ, eqb}
-use Rattle.fitting.specs.Fitting.{is_fits, finding_in}
 use Rattle.month.specs.declared.Row.{Row}
 use Rattle.month.specs.declared.Statement.{Statement}
 use Rattle.posted.specs.declared.Posted.{Posted}
@@ -37,9 +36,9 @@ is_whole (BadLine line) = false
 unfoldable pub area_after : ℕ → Posted → ℕ
 area_after area p = cond (eqb area 0) p.statement.header.area area
 
--- it is a statement of that area, within the limits, and its numbers are a month's
+-- it is a statement of that area, within the limits
 unfoldable pub is_taken : ℕ → Posted → Bool
-is_taken area p = is_whole p.reading && eqb p.statement.header.area area && statement_is_within p.statement && is_fits (finding_in p.statement)
+is_taken area p = is_whole p.reading && eqb p.statement.header.area area && statement_is_within p.statement
 
 -- it stands for its own numbers, or for a statement of no month, which no year takes
 unfoldable pub as_statement : ℕ → Posted → MonthStatement

@@ -1,6 +1,5 @@
 -- Why a text is not taken, for people. Assumes nothing.
 use Rattle.std.specs.Prelude.{◌≡◌, Bool, cond, not, ◌&&◌, List, ℕ, eqb, leb}
-use Rattle.fitting.specs.Fitting.{is_fits, finding_in}
 use Rattle.month.specs.declared.Statement.{Statement}
 use Rattle.posted.specs.declared.Posted.{Posted}
 use Rattle.posted.specs.declared.Reading.{Reading}
@@ -9,11 +8,11 @@ use Rattle.posted.specs.Reading.{ReadPosted}
 use Rattle.year.specs.Year.{lines_in, adds_to_zero}
 use Rattle.intake.specs.declared.Intake.{Intake}
 use Rattle.intake.specs.declared.Reason.{Reason}
-use Rattle.intake.specs.declared.Reason.TheVariants.{Nothing, NotLine, Beyond, Apart, OtherArea, OtherYear, NotLater, NotZero}
+use Rattle.intake.specs.declared.Reason.TheVariants.{Nothing, NotLine, Beyond, OtherArea, OtherYear, NotLater, NotZero}
 use Rattle.intake.specs.Limits.{line_beyond, statement_is_within}
 use Rattle.intake.specs.Intake.{month_statement}
 
--- of a statement within the limits whose numbers are a month's, behind those that were taken: its area, its year, its month, its amounts
+-- of a statement within the limits, behind those that were taken: its area, its year, its month, its amounts
 unfoldable pub reason_in : Intake → Statement → Reason
 reason_in g s =
     cond (not (eqb g.area 0) && not (eqb s.header.area g.area)) (OtherArea s.header.area)
@@ -21,9 +20,9 @@ reason_in g s =
     (cond (leb s.header.month g.year.month) (NotLater s.header.month)
     (cond (adds_to_zero (lines_in (month_statement s)) s.user.0) Nothing NotZero)))
 
--- of a statement: a number beyond its limit, a number that does not follow from the others
+-- of a statement
 unfoldable pub reason_whole : Intake → Statement → Reason
-reason_whole g s = cond (statement_is_within s) (cond (is_fits (finding_in s)) (reason_in g s) (Apart (finding_in s))) (Beyond (line_beyond s))
+reason_whole g s = cond (statement_is_within s) (reason_in g s) (Beyond (line_beyond s))
 
 -- of a text that was read: the line that is none of a statement, or what is wrong with the statement
 unfoldable pub reason_by : Intake → Statement → Reading → Reason

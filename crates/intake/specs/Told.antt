@@ -1,11 +1,14 @@
 -- Why a text is not taken, in words. Assumes nothing.
-use Rattle.std.specs.Prelude.{List, [], ◌++◌, ℕ, ◌+◌, ◌*◌}
+use Rattle.std.specs.Prelude.{List, [], ◌++◌, ℕ, ◌+◌, ◌-◌, ◌*◌, ◌^◌, min}
 use Rattle.render.specs.Decimal.{word, decimal}
 use Rattle.render.specs.Room.{most_decimal}
 use Rattle.names.specs.Names.{month_word, most_word}
-use Rattle.fitting.specs.Told.{line_text, finding_text, most_finding}
 use Rattle.intake.specs.declared.Reason.{Reason}
-use Rattle.intake.specs.declared.Reason.TheVariants.{Nothing, NotLine, Beyond, Apart, OtherArea, OtherYear, NotLater, NotZero}
+use Rattle.intake.specs.declared.Reason.TheVariants.{Nothing, NotLine, Beyond, OtherArea, OtherYear, NotLater, NotZero}
+
+-- a line of the text, as people count it, from 1 on, and what is wrong with it
+unfoldable pub line_text : ℕ → List ℕ → List ℕ
+line_text line why = word "line " ++ decimal (min (line + 1) (2 ^ 64 - 1)) ++ why
 
 -- another area or year than the statements before it
 unfoldable pub other_text : List ℕ → ℕ → ℕ → List ℕ
@@ -20,13 +23,15 @@ unfoldable pub reason_text : ℕ → ℕ → ℕ → Reason → List ℕ
 reason_text area year month Nothing = []
 reason_text area year month (NotLine line) = line_text line (word " is not a line of a statement")
 reason_text area year month (Beyond line) = line_text line (word " has a number beyond its limit")
-reason_text area year month (Apart finding) = finding_text finding
 reason_text area year month (OtherArea own) = other_text (word "area ") own area
 reason_text area year month (OtherYear own) = other_text (word "year ") own year
 reason_text area year month (NotLater own) = not_later_text own month
 reason_text area year month NotZero = word "its amounts do not add up to zero"
 
 -- The most bytes of each, besides those of what is named
+
+abbrev pub most_line : ℕ
+most_line = 5 + most_decimal
 
 abbrev pub most_other : ℕ
 most_other = 34 + 2 * most_decimal
@@ -35,4 +40,4 @@ abbrev pub most_not_later : ℕ
 most_not_later = 21 + 2 * most_word
 
 abbrev pub most_reason : ℕ
-most_reason = most_finding
+most_reason = most_other + 2 * 5

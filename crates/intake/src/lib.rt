@@ -1,12 +1,13 @@
 // The texts of monthly statements, taken into a year one by one: each is read, held to the limits and to the first one's area, and given to the year as a statement.
-// One that is no statement, is of another area, is beyond a limit, or has a number that does not follow from the others stands as a statement of no month, which no year takes.
+// One that is no statement, is of another area, or is beyond a limit stands as a statement of no month, which no year takes.
+#![tactic(auto)]
+
 ghost use Rattle.std.specs.Prelude.{◌≡◌, true, ◌≤◌};
 ghost use Rattle.register.specs.Register.{most_entries};
 ghost use Rattle.intake.specs.Intake.{is_whole, area_after, is_taken, as_statement, no_texts, TakesText};
 ghost use Rattle.intake.specs.Reasons.{reason_of, reason_in, GivesReason};
 ghost use Rattle.intake.specs.Limits.{statement_is_within};
 
-use fitting::{Finding, finding_in, is_fits};
 use month::Statement;
 use posted::{Posted, Reading, read_posted};
 use year::judging::statement_is_sound;
@@ -20,20 +21,19 @@ use limits::{line_beyond, statement_is_within};
 use lines::{blank_statement, month_statement};
 
 // The year so far, and the area of its first statement, 0 before there is one.
-#[derive(Drop)]
+#[derive(Clone, Copy)]
 pub struct Intake {
     pub year: Year,
     pub area: u8,
 }
 
-// Why a text is not taken: a line of it, counted from 0, is none of a statement; a number of a line is beyond its limit; a number does not follow from the others; it is of another
-// area, of another year, of a month that does not come after the last; its amounts do not add up to zero. Or nothing is wrong with it.
-#[derive(Drop)]
+// Why a text is not taken: a line of it, counted from 0, is none of a statement; a number of a line is beyond its limit; it is of another area, of another year, of a
+// month that does not come after the last; its amounts do not add up to zero. Or nothing is wrong with it.
+#[derive(Clone, Copy)]
 pub enum Reason {
     Nothing,
     NotLine(usize),
     Beyond(usize),
-    Apart(Finding),
     OtherArea(u8),
     OtherYear(u16),
     NotLater(u8),
@@ -61,7 +61,7 @@ fn area_after(area: u8, p: Posted) -> u8
     header.area
 }
 
-// Whether a text that was read is a statement of an area, within the limits, whose numbers are a month's.
+// Whether a text that was read is a statement of an area, within the limits.
 fn is_taken(area: u8, p: Posted) -> bool
     requires { p.statement.count ≤ most_entries }
     ensures { result ≡ is_taken area p }
@@ -69,7 +69,7 @@ fn is_taken(area: u8, p: Posted) -> bool
     let reading = p.reading;
     let s = p.statement;
     let header = s.header;
-    is_whole(reading) & (header.area == area) & statement_is_within(s) & is_fits(finding_in(s))
+    is_whole(reading) & (header.area == area) & statement_is_within(s)
 }
 
 fn as_statement(area: u8, p: Posted) -> MonthStatement
@@ -117,10 +117,6 @@ fn reason_of(g: Intake, p: Posted) -> Reason
     let s = p.statement;
     if !statement_is_within(s) {
         return Reason::Beyond(line_beyond(s));
-    }
-    let finding = finding_in(s);
-    if !is_fits(finding) {
-        return Reason::Apart(finding);
     }
     reason_in(g, s)
 }

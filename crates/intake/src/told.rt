@@ -1,17 +1,38 @@
 // Why a text is not taken, in words, as bytes in a buffer that the caller lends.
-ghost use Rattle.std.specs.Prelude.{◌≡◌, ◌+◌, ◌*◌, ◌≤◌, length};
+ghost use Rattle.std.specs.Prelude.{◌≡◌, ◌+◌, ◌-◌, ◌*◌, ◌^◌, ◌≤◌, min, length};
 ghost use Rattle.io.specs.Counts.{IsPrefixLen};
 ghost use Rattle.render.specs.Inner.{Puts};
 ghost use Rattle.render.specs.Room.{Renders};
-ghost use Rattle.intake.specs.Told.{other_text, not_later_text, reason_text, most_other, most_not_later, most_reason};
+ghost use Rattle.intake.specs.Told.{line_text, other_text, not_later_text, reason_text, most_line, most_other, most_not_later, most_reason};
 
 use crate::Reason;
-use fitting::told::{put_finding, put_line};
 use names::put_month;
-use render::{put_field, put_word};
+use render::{put_decimal, put_field, put_word};
 
 // The most bytes of a reason.
-pub const MOST_REASON: usize = 111;
+pub const MOST_REASON: usize = 84;
+
+// The top of 64 bits.
+const LARGEST: u64 = 0xffff_ffff_ffff_ffff;
+
+// A line as people count it, from 1 on.
+fn from_one(line: u64) -> u64
+    ensures { result ≡ min (line + 1) (2 ^ 64 - 1) }
+{
+    if line == LARGEST {
+        return line;
+    }
+    line + 1
+}
+
+fn put_line(out: &mut [u8], line: u64, why: &[u8]) -> usize
+    requires { most_line + length why.now ≤ length out.old }
+    ensures { Puts (most_line + length why.now) out.old 0 (line_text line why.now) out.new result }
+{
+    let a = put_word(out, 0, b"line ");
+    let b = put_decimal(out, a, from_one(line));
+    put_word(out, b, why)
+}
 
 fn put_other(out: &mut [u8], what: &[u8], own: u64, before: u64) -> usize
     requires { most_other + 2 * length what.now ≤ length out.old }
@@ -39,7 +60,6 @@ fn put_reason(out: &mut [u8], area: u8, year: u16, month: u8, reason: Reason) ->
         Reason::Nothing => 0,
         Reason::NotLine(line) => put_line(out, line as u64, b" is not a line of a statement"),
         Reason::Beyond(line) => put_line(out, line as u64, b" has a number beyond its limit"),
-        Reason::Apart(finding) => put_finding(out, finding),
         Reason::OtherArea(own) => put_other(out, b"area ", own as u64, area as u64),
         Reason::OtherYear(own) => put_other(out, b"year ", own as u64, year as u64),
         Reason::NotLater(own) => put_not_later(out, own, month),
