@@ -4,7 +4,7 @@ use mathlib.Core.Bool.{Bool, true, false, ◌&&◌, true≢false}
 use mathlib.Core.List.{List}
 use Prim.Native.Nat.{ℕ, ◌+◌, ◌-◌, ◌%◌, ◌≤◌, ◌<◌}
 use native.Mathlib.Omega.{arith}
-use lib.Dec.{ltb, leb, eqb}
+use lib.Dec.{ltb, eqb}
 use borrow.Author.Tests.{le-leb, lt-leb, eqb-true, ltb-true}
 use Rattle.units.specs.Month.{minutes_per_quarter}
 use Rattle.call.specs.declared.Call.{Call}
@@ -13,7 +13,6 @@ use Rattle.rule.specs.Standing.{is_contested, is_withdrawn}
 use Rattle.wish.specs.declared.Old.{Old}
 use Rattle.wish.specs.declared.Old.TheVariants.{Missing, Stands}
 use Rattle.wish.specs.Wish.{old_in}
-use Rattle.cutting.specs.declared.Cut.{Cut}
 use Rattle.cutting.specs.declared.Cut.TheVariants.{InTwo, NoCall, Withdrawn, Contested, NoWindow, Highest, NotInside, InUse}
 use Rattle.cutting.specs.Parts.{first_part_of, second_part_of}
 use Rattle.cutting.specs.Outcomes.{Inside}

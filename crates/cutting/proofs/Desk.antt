@@ -4,7 +4,6 @@ use mathlib.Core.List.{List, [], ◌∷◌}
 use Prim.Native.Nat.{ℕ}
 use native.Mathlib.Omega.{arith}
 use Rattle.call.specs.declared.Call.{Call}
-use Rattle.call.specs.Revising.{live}
 use Rattle.book.specs.Sound.{Sound}
 use Rattle.book.proofs.Writing.{Numbered}
 use Rattle.book.specs.Cut.{first_keeps, Cuttable, Cut}

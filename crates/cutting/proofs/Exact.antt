@@ -3,14 +3,14 @@ use mathlib.Core.Path.{◌≡◌, refl, sym, ◌∙◌, ap}
 use mathlib.Core.Bool.{Bool, true, false, ◌||◌, true≢false}
 use mathlib.Core.Logic.{◌⊎◌, inl, inr, ◌↔◌}
 use mathlib.Core.List.{List, Memᴰ as In}
-use Prim.Native.Nat.{ℕ, ◌+◌, ◌%◌, ◌≤◌, ◌<◌}
+use Prim.Native.Nat.{ℕ, ◌+◌, ◌%◌, ◌<◌}
 use native.Mathlib.Decide.{dec_lt}
 use native.Mathlib.Omega.{arith}
 use lib.Dec.{eqb}
 use borrow.Author.Tests.{eq-eqb, lt-ltb, eqb-true, eqb-false}
 use Rattle.units.specs.Month.{minutes_per_quarter}
 use Rattle.call.specs.declared.Call.{Call}
-use Rattle.call.specs.Revising.{live, contested, withdrawn}
+use Rattle.call.specs.Revising.{live}
 use Rattle.call.specs.Services.{deep_peak, reserve}
 use Rattle.call.specs.Key.{key_of, call_key}
 use Rattle.call.specs.Service.{Stated, is_live, is_contested_lem as state-contested, is_withdrawn_lem as state-withdrawn}
@@ -21,13 +21,12 @@ use Rattle.book.specs.Cut.{NewNumber, Cut as IsCut}
 use Rattle.book.proofs.Parts.{call_within}
 use Rattle.rule.specs.Standing.{is_contested, is_withdrawn}
 use Rattle.join.proofs.Cutting.{Room, BothAccepted, both_joined}
-use Rattle.wish.specs.declared.Old.{Old}
 use Rattle.wish.specs.declared.Old.TheVariants.{Missing, Stands}
 use Rattle.wish.specs.Wish.{old_in}
 use Rattle.wish.proofs.Olds.{OldIs, has_none, has_one, in_old, old_is}
 use Rattle.cutting.specs.declared.Cut.{Cut}
 use Rattle.cutting.specs.declared.Cut.TheVariants.{InTwo}
-use Rattle.cutting.specs.Parts.{first_part_of, second_part_of, MayCut}
+use Rattle.cutting.specs.Parts.{first_part_of, second_part_of}
 use Rattle.cutting.specs.Cutting.{highest, is_window, is_inside, cut_new, cut_window, cut_call, cutting}
 use Rattle.cutting.specs.Outcomes.{Has, LiveWindow, Inside, CutOutcome, no_such_call, is_withdrawn_lem, is_contested_lem, is_no_window, is_at_highest, is_not_inside, is_in_use, is_cut}
 use Rattle.cutting.proofs.Cases.{of_withdrawn, of_contested, of_other, of_window, of_highest, of_outside, of_inside, of_free, of_used, of_none, of_call_lem, inside_is}

@@ -12,7 +12,6 @@ use mathlib.Core.Option.{Option, none, some}
 use Prim.Native.Nat.{ℕ, zero, suc, ◌+◌, ◌≤◌, ◌<◌}
 use native.Mathlib.Decide.{ℕ_discrete}
 use native.Mathlib.Omega.{arith}
-use lib.ListN.{length}
 use Rattle.call.specs.declared.Call.{Call}
 use Rattle.call.specs.Key.{call_key}
 use Rattle.book.specs.declared.Header.{Header}
@@ -24,7 +23,7 @@ use Rattle.pair.specs.Screening.{same_month, screen}
 use Rattle.pair.proofs.Screening.{screen_passes}
 use Rattle.rule.specs.Standing.{same_call}
 use Rattle.rule.specs.Keys.{record_of}
-use Rattle.rule.specs.Whole.{rule_over, rule_calls, tree_joined}
+use Rattle.rule.specs.Whole.{rule_over, rule_calls}
 use Rattle.rule.proofs.Equality.{same_eq, eq_same}
 use Rattle.rule.proofs.Keyed.{find_in, in_find}
 use Rattle.rule.proofs.Bounds.{Under, under_anti, Calls, Sounds, tree_sound}

@@ -1,8 +1,7 @@
 -- What stands against a book's calls, record by record. Assumes nothing.
-use mathlib.Core.Path.{◌≡◌, refl, sym, ◌∙◌, ap, ap₂}
-use mathlib.Core.Bool.{Bool, true, false, not, cond, ◌&&◌, ◌||◌, true≢false}
-use mathlib.Core.List.{List, [], ◌∷◌}
-use mathlib.Core.Option.{Option, none, some}
+use mathlib.Core.Path.{◌≡◌, refl, sym, ◌∙◌, ap}
+use mathlib.Core.Bool.{Bool, true, false, not, cond, ◌&&◌, ◌||◌}
+use mathlib.Core.List.{List}
 use Prim.Native.Nat.{ℕ, suc, ◌+◌, ◌-◌, ◌<◌, ◌≤◌}
 use native.Mathlib.Omega.{arith}
 use native.Mathlib.Nat.{le_refl, sub-zero}
@@ -16,7 +15,6 @@ use Rattle.book.specs.Book.{count_at, record_at, calls_from, calls_of}
 use Rattle.rule.specs.declared.Decision.{Decision}
 use Rattle.rule.specs.declared.Decision.TheVariants.{First, Second, Struck}
 use Rattle.rule.specs.Standing.{same_call, is_contested, is_withdrawn, decide, given, standing}
-use Rattle.rule.specs.Keys.{record_of}
 use Rattle.rule.specs.Whole.{all}
 use Rattle.rule.proofs.Equality.{same_eq, eq_same}
 use Rattle.pair.specs.Screening.{screen}

@@ -13,7 +13,6 @@ use Rattle.le.proofs.Tests.{each, all}
 use Rattle.call.specs.declared.Call.{Call}
 use Rattle.rule.specs.Standing.{same_call}
 use Rattle.rule.proofs.Equality.{same_eq, eq_same}
-use Rattle.drawer.specs.declared.apart.Field.{Field}
 use Rattle.drawer.specs.declared.apart.Field.TheVariants.{Service, Start, Length, A, B, C, Nothing}
 use Rattle.drawer.specs.Apart.{apart_in}
 

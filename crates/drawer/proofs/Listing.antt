@@ -1,8 +1,8 @@
 -- A record's turn in the list of what does not stand. Assumes nothing.
 use mathlib.Core.Path.{◌≡◌, refl, sym, ◌∙◌, ap, subst}
-use mathlib.Core.Bool.{Bool, true, false, not}
+use mathlib.Core.Bool.{Bool, true, not}
 use mathlib.Core.List.{List}
-use mathlib.Core.Option.{Option, none, some}
+use mathlib.Core.Option.{none, some}
 use Prim.Native.Nat.{ℕ, ◌<◌}
 use native.Mathlib.Omega.{arith}
 use borrow.Author.Tests.{ne_eqb, eq-eqb}
@@ -21,7 +21,6 @@ use Rattle.lookup.proofs.Places.{Finds, missing, found, in_book, has_index}
 use Rattle.drawer.specs.declared.stale.Why.{Why}
 use Rattle.drawer.specs.declared.stale.Why.TheVariants.{Other}
 use Rattle.drawer.specs.declared.stale.StaleRecord.{StaleRecord}
-use Rattle.drawer.specs.declared.stale.NextStale.{NextStale}
 use Rattle.drawer.specs.declared.stale.NextStale.TheVariants.{BadBooks}
 use Rattle.drawer.specs.Stale.{is_this, is_stale, why_not, why_of, is_stale_at, stale_at, stale_of, first_stale, next_stale}
 

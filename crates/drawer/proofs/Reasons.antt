@@ -1,7 +1,7 @@
 -- Why a record does not stand: always for one of the three reasons. Assumes nothing.
-use mathlib.Core.Path.{◌≡◌, refl, sym, ◌∙◌, ap, subst}
+use mathlib.Core.Path.{◌≡◌, refl, sym, ◌∙◌, ap}
 use mathlib.Core.Bool.{Bool, true, false, true≢false}
-use mathlib.Core.Logic.{◌⊎◌, inl, inr}
+use mathlib.Core.Logic.{inl, inr}
 use mathlib.Core.List.Memᴰ
 use mathlib.Core.List.{List, map, Memᴰ as In}
 use mathlib.Core.Option.{Option, none, some}
@@ -15,9 +15,8 @@ use Rattle.call.specs.Service.{CallWithin}
 use Rattle.book.specs.declared.Header.{Header}
 use Rattle.book.specs.Book.{most_keys, calls_of}
 use Rattle.book.specs.Check.{header_minutes}
-use Rattle.rule.specs.Standing.{is_contested, is_withdrawn}
+use Rattle.rule.specs.Standing.{is_withdrawn}
 use Rattle.rule.specs.Keys.{record_of}
-use Rattle.rule.specs.Whole.{rule_over}
 use Rattle.rule.proofs.Keyed.{find_in, within_in}
 use Rattle.rule.proofs.Lattice.{Below, own_blank}
 use Rattle.rule.proofs.Bounds.{Under}
@@ -25,8 +24,6 @@ use Rattle.rule.proofs.Ruling.{rule_least, gone_rank, here_rank}
 use Rattle.join.specs.Joining.{key_count}
 use Rattle.join.specs.Trees.{Plan, written, result, Room, OneMonth, Covers}
 use Rattle.join.proofs.Trees.{month_sounds}
-use Rattle.drawer.specs.declared.stale.Why.{Why}
-use Rattle.drawer.specs.declared.stale.Why.TheVariants.{Withdrawn, Higher, Contested}
 use Rattle.drawer.specs.Stale.{is_stale, why_not, why_of, Reason, withdrawn_elsewhere, revised_elsewhere, contested_here}
 use Rattle.drawer.proofs.Agreeing.{stale_exactly, has_own, joined_stands, joined_sound}
 

@@ -16,16 +16,16 @@ use native.Mathlib.Omega.{arith}
 use Rattle.call.specs.declared.Call.{Call}
 use Rattle.call.specs.Key.{call_key}
 use Rattle.book.specs.declared.Header.{Header}
-use Rattle.book.specs.Book.{most_keys, version_at, header_at, calls_of}
+use Rattle.book.specs.Book.{most_keys, version_at, calls_of}
 use Rattle.book.specs.Check.{accepted, header_minutes}
 use Rattle.book.specs.Sound.{SaysSame}
 use Rattle.book.proofs.Exact.{sound_accepted, one_to_one}
-use Rattle.rule.specs.Standing.{same_call, standing}
+use Rattle.rule.specs.Standing.{standing}
 use Rattle.rule.specs.Keys.{record_of}
 use Rattle.rule.specs.Whole.{all, rule_over, rule_calls, Tree, leaf, node, leaves}
 use Rattle.rule.proofs.Equality.{same_eq, eq_same}
 use Rattle.rule.proofs.Keyed.{ext_find}
-use Rattle.rule.proofs.Bounds.{Sounds, least_one}
+use Rattle.rule.proofs.Bounds.{least_one}
 use Rattle.rule.proofs.Ruling.{rule_least}
 use Rattle.rule.proofs.Orders.{Over}
 use Rattle.rule.proofs.Without.{rule_find, rule_rises}

@@ -11,7 +11,6 @@ use lib.ListN.{length}
 use Rattle.le.specs.Le.{le_at, le_bytes}
 use Rattle.units.specs.Month.{is_leap, days_of, minutes_of, quarters_of}
 use Rattle.call.specs.declared.Call.{Call}
-use Rattle.call.specs.Key.{call_key}
 use Rattle.call.specs.Limits.{table, limits_of, limits_allow, call_is_sound}
 use Rattle.call.specs.Revising.{live, contested}
 use Rattle.call.specs.Services.{reserve, start_stop}
@@ -46,9 +45,7 @@ use Rattle.score.specs.Refusing.{overlaps, is_once, clashes, clash_at, number_of
 use Rattle.score.specs.declared.answer.Score.{Score}
 use Rattle.score.specs.Scoring.{score_refused, scoring}
 use Rattle.score.specs.Outcomes.{ValuesWithin}
-use Rattle.drawer.specs.declared.stale.StaleRecord.{StaleRecord}
 use Rattle.drawer.specs.declared.stale.Why.TheVariants.{Withdrawn}
-use Rattle.drawer.specs.declared.refused.RefusedRecord.{RefusedRecord}
 use Rattle.drawer.specs.Told.{told_from}
 use Rattle.drawer.specs.Stale.{is_this, is_stale, why_not, why_of, is_stale_at, stale_at, stale_of, EachStands}
 use Rattle.drawer.specs.Refused.{against_at, first_against, is_refused_at, refused_at, refused_of, NoneListed}

@@ -17,7 +17,7 @@ use Rattle.call.specs.Key.{call_key}
 use Rattle.call.specs.Service.{CallWithin}
 use Rattle.book.specs.declared.Header.{Header}
 use Rattle.book.specs.declared.Verdict.{Verdict}
-use Rattle.book.specs.Book.{first_version, header_at, count_at, calls_from, calls_of, book_bytes}
+use Rattle.book.specs.Book.{header_at, count_at, calls_from, calls_of, book_bytes}
 use Rattle.book.specs.Check.{header_minutes}
 use Rattle.book.specs.Without.{book_without}
 use Rattle.book.proofs.Exact.{sound_accepted}

@@ -6,7 +6,7 @@ use Prim.Native.Nat.{ℕ, zero, suc, ◌-◌, ◌≤◌, ◌<◌}
 use native.Mathlib.Omega.{arith}
 use lib.IntN.{pos}
 use lib.ListN.{length, get_or, take, drop, replicate}
-use lib.Seq.{get_or-drop, get_or-take, length-take-le, take_all}
+use lib.Seq.{get_or-take, length-take-le, take_all}
 use Rattle.units.specs.declared.Grains.{Grains}
 use Rattle.ceiling.specs.declared.LimitedLine.{LimitedLine}
 use Rattle.ceiling.specs.Ceiling.{CeiledPart, plain_lines}

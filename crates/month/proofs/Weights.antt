@@ -6,14 +6,12 @@ use mathlib.Core.List.{List, [], ◌∷◌}
 use Prim.Native.Nat.{ℕ}
 use lib.IntN.{pos, negsuc}
 use lib.ListN.{get_or}
-use Rattle.units.specs.declared.Grains.{Grains}
 use Rattle.units.specs.Money.{fen_per_thousandth}
 use Rattle.apportion.specs.Apportion.{apportion}
 use Rattle.share.specs.declared.Line.{Line}
 use Rattle.share.specs.Sharing.{gap, generators_amount, user_amount, line_is_sound, parts, settled, sharing_in_turn}
 use Rattle.ceiling.specs.declared.LimitedLine.{LimitedLine}
 use Rattle.ceiling.specs.Ceiling.{limit_is_sound, limited_is_sound, plain_lines, paid, beyond, positive, given_up, ceiled_parts, second_sharing, both_sharings, ceiling_in_turn, ceiling}
-use Rattle.month.specs.declared.Row.{Row}
 use Rattle.month.specs.declared.Statement.{Statement}
 use Rattle.month.specs.Settling.{blank_row, row_of, rows_of, filled_rows, shared_month}
 

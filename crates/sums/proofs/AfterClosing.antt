@@ -13,9 +13,8 @@ use Rattle.call.specs.declared.Call.{Call}
 use Rattle.call.specs.Layout.{call_at, key_bytes, time_bytes, term_bytes, call_bytes}
 use Rattle.call.specs.Limits.{table, limits_of, limits_allow, call_is_sound}
 use Rattle.call.specs.Service.{CallWithin}
-use Rattle.call.specs.Services.{black_start}
 use Rattle.book.specs.declared.Header.{Header}
-use Rattle.book.specs.Book.{most_records, most_keys, header_at, count_at, record_at, calls_from, calls_of, mark_bytes, date_bytes, count_bytes, head_bytes, record_bytes, book_bytes}
+use Rattle.book.specs.Book.{most_records, header_at, count_at, record_at, calls_from, calls_of, mark_bytes, date_bytes, count_bytes, head_bytes, record_bytes, book_bytes}
 use Rattle.book.specs.Check.{accepted, is_marked, is_known, is_versioned, header_is_sound, is_headed, header_minutes, is_record, judge, check_records, check}
 use Rattle.book.specs.Sound.{Sound}
 use Rattle.book.proofs.Exact.{accepted_sound}

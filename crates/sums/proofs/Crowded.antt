@@ -5,7 +5,7 @@ use mathlib.Core.List.Memᴰ.{cases_cons as in-cons}
 use mathlib.Core.List.Memᴰ.{head as here}
 use mathlib.Core.List.Memᴰ.{tail as there}
 use mathlib.Core.List.{List, [], ◌∷◌, Memᴰ as In}
-use Prim.Native.Nat.{ℕ, ◌≤◌, ◌<◌}
+use Prim.Native.Nat.{ℕ, ◌≤◌}
 use native.Mathlib.Omega.{arith}
 use lib.Dec.{lit<, lit≤}
 use lib.ListN.{length}
@@ -17,7 +17,7 @@ use Rattle.join.specs.Joining.{join_refused, key_count, joining}
 use Rattle.join.specs.Trees.{Plan, books, result, Room, OneMonth, Covers}
 use Rattle.join.proofs.Trees.{book_refused}
 use Rattle.join.proofs.Orders.{too_many, never_through}
-use Rattle.sums.specs.Crowded.{january, many_calls, last_call, full, one_more, crowd, output, two, three}
+use Rattle.sums.specs.Crowded.{january, many_calls, last_call, full, one_more, crowd, two, three}
 use Rattle.sums.proofs.Numbered.{numbered_calls, numbered_fit, numbered_sound, numbered_reads, joined_one_longer, heads, both, month_of_both, keys_of_both_lem, output_long}
 
 many_calls_lem : Calls (header_minutes january) many_calls

@@ -6,12 +6,12 @@ use mathlib.Core.List.Memᴰ.{head as here}
 use mathlib.Core.List.Memᴰ.{not-nil as in-nil}
 use mathlib.Core.List.Memᴰ.{tail as there}
 use mathlib.Core.List.{List, [], ◌∷◌, Memᴰ as In}
-use Prim.Native.Nat.{ℕ, ◌≤◌, ◌<◌}
+use Prim.Native.Nat.{ℕ}
 use native.Mathlib.Omega.{arith}
 use lib.Dec.{lit<, lit≤}
 use lib.ListN.{length}
 use Rattle.call.specs.declared.Call.{Call}
-use Rattle.book.specs.Book.{first_version, second_version, most_records, most_keys, version_at, header_at, calls_of}
+use Rattle.book.specs.Book.{first_version, second_version, most_records, version_at, header_at, calls_of}
 use Rattle.book.specs.Sound.{Sound, SaysSame}
 use Rattle.book.proofs.Heads.{first_known, first_fits, second_known, second_fits}
 use Rattle.rule.specs.Keys.{put, put_all, different_keys}
@@ -21,7 +21,7 @@ use Rattle.join.proofs.Orders.{one_version}
 use Rattle.join.proofs.OneVersion.{stays_first_lem, one_is_second, keys_make_second}
 use Rattle.join.specs.Nothing.{AddsNothing}
 use Rattle.join.proofs.Nothing.{left_out, left-out-bytes}
-use Rattle.sums.specs.Crowded.{january, numbered, output}
+use Rattle.sums.specs.Crowded.{january, numbered}
 use Rattle.sums.specs.Turning.{full_first, next_call, empty_second, turning, one_order, other_order, repeated_one, late_call, pair, pair_order, mixed, mixed_order, mixed_back}
 use Rattle.sums.proofs.Numbered.{numbered_sound, numbered_reads, numbered_version, both, month_of_both, keys_of_both_lem, output_long}
 

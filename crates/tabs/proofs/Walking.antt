@@ -31,7 +31,7 @@ use Rattle.tabs.specs.Tabs.{first_index, own_of, of_state, tabs_of}
 use Rattle.tabs.specs.Inner.{Ordered, Under, Coming, UpTo, is_of, tallied, tally_more, Roomy, index_for}
 use Rattle.tabs.proofs.Members.{own_hit, own_miss, own_none, first_hit, first_miss, first_none, ordered, lead, empty, own_within, states_all}
 use Rattle.tabs.proofs.Pages.{tab_path}
-use Rattle.tabs.proofs.Tallies.{tally, one, tally_cons, one_own, tally_most}
+use Rattle.tabs.proofs.Tallies.{tally, tally_cons, one_own, tally_most}
 
 -- The next record
 

@@ -4,7 +4,7 @@ use Rattle.call.specs.declared.Call.{Call}
 use Rattle.call.specs.Revising.{call_contested, call_withdrawn}
 use Rattle.call.specs.Services.{start_stop}
 use Rattle.book.specs.Book.{first_version, book_bytes}
-use Rattle.book.specs.Check.{refused, accepted}
+use Rattle.book.specs.Check.{refused}
 use Rattle.tabs.specs.declared.Tab.{Tab}
 use Rattle.tabs.specs.Tabs.{page_bytes}
 use Rattle.tabs.specs.Outcome.{JoinTabsOutcome, join_tabs_refused, joining_tabs}

@@ -6,7 +6,6 @@ use borrow.Author.Tests.{lt-ltb, le-ltb}
 use Rattle.call.specs.declared.Call.{Call}
 use Rattle.rule.specs.Standing.{is_withdrawn}
 use Rattle.wish.specs.declared.Wish.{Wish}
-use Rattle.wish.specs.declared.Verdict.{Verdict}
 use Rattle.wish.specs.declared.Verdict.TheVariants.{Changes, NotHigher, Withdrawn}
 use Rattle.wish.specs.Wish.{higher, by_wish, over}
 

@@ -19,7 +19,6 @@ use Rattle.lookup.specs.declared.Index.{Index}
 use Rattle.lookup.specs.declared.Index.TheVariants.{Missing as NoIndex, At}
 use Rattle.lookup.specs.Lookup.{index_of}
 use Rattle.lookup.proofs.Places.{Finds, missing, found, in_book}
-use Rattle.wish.specs.declared.Old.{Old}
 use Rattle.wish.specs.declared.Old.TheVariants.{Missing, Stands}
 use Rattle.wish.specs.Wish.{old_of, old_in}
 

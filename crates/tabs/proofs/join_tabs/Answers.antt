@@ -3,7 +3,7 @@ use Prim.Native.Nat.{◌≤◌}
 use native.Mathlib.Omega.{arith}
 use lib.ListN.{length}
 use Rattle.book.specs.declared.Verdict.{Verdict}
-use Rattle.join.specs.Joining.{keys_of_both, overflow}
+use Rattle.join.specs.Joining.{keys_of_both}
 use Rattle.join.proofs.Accepted.{one_header}
 use Rattle.tabs.specs.Tabs.{page_size}
 use Rattle.tabs.specs.Outcome.{screen_tabs}

@@ -1,7 +1,6 @@
 use mathlib.Core.Path.{◌≡◌, sym, ◌∙◌, ap, ap₂}
 use Rattle.book.specs.declared.Verdict.{Verdict}
 use Rattle.book.specs.Book.{header_at, calls_of}
-use Rattle.book.specs.Check.{refused}
 use Rattle.pair.specs.Screening.{IsAccepted, same_month}
 use Rattle.pair.proofs.Screening.{passed_both}
 use Rattle.join.proofs.Books.{long}

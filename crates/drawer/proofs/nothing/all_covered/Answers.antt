@@ -1,8 +1,5 @@
 use mathlib.Core.Path.{sym, ◌∙◌}
-use mathlib.Core.Bool.{true}
-use Prim.Native.Nat.{◌-◌}
 use native.Mathlib.Omega.{arith}
-use borrow.Author.Tests.{not-true, not-false}
 use Rattle.join.proofs.Books.{long}
 use Rattle.drawer.proofs.Covering.{all_none, all_more, all_end, all_start}
 use Rattle.drawer.proofs.nothing.all_covered.Goals as goal

@@ -1,4 +1,3 @@
-use Prim.Native.Nat.{◌-◌}
 use native.Mathlib.Omega.{arith}
 use Rattle.le.specs.Le.{IsBytes}
 use Rattle.tabs.proofs.Retabbing.{copy_next, copy_over}

@@ -1,4 +1,3 @@
-use Prim.Native.Nat.{◌-◌}
 use native.Mathlib.Omega.{arith}
 use Rattle.tabs.proofs.Pages.{length_stored}
 use Rattle.tabs.proofs.Retabbing.{sum_fits, tab_next, tab_starts}

@@ -1,5 +1,4 @@
 use mathlib.Core.Path.{refl}
-use Prim.Native.Nat.{◌-◌}
 use native.Mathlib.Omega.{arith}
 use Rattle.tabs.proofs.Bringing.{bring_starts, bring_over}
 use Rattle.tabs.proofs.forward.count_in.Goals as goal

@@ -1,6 +1,5 @@
 use mathlib.Core.Path.{◌≡◌, sym, ◌∙◌}
 use mathlib.Core.Bool.{true}
-use Prim.Native.Nat.{◌-◌}
 use native.Mathlib.Omega.{arith}
 use Rattle.tabs.specs.Inner.{live_pair}
 use Rattle.tabs.proofs.Stretches.{end_few, pair_is, live_next}

@@ -1,5 +1,4 @@
 use mathlib.Core.Path.{◌≡◌, ◌∙◌, ap}
-use Prim.Native.Nat.{◌-◌}
 use Rattle.call.specs.Layout.{call_at}
 use Rattle.join.proofs.Taken.{lies}
 use Rattle.tabs.specs.Inner.{others_more}

@@ -1,4 +1,3 @@
-use Prim.Native.Nat.{◌-◌}
 use native.Mathlib.Omega.{arith}
 use Rattle.le.specs.Le.{IsBytes}
 use Rattle.tabs.proofs.Making.{place_few, next_up, put_starts, put_next}
