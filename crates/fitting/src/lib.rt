@@ -1,5 +1,7 @@
 // The judge of a statement: whether its numbers are a month's. Taken as they stand are the part and of each member the number, the hours, the grains, the assessment, the energy and what is not
 // collected of it; the weight stands for a status. Every other number follows from these.
+#![tactic(auto)]
+
 ghost use Rattle.std.specs.Prelude.{◌≡◌, ◌≤◌, take};
 ghost use Rattle.register.specs.Register.{most_entries};
 ghost use Rattle.ceiling.specs.Ceiling.{ceiling};
@@ -20,7 +22,7 @@ use own::{first_own, own_limits, own_lines};
 use parts::{first_part, is_same};
 
 // What does not fit in a statement: nothing; or sharing refuses its lines, by number and place; or a column of a line of its text, counted from 0: what stands there, and what follows.
-#[derive(Drop)]
+#[derive(Clone, Copy)]
 pub enum Finding {
     Fits,
     NotShared(u32, usize),

@@ -1,0 +1,13 @@
+use mathlib.Core.Path.{ap}
+use native.Mathlib.Omega.{arith}
+use Rattle.render.specs.Decimal.{decimal}
+use Rattle.render.proofs.Placed.{and_then, looser, same_put}
+use Rattle.fitting.specs.Told.{line_text}
+use Rattle.fitting.proofs.told.put_line.Goals as goal
+
+pub returns : goal.returns
+unfolding line_text
+returns c =
+    let p = c.put_word-a.ensures in
+    let q = same_put (ap decimal c.from_one.ensures) c.put_decimal-b.ensures in
+    looser _ (omega arith) (and_then (and_then p q) c.put_word.ensures)
