@@ -1,5 +1,7 @@
 // The operations that the paper has tables for, each with its table as its contract: what the machine knows of a lent slice, that it holds bytes, is part of their proof,
 // and nobody has to supply it. They do nothing of their own.
+#![tactic(auto)]
+
 ghost use Rattle.book.specs.Refusals.{Refusal};
 ghost use Rattle.join.specs.Joining.{join_outcome};
 ghost use Rattle.join.specs.Verdict.{JoinVerdict};
