@@ -6,7 +6,7 @@ use Prim.Native.Nat.{ℕ, ◌+◌, ◌-◌, ◌*◌, ◌<◌}
 use native.Mathlib.Nat.{mul-pos}
 use native.Mathlib.Omega.{arith}
 use lib.Dec.{eqb}
-use lib.IntN.{ℤ, pos, ◌-ℤ◌, ◌*ℤ◌}
+use lib.IntN.{pos, ◌-ℤ◌, ◌*ℤ◌}
 use lib.ListN.{length, length-map}
 use borrow.Author.Tests.{eqb-false}
 use Rattle.ramp.specs.declared.Action.{Action}

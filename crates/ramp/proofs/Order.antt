@@ -5,7 +5,7 @@ use mathlib.Core.List.{List, [], ◌∷◌, ◌++◌, map}
 use Prim.Native.Nat.{ℕ, suc, ◌+◌, ◌*◌, ◌<◌}
 use native.Mathlib.Omega.{arith}
 use lib.Dec.{eqb}
-use lib.IntN.{ℤ, ◌+ℤ◌, +ℤ_assoc, +ℤ_comm}
+use lib.IntN.{◌+ℤ◌, +ℤ_assoc, +ℤ_comm}
 use lib.ListN.{length, length-append}
 use Rattle.pay.specs.declared.Member.{Member}
 use Rattle.pay.proofs.Within.{line_of}

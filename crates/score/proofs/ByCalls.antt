@@ -2,19 +2,11 @@
 use mathlib.Core.Path.{◌≡◌, refl, sym, ◌∙◌, ap}
 use mathlib.Core.List.{List}
 use Prim.Native.Nat.{ℕ}
-use Rattle.call.specs.declared.Call.{Call}
-use Rattle.book.specs.declared.Header.{Header}
-use Rattle.book.specs.declared.Verdict.{Verdict}
-use Rattle.book.specs.Book.{header_at, count_at, record_at}
-use Rattle.book.specs.Check.{check}
 use Rattle.book.specs.Sound.{Sound, SaysSame}
 use Rattle.book.proofs.Exact.{sound_accepted}
 use Rattle.book.proofs.Same.{same_records, same_count}
 use Rattle.pay.specs.declared.Member.{Member}
-use Rattle.units.specs.Month.{quarters_of}
-use Rattle.score.specs.declared.answer.Earned.{Earned}
-use Rattle.score.specs.Series.{series_fault}
-use Rattle.score.specs.Scoring.{records_earned, after, sound_earned, grains_earned, in_fen, scoring}
+use Rattle.score.specs.Scoring.{sound_earned, grains_earned, in_fen, scoring}
 
 module _ (b b' : List ℕ) (s : Sound b) (s' : Sound b') (e : SaysSame b b') (m : Member) (series : List ℕ) where
   -- the month's grains, or why there are none

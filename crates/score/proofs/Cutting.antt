@@ -11,7 +11,7 @@ use borrow.Author.Tests.{ne_eqb}
 use Rattle.units.specs.Month.{quarters_of}
 use Rattle.call.specs.declared.Call.{Call}
 use Rattle.call.specs.Key.{call_key}
-use Rattle.call.specs.Revising.{live, contested}
+use Rattle.call.specs.Revising.{contested}
 use Rattle.call.specs.Services.{deep_peak, reserve, black_start, agc_availability, agc_contribution, frequency_event, avc}
 use Rattle.book.specs.declared.Header.{Header}
 use Rattle.book.specs.Book.{calls_of}

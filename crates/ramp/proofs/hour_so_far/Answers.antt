@@ -1,5 +1,4 @@
 use mathlib.Core.Path.{ap, sym, ◌∙◌}
-use Prim.Native.Nat.{◌-◌}
 use native.Mathlib.Omega.{arith}
 use Rattle.ramp.specs.Bytes.{actions_from}
 use Rattle.ramp.specs.Inner.{takes_action}

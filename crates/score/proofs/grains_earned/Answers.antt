@@ -5,7 +5,6 @@ use Rattle.book.specs.Check.{check}
 use Rattle.pay.specs.Member.{member_is_sound}
 use Rattle.score.proofs.Turns.{earned_10, earned_book, earned_sound}
 use Rattle.book.proofs.Judged.{zero_accepted}
-use mathlib.Core.Bool.{not}
 use Rattle.score.proofs.grains_earned.Goals as goal
 
 pub returns-then-not-is_sound : goal.returns-then-not-is_sound

@@ -1,6 +1,6 @@
 use native.Mathlib.Omega.{arith}
 use mathlib.Core.Path.{◌≡◌, refl, sym, ◌∙◌, ap}
-use Prim.Native.Nat.{ℕ, ◌-◌, ◌≤◌}
+use Prim.Native.Nat.{ℕ, ◌≤◌}
 use Rattle.score.proofs.First.{first_more, first_le}
 use Rattle.score.specs.Refusing.{own_at, first_own}
 use Rattle.score.specs.Scoring.{month_grains}

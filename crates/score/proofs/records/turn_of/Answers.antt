@@ -1,5 +1,4 @@
 use mathlib.Core.Path.{◌≡◌, sym, ◌∙◌, ap}
-use mathlib.Core.Bool.{true}
 use Rattle.call.specs.declared.Call.{Call}
 use Rattle.book.specs.Book.{record_at}
 use Rattle.pay.specs.Inner.{is_by_energy}
@@ -7,7 +6,6 @@ use Rattle.score.specs.Scoring.{is_own_live}
 use Rattle.score.proofs.Turns.{state_low}
 use Rattle.score.proofs.Energy.{idle_turned}
 use Rattle.score.proofs.Ends.{kept_idle, kept_event}
-use mathlib.Core.Bool.{not}
 use Rattle.score.proofs.records.turn_of.Goals as goal
 
 pub returns-then-not-is_own_live : goal.returns-then-not-is_own_live

@@ -1,13 +1,9 @@
-use mathlib.Core.Bool.{false}
 use Rattle.score.proofs.Turns.{none_before, none_free}
 use native.Mathlib.Omega.{arith}
 use mathlib.Core.Path.{sym, ◌∙◌}
-use Prim.Native.Nat.{◌-◌}
 use Rattle.score.proofs.First.{any_more, any_hit, any_less}
 use Rattle.score.specs.Refusing.{clash_at}
 use Rattle.book.specs.Book.{record_at}
-use mathlib.Core.Path.{ap}
-use mathlib.Core.Bool.{not}
 use Rattle.score.proofs.refusal.clash_before.Goals as goal
 
 pub returns-then-not-x-second : goal.returns-then-not-x-second

@@ -1,7 +1,5 @@
 use mathlib.Core.Path.{refl}
 use Rattle.score.specs.Refusing.{clashes}
-use mathlib.Core.Path.{ap}
-use mathlib.Core.Bool.{not}
 use Rattle.score.proofs.refusal.clashes.Goals as goal
 
 pub returns-then-not-one : goal.returns-then-not-one

@@ -2,7 +2,6 @@ use Rattle.score.proofs.Turns.{own_yes, own_not}
 use Rattle.call.specs.declared.Call.{Call}
 use native.Mathlib.Omega.{arith}
 use mathlib.Core.Path.{◌≡◌, sym, ◌∙◌, ap}
-use Prim.Native.Nat.{◌-◌}
 use Rattle.score.proofs.First.{first_none, first_more, first_hit}
 use Rattle.score.specs.Refusing.{own_at, first_own}
 use Rattle.book.specs.Book.{record_at}

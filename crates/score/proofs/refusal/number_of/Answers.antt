@@ -1,6 +1,4 @@
 use Rattle.score.specs.Refusing.{number_of}
-use mathlib.Core.Path.{ap}
-use mathlib.Core.Bool.{not}
 use Rattle.score.proofs.refusal.number_of.Goals as goal
 
 pub returns-then-not-fit : goal.returns-then-not-fit

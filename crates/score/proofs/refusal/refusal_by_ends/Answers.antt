@@ -8,7 +8,6 @@ use Rattle.score.specs.Refusing.{number_of, clash_before}
 use Rattle.score.specs.Scoring.{is_own_live}
 use Rattle.score.proofs.Energy.{own_refusal}
 use Rattle.score.proofs.Ends.{kept_live}
-use mathlib.Core.Bool.{not}
 use Rattle.score.proofs.refusal.refusal_by_ends.Goals as goal
 
 pub returns-then-not-open_to : goal.returns-then-not-open_to

@@ -1,7 +1,6 @@
 use Rattle.score.proofs.Turns.{much_yes, much_not}
 use native.Mathlib.Omega.{arith}
 use mathlib.Core.Path.{◌≡◌, sym}
-use Prim.Native.Nat.{◌-◌}
 use lib.ListN.{length}
 use Rattle.score.proofs.First.{first_none, first_more, first_hit}
 use Rattle.score.specs.Series.{too_much, first_too_much}

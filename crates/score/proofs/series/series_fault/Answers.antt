@@ -1,8 +1,6 @@
 use mathlib.Core.Path.{sym, ◌∙◌}
 use native.Mathlib.Nat.{le_refl}
 use Rattle.score.proofs.Turns.{series_length, series_value, series_good}
-use mathlib.Core.Path.{ap}
-use mathlib.Core.Bool.{not}
 use Rattle.score.proofs.series.series_fault.Goals as goal
 
 pub returns-then-series-quarters : goal.returns-then-series-quarters
