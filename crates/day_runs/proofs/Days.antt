@@ -1,6 +1,6 @@
 -- The answer of a day, case by case; what an accepted month gives. Assumes nothing.
 use mathlib.Core.Path.{◌≡◌, refl, sym, ◌∙◌, ap}
-use mathlib.Core.Bool.{Bool, true, false, cond, not, ◌&&◌, true≢false}
+use mathlib.Core.Bool.{Bool, true, false, ◌&&◌}
 use mathlib.Core.List.{List, []}
 use Prim.Native.Nat.{ℕ, ◌+◌, ◌-◌, ◌*◌, ◌%◌, ◌≤◌, ◌<◌}
 use native.Mathlib.Omega.{arith}
@@ -9,23 +9,21 @@ use lib.ListN.{length, take}
 use borrow.Author.Tests.{eq-eqb, ne_eqb, eqb-true, eqb-false}
 use Rattle.units.specs.Month.{days_of}
 use Rattle.call.specs.Services.{deep_peak, reserve}
-use Rattle.book.specs.declared.Verdict.{Verdict}
-use Rattle.book.specs.Book.{size_of, header_at, count_at, record_at, calls_from, calls_of}
+use Rattle.book.specs.Book.{size_of, header_at, count_at, calls_from, calls_of}
 use Rattle.book.specs.Check.{accepted, check, header_minutes}
 use Rattle.book.proofs.Judged.{zero_accepted}
 use Rattle.pay.specs.declared.Member.{Member}
 use Rattle.pay.specs.Member.{member_is_sound}
-use Rattle.score.specs.declared.answer.Score.{Score}
 use Rattle.score.specs.declared.answer.Earned.{Earned}
-use Rattle.score.specs.declared.answer.Earned.TheVariants.{Accepted, Refused}
+use Rattle.score.specs.declared.answer.Earned.TheVariants.{Refused}
 use Rattle.score.specs.Scoring.{after, in_fen}
 use Rattle.score.proofs.Checked.{all_sound}
-use Rattle.reckon.specs.Reckoning.{windows_of, sound_reckoned, grains_reckoned, reckoning}
+use Rattle.reckon.specs.Reckoning.{windows_of, grains_reckoned, reckoning}
 use Rattle.reckon.specs.declared.windows.Windows.{Windows}
 use Rattle.reckon.specs.Inner.{Placed, calls_at, Finds}
 use Rattle.reckon.proofs.Apart.{deep_peak_has, reserve_has}
 use Rattle.reckon.proofs.Places.{calls_there, places_placed}
-use Rattle.day_runs.specs.DayRuns.{Day, places_per_day, runs_from, day_of, day_runs, runs_told}
+use Rattle.day_runs.specs.DayRuns.{places_per_day, runs_from, day_of, day_runs, runs_told}
 use Rattle.day_runs.specs.Inner.{day_at, FewRuns}
 use Rattle.day_runs.proofs.Few.{sound_quartered, day_few}
 

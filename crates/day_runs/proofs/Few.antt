@@ -1,15 +1,15 @@
 -- A day has few runs: each begins with a quarter hour, where windows do. Assumes nothing.
 use mathlib.Core.Path.{◌≡◌, refl, sym, ◌∙◌, ap}
-use mathlib.Core.Bool.{Bool, true, false, cond, not, ◌&&◌, ◌||◌}
+use mathlib.Core.Bool.{Bool, true, false, cond, ◌&&◌}
 use mathlib.Core.List.{List, [], ◌∷◌}
 use Prim.Native.Nat.{ℕ, zero, suc, ◌+◌, ◌-◌, ◌*◌, ◌/◌, ◌%◌, ◌≤◌, ◌<◌}
 use native.Mathlib.Decide.{dec_le}
 use native.Mathlib.Omega.{arith}
-use lib.Dec.{eqb, leb}
+use lib.Dec.{leb}
 use lib.ListN.{get_or, length}
 use borrow.Author.Tests.{eq-eqb, le-leb, lt-leb}
 use Rattle.call.specs.declared.Call.{Call}
-use Rattle.call.specs.Limits.{limits_of, call_is_sound}
+use Rattle.call.specs.Limits.{call_is_sound}
 use Rattle.book.specs.Book.{record_at, calls_from}
 use Rattle.pay.specs.declared.Member.{Member}
 use Rattle.pay.specs.Sum.{total}
@@ -17,7 +17,6 @@ use Rattle.pay.proofs.Sums.{total_none, total_split}
 use Rattle.reckon.specs.Reckoning.{is_window, windows_of, covers, output_at}
 use Rattle.reckon.proofs.Sums.{total_none_of}
 use Rattle.reckon.proofs.Apart.{AtQuarters, HasWindows, at_quarters, window_of, windows_none, windows_yes, windows_no}
-use Rattle.day_runs.specs.declared.runs.DayRun.{DayRun}
 use Rattle.day_runs.specs.DayRuns.{covered_by, is_covered, goes_on, run_begins, Day, places_per_day, begins_at, length_at, pay_at, run_at, runs_from, most_runs}
 use Rattle.day_runs.proofs.Goes.{begins_later}
 use Rattle.day_runs.proofs.AddUp.{total_first, total_moved, total_pairs}

@@ -1,6 +1,6 @@
 -- The days of a month add up to it. Assumes nothing.
 use mathlib.Core.Path.{◌≡◌, refl, sym, ◌∙◌, ap}
-use mathlib.Core.Bool.{Bool, true, false, cond, not, ◌&&◌}
+use mathlib.Core.Bool.{Bool, true, false, cond, ◌&&◌}
 use mathlib.Core.List.{List}
 use Prim.Native.Nat.{ℕ, zero, suc, ◌+◌, ◌-◌, ◌*◌, ◌≤◌, ◌<◌}
 use native.Mathlib.Nat.{zero-add}
@@ -12,16 +12,14 @@ use Rattle.call.specs.Limits.{call_is_sound}
 use Rattle.call.specs.Services.{deep_peak, reserve}
 use Rattle.book.specs.declared.Verdict.{Verdict}
 use Rattle.book.specs.Book.{header_at, count_at, record_at, calls_of}
-use Rattle.book.specs.Check.{accepted, check, header_minutes}
+use Rattle.book.specs.Check.{header_minutes}
 use Rattle.pay.specs.declared.Member.{Member}
-use Rattle.pay.specs.Member.{member_is_sound}
 use Rattle.pay.specs.Sum.{total, total_z}
 use Rattle.pay.specs.Event.{energy_pay}
 use Rattle.pay.proofs.Sums.{total_none, total_suc, total_split}
 use Rattle.score.specs.declared.answer.Score.{Score}
 use Rattle.score.specs.declared.answer.Earned.{Earned}
 use Rattle.score.specs.declared.answer.Earned.TheVariants.{Accepted, Refused}
-use Rattle.score.specs.First.{first_nonzero}
 use Rattle.score.specs.Series.{series_fault}
 use Rattle.score.specs.Refusing.{refusal_at}
 use Rattle.score.specs.Scoring.{wh_at, first_refused, after, month_at, in_fen, scoring}

@@ -1,13 +1,11 @@
 -- A window over midnight: the runs of the day before it, of the day behind it, and of the day after that. Assumes nothing.
 use mathlib.Core.Path.{◌≡◌, refl, sym, ◌∙◌, ap}
-use mathlib.Core.Bool.{Bool, true, false, cond, not, ◌&&◌}
+use mathlib.Core.Bool.{Bool, true, false, ◌&&◌}
 use mathlib.Core.List.{List, [], ◌∷◌}
 use Prim.Native.Nat.{ℕ, zero, suc, ◌+◌, ◌-◌, ◌*◌, ◌/◌, ◌%◌, ◌≤◌, ◌<◌}
 use native.Mathlib.Nat.{zero-add, add-zero}
 use native.Mathlib.Decide.{dec_lt, ℕ_discrete}
 use native.Mathlib.Omega.{arith}
-use lib.Dec.{eqb, ltb, leb}
-use lib.ListN.{length, get_or}
 use Rattle.units.specs.Month.{is_leap, days_of}
 use Rattle.call.specs.declared.Call.{Call}
 use Rattle.book.specs.declared.Header.{Header}
@@ -16,15 +14,14 @@ use Rattle.pay.specs.Window.{lacking, deep_peak_minute, minute_pay}
 use Rattle.pay.specs.Event.{clamp}
 use Rattle.score.specs.declared.answer.Score.{Score}
 use Rattle.score.specs.Scoring.{is_own_live}
-use Rattle.reckon.specs.Reckoning.{is_window, windows_of, covers, output_at, window_minute, minute_at, reckoning}
+use Rattle.reckon.specs.Reckoning.{is_window, windows_of, covers, window_minute, minute_at, reckoning}
 use Rattle.reckon.specs.Cases.{february, coal_of, book_of, paid, over_midnight, even}
 use Rattle.reckon.proofs.OneWindow.{covers_in, covers_before, covers_behind}
 use Rattle.reckon.proofs.Cases.{reads, night_within, even_at, night_reckoned}
-use Rattle.day_runs.specs.declared.runs.DayRun.{DayRun}
 use Rattle.day_runs.specs.DayRuns.{covered_by, is_covered, call_over, goes_on, run_begins, run_length}
 use Rattle.day_runs.specs.DayRuns.{Day, places_per_day, minute_of, is_deep, windows_at, begins_at, length_at, pay_at, run_at, runs_from, day_of, runs_told}
 use Rattle.day_runs.specs.Cases.{hour_before, hour_behind}
-use Rattle.day_runs.proofs.Goes.{begins_first, begins_later, length_on, length_ends}
+use Rattle.day_runs.proofs.Goes.{begins_later, length_on, length_ends}
 use Rattle.day_runs.proofs.Slots.{deep_begins, reserve_begins}
 use Rattle.day_runs.proofs.Days.{told_day}
 use Rattle.day_runs.proofs.Promises.{from_yes, from_no}

@@ -1,23 +1,21 @@
 -- What the runs of a day are held to: their sum, and the month's answer. Assumes nothing.
 use mathlib.Core.Path.{◌≡◌, refl, sym, ◌∙◌, ap}
 use mathlib.Core.Bool.{Bool, true, false, cond, ◌&&◌}
-use mathlib.Core.List.{List, [], ◌∷◌}
-use Prim.Native.Nat.{ℕ, zero, suc, ◌+◌, ◌-◌, ◌*◌, ◌/◌, ◌%◌, ◌≤◌, ◌<◌}
-use native.Mathlib.Nat.{zero-add, add-zero, add_assoc}
+use mathlib.Core.List.{List, ◌∷◌}
+use Prim.Native.Nat.{ℕ, zero, suc, ◌+◌, ◌-◌, ◌*◌, ◌/◌, ◌%◌}
+use native.Mathlib.Nat.{zero-add, add-zero}
 use native.Mathlib.Omega.{arith}
 use lib.Dec.{leb}
-use lib.ListN.{length}
-use Rattle.units.specs.Month.{days_of, minutes_per_day}
+use Rattle.units.specs.Month.{days_of}
 use Rattle.book.specs.Book.{header_at}
 use Rattle.pay.specs.declared.Member.{Member}
 use Rattle.pay.specs.Sum.{total}
 use Rattle.pay.proofs.Sums.{total_none}
 use Rattle.score.specs.Scoring.{scoring}
-use Rattle.reckon.specs.Reckoning.{minute_at, reckoning}
+use Rattle.reckon.specs.Reckoning.{reckoning}
 use Rattle.reckon.proofs.BothWays.{both_ways}
-use Rattle.day_runs.specs.declared.runs.DayRun.{DayRun}
 use Rattle.day_runs.specs.declared.DayReckoned.{DayReckoned}
-use Rattle.day_runs.specs.DayRuns.{Day, places_per_day, run_begins, run_length, minute_of, windows_at, begins_at, length_at, pay_at, run_at, runs_from, day_of, runs_told, day_reckoned, day_reckoning}
+use Rattle.day_runs.specs.DayRuns.{Day, places_per_day, minute_of, begins_at, length_at, pay_at, run_at, runs_from, day_of, runs_told, day_reckoned, day_reckoning}
 use Rattle.day_runs.specs.DayRuns.{runs_pay, last_sum, day_minutes}
 use Rattle.day_runs.proofs.AddUp.{total_first, total_moved, total_pairs, begun, runs_are_minutes}
 use Rattle.day_runs.proofs.Slots.{deep_windows, reserve_windows, deep_begins, reserve_begins}

@@ -1,16 +1,12 @@
 -- The places of a day, one after the other. Assumes nothing.
-use mathlib.Core.Path.{◌≡◌, refl, sym, ◌∙◌, ap}
-use mathlib.Core.Bool.{Bool, true, false, cond}
-use mathlib.Core.List.{List, [], ◌∷◌}
-use Prim.Native.Nat.{ℕ, zero, suc, ◌+◌, ◌-◌, ◌*◌, ◌/◌, ◌%◌, ◌≤◌, ◌<◌}
+use mathlib.Core.Path.{◌≡◌, refl}
+use mathlib.Core.Bool.{true, false}
+use mathlib.Core.List.{[], ◌∷◌}
+use Prim.Native.Nat.{ℕ, suc, ◌+◌, ◌-◌, ◌/◌, ◌%◌, ◌≤◌, ◌<◌}
 use native.Mathlib.Numerals.{add-one}
 use native.Mathlib.Omega.{arith}
-use lib.Dec.{eqb}
-use borrow.Author.Tests.{eq-eqb, ne_eqb}
+use borrow.Author.Tests.{ne_eqb}
 use Rattle.call.specs.Services.{deep_peak, reserve}
-use Rattle.call.specs.declared.Call.{Call}
-use Rattle.pay.specs.declared.Member.{Member}
-use Rattle.day_runs.specs.declared.runs.DayRun.{DayRun}
 use Rattle.day_runs.specs.DayRuns.{Day, places_per_day, minute_of, is_deep, windows_at, run_begins, begins_at, length_at, pay_at, run_at, runs_from}
 use Rattle.day_runs.specs.Inner.{service_run}
 

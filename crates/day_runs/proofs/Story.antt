@@ -7,7 +7,6 @@ use Rattle.units.specs.Month.{is_leap, days_of}
 use Rattle.call.specs.Services.{reserve}
 use Rattle.book.specs.declared.Header.{Header}
 use Rattle.book.specs.Book.{header_at, calls_of}
-use Rattle.pay.specs.Sum.{total}
 use Rattle.score.specs.declared.answer.Score.{Score}
 use Rattle.score.specs.Scoring.{is_own_live}
 use Rattle.reckon.specs.Reckoning.{is_window, windows_of, minute_at, reckoning}

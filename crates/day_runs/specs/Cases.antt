@@ -1,5 +1,4 @@
 -- A later day of the case over midnight: coal of 300,000 kW at 140,000, deep peaking from 23:00 of day 1 to 01:00 of day 2. Assumes nothing.
-use Rattle.std.specs.Prelude.{List, [], ◌∷◌, ℕ}
 use Rattle.call.specs.Services.{deep_peak}
 use Rattle.day_runs.specs.declared.runs.DayRun.{DayRun}
 

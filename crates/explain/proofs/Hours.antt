@@ -1,5 +1,5 @@
 -- The ramping hours' grains together: their sum, held at the top of 64 bits, which a month of hours never reaches. Assumes nothing.
-use mathlib.Core.Path.{◌≡◌, refl, sym, ap, ◌∙◌}
+use mathlib.Core.Path.{◌≡◌, sym, ap, ◌∙◌}
 use mathlib.Core.List.{List, [], ◌∷◌}
 use Prim.Native.Nat.{ℕ, suc, ◌+◌, ◌*◌, ◌≤◌, ◌<◌, min}
 use native.Mathlib.Nat.{suc-mul}
@@ -10,7 +10,7 @@ use lib.Seq.{drop-cons}
 use Rattle.units.specs.declared.Grains.{Grains}
 use Rattle.units.specs.Money.{most_grains, grains_plus}
 use Rattle.score.proofs.Most.{most_hour, most_ramping}
-use Rattle.explain.specs.Explaining.{most_hours, hours_sum, hours_grains, HoursWithin}
+use Rattle.explain.specs.Explaining.{hours_sum, hours_grains, HoursWithin}
 
 -- Grains, and more of them, held: nothing more, and one behind the other.
 held_most : (a b : ℕ) → grains_plus a b ≤ most_grains

@@ -1,5 +1,5 @@
 -- The name of a member's ramping file in the folder of the series. Assumes nothing.
-use Rattle.std.specs.Prelude.{ℕ, ◌/◌, ◌%◌, List, [], ◌∷◌}
+use Rattle.std.specs.Prelude.{ℕ, ◌/◌, ◌%◌, List, ◌∷◌}
 use Rattle.row.specs.Numbers.{digit_byte}
 use Rattle.row.specs.Files.{slash, csv}
 

@@ -1,15 +1,12 @@
 -- The definitions of the second way's answer, case by case. Assumes nothing.
-use mathlib.Core.Path.{◌≡◌, refl, sym, ◌∙◌, ap}
-use mathlib.Core.Bool.{Bool, true, false, cond, not}
+use mathlib.Core.Path.{◌≡◌, refl}
+use mathlib.Core.Bool.{true, false}
 use mathlib.Core.List.{List}
 use Prim.Native.Nat.{ℕ, ◌≤◌, ◌<◌}
-use native.Mathlib.Omega.{arith}
-use lib.Dec.{eqb, ltb}
 use borrow.Author.Tests.{eq-eqb, ne_eqb, lt-ltb, le-ltb}
 use Rattle.book.specs.declared.Verdict.{Verdict}
-use Rattle.book.specs.Book.{header_at, count_at, record_at}
+use Rattle.book.specs.Book.{count_at, record_at}
 use Rattle.book.specs.Check.{check}
-use Rattle.units.specs.Month.{quarters_of}
 use Rattle.pay.specs.declared.Member.{Member}
 use Rattle.pay.specs.Member.{member_is_sound}
 use Rattle.score.specs.declared.answer.Earned.{Earned}

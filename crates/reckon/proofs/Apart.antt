@@ -2,10 +2,10 @@
 use mathlib.Core.Path.{◌≡◌, refl, sym, ◌∙◌, ap}
 use mathlib.Core.Bool.{Bool, true, false, cond, not, ◌&&◌, ◌||◌}
 use mathlib.Core.List.{List, [], ◌∷◌}
-use Prim.Native.Nat.{ℕ, zero, suc, ◌+◌, ◌-◌, ◌*◌, ◌/◌, ◌%◌, ◌≤◌, ◌<◌}
+use Prim.Native.Nat.{ℕ, zero, suc, ◌+◌, ◌%◌, ◌≤◌, ◌<◌}
 use native.Mathlib.Nat.{zero-add, add-zero}
 use native.Mathlib.Omega.{arith}
-use lib.Dec.{eqb, ltb, leb}
+use lib.Dec.{eqb, leb}
 use lib.Signed.{le_z}
 use borrow.Author.Tests.{eq-eqb, eqb-true, lt-ltb, le-leb}
 use Rattle.le.proofs.Tests.{each, holds_or_fails, fails}
@@ -23,7 +23,7 @@ use Rattle.pay.specs.Event.{called_up}
 use Rattle.pay.proofs.Sums.{total_none, total_one, total_split}
 use Rattle.pay.proofs.Bounds.{ends_within}
 use Rattle.score.specs.First.{any_below}
-use Rattle.score.specs.Refusing.{overlaps, is_once, clashes, clash_at, number_of, refusal_at}
+use Rattle.score.specs.Refusing.{overlaps, clashes, clash_at, number_of, refusal_at}
 use Rattle.score.specs.Scoring.{is_own_live}
 use Rattle.score.proofs.First.{any_not}
 use Rattle.score.proofs.Energy.{own_refusal}

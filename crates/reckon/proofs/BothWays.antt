@@ -2,8 +2,7 @@
 use mathlib.Core.Path.{◌≡◌, refl, sym, ◌∙◌, ap}
 use mathlib.Core.Bool.{Bool, true, false, cond, not, ◌&&◌, ◌||◌}
 use mathlib.Core.List.{List}
-use Prim.Native.Nat.{ℕ, ◌+◌, ◌*◌, ◌/◌, ◌≤◌, ◌<◌}
-use native.Mathlib.Nat.{add-zero}
+use Prim.Native.Nat.{ℕ, ◌+◌, ◌/◌, ◌<◌}
 use native.Mathlib.Omega.{arith}
 use lib.Dec.{eqb, ltb}
 use borrow.Author.Tests.{eqb-true, ltb-false}
@@ -17,10 +16,9 @@ use Rattle.book.specs.Check.{accepted, check, header_minutes}
 use Rattle.book.proofs.Judged.{zero_accepted}
 use Rattle.pay.specs.declared.Member.{Member}
 use Rattle.pay.specs.Member.{member_is_sound}
-use Rattle.pay.specs.Sum.{total, total_z}
 use Rattle.pay.specs.Window.{minute_pay, quarter_pay, quarter_at, window_pay}
 use Rattle.pay.specs.Rate.{rated_pay}
-use Rattle.pay.specs.Event.{called_up, energy_pay}
+use Rattle.pay.specs.Event.{called_up}
 use Rattle.pay.specs.Live.{live_pay}
 use Rattle.pay.proofs.Sums.{total_same}
 use Rattle.score.specs.declared.answer.Score.{Score}
@@ -29,7 +27,7 @@ use Rattle.score.specs.declared.answer.Earned.TheVariants.{Accepted, Refused}
 use Rattle.score.specs.First.{first_nonzero}
 use Rattle.score.specs.Series.{series_fault}
 use Rattle.score.specs.Refusing.{refusal_at}
-use Rattle.score.specs.Scoring.{is_own_live, pay_of, pay_at, wh_at, month_grains, first_refused, records_earned, after, month_at, sound_earned, grains_earned, in_fen, scoring}
+use Rattle.score.specs.Scoring.{is_own_live, pay_of, pay_at, month_grains, first_refused, records_earned, after, month_at, sound_earned, grains_earned, in_fen, scoring}
 use Rattle.score.proofs.First.{first_le, first_all}
 use Rattle.score.proofs.Checked.{all_sound}
 use Rattle.reckon.specs.Reckoning.{is_window, walked, other_pay, other_at, reckoned_grains, records_reckoned, sound_reckoned, grains_reckoned, reckoning}

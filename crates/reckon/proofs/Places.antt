@@ -1,13 +1,13 @@
 -- The places of a member's windows: how a pass over the records finds them. Assumes nothing.
 use mathlib.Core.Path.{◌≡◌, refl, sym, ◌∙◌, ap}
 use mathlib.Core.Bool.{Bool, true, false, cond}
-use mathlib.Core.List.{List, [], ◌∷◌, ◌++◌, map, append-nil, append_assoc, map-append}
-use Prim.Native.Nat.{ℕ, zero, suc, ◌+◌, ◌*◌, ◌≤◌, ◌<◌}
+use mathlib.Core.List.{List, [], ◌∷◌, ◌++◌, append-nil, append_assoc, map-append}
+use Prim.Native.Nat.{ℕ, zero, suc, ◌+◌, ◌≤◌, ◌<◌}
 use native.Mathlib.Nat.{not-suc-le-zero, add-zero, zero-add}
 use native.Mathlib.Numerals.{add-one}
 use native.Mathlib.Decide.{dec_lt}
 use native.Mathlib.Omega.{arith}
-use lib.ListN.{get_or, length, take, set, length-append, length-take, get_or-append}
+use lib.ListN.{get_or, length, take, set, length-append, get_or-append}
 use lib.Seq.{take-suc-set, take-set-le, get_or-append_seam}
 use Rattle.call.specs.declared.Call.{Call}
 use Rattle.book.specs.Book.{size_of, record_at, calls_from}

@@ -3,7 +3,7 @@ use Rattle.std.specs.Prelude.{List, [], ◌∷◌, ◌++◌, ℕ, pos, replicate
 use Rattle.units.specs.Money.{grains_to_fen}
 use Rattle.call.specs.declared.Call.{Call}
 use Rattle.call.specs.Revising.{live}
-use Rattle.call.specs.Services.{deep_peak, reserve}
+use Rattle.call.specs.Services.{deep_peak}
 use Rattle.book.specs.declared.Header.{Header}
 use Rattle.book.specs.Book.{first_version, book_bytes}
 use Rattle.pay.specs.declared.Member.{Member}

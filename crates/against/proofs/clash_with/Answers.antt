@@ -1,4 +1,3 @@
-use Prim.Native.Nat.{◌-◌}
 use native.Mathlib.Omega.{arith}
 use Rattle.book.specs.Book.{record_at}
 use Rattle.against.proofs.Found.{none_yet, not_this, this_one, none_at_all, as_clash}

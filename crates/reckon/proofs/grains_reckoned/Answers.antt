@@ -5,7 +5,6 @@ use Rattle.book.specs.Check.{check}
 use Rattle.book.proofs.Judged.{zero_accepted}
 use Rattle.pay.specs.Member.{member_is_sound}
 use Rattle.reckon.proofs.Answers.{reckoned_10, reckoned_book, reckoned_sound}
-use mathlib.Core.Bool.{not}
 use Rattle.reckon.proofs.grains_reckoned.Goals as goal
 
 pub returns-then-not-is_sound : goal.returns-then-not-is_sound

@@ -1,6 +1,5 @@
 use native.Mathlib.Omega.{arith}
 use mathlib.Core.Path.{sym, ◌∙◌}
-use Prim.Native.Nat.{◌-◌}
 use Rattle.day_runs.specs.Inner.{day_at}
 use Rattle.day_runs.proofs.Slots.{runs_skip}
 use Rattle.day_runs.proofs.places.next_begin.Goals as goal

@@ -1,6 +1,5 @@
 use native.Mathlib.Omega.{arith}
 use mathlib.Core.Path.{sym, ◌∙◌, ap}
-use Prim.Native.Nat.{◌-◌}
 use Rattle.call.specs.declared.Call.{Call}
 use Rattle.day_runs.proofs.Goes.{call_hit, call_miss, call_none}
 use Rattle.day_runs.proofs.runs.call_over.Goals as goal

@@ -1,6 +1,5 @@
 use native.Mathlib.Omega.{arith}
 use mathlib.Core.Path.{sym, ◌∙◌}
-use Prim.Native.Nat.{◌-◌}
 use native.Mathlib.Nat.{add-zero}
 use Rattle.day_runs.proofs.Goes.{covered_hit, covered_miss, covered_none}
 use Rattle.day_runs.proofs.runs.covered_by.Goals as goal

@@ -3,8 +3,6 @@ use mathlib.Core.Path.{◌≡◌, refl, sym, ◌∙◌}
 use Prim.Native.Nat.{◌+◌, ◌-◌}
 use Rattle.reckon.specs.Inner.{calls_at}
 use Rattle.day_runs.proofs.Goes.{one_longer, no_longer, length_last}
-use mathlib.Core.Path.{ap}
-use mathlib.Core.Bool.{not}
 use Rattle.day_runs.proofs.runs.run_length.Goals as goal
 
 pub returns-then-not-goes_on : goal.returns-then-not-goes_on

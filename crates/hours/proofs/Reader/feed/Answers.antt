@@ -1,4 +1,4 @@
-use Rattle.std.proofs.Common.{◌≡◌, ℕ, ◌-◌, List, ◌++◌, take, subst, arith, take_all, rules}
+use Rattle.std.proofs.Common.{◌≡◌, ℕ, List, ◌++◌, take, subst, arith, take_all, rules}
 use Rattle.hours.specs.declared.Reader.{Reader}
 use Rattle.hours.specs.Stream.{HasRead}
 use Rattle.hours.proofs.Streaming.{feed_line, feed_step}

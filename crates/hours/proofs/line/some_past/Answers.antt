@@ -1,4 +1,4 @@
-use Rattle.std.proofs.Common.{◌≡◌, ◌-◌, length, get_or, sym, ◌∙◌, arith, rules, le-leb}
+use Rattle.std.proofs.Common.{◌≡◌, length, get_or, sym, ◌∙◌, arith, rules, le-leb}
 use Rattle.row.specs.Numbers.{ceiling}
 use borrow.Author.Tests.{lt-leb}
 use Rattle.hours.proofs.Lost.{past_on, past_at, past_end}

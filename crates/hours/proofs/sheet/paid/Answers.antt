@@ -1,8 +1,6 @@
-use Rattle.std.proofs.Common.{◌≡◌, ◌-◌, length, sym, ◌∙◌, arith, rules}
+use Rattle.std.proofs.Common.{◌≡◌, length, sym, ◌∙◌, arith, rules}
 use Rattle.ramp.specs.Ramping.{most_actions}
 use Rattle.hours.proofs.Paying.{pay_stop}
-use mathlib.Core.Path.{ap}
-use mathlib.Core.Bool.{not}
 use Rattle.hours.proofs.sheet.paid.Goals as goal
 
 pub returns-then-not-takes : goal.returns-then-not-takes

@@ -1,4 +1,4 @@
-use Rattle.std.proofs.Common.{◌≡◌, ℕ, ◌+◌, ◌-◌, length, drop, ap, ◌∙◌, arith, rules}
+use Rattle.std.proofs.Common.{◌≡◌, ℕ, ◌+◌, length, drop, ap, ◌∙◌, arith, rules}
 use Rattle.units.specs.Money.{grains_plus}
 use Rattle.hours.specs.Hours.{most_hours, grains_sum}
 use Rattle.hours.proofs.Adding.{plus_most, sum_starts, sum_on, sum_end}

@@ -1,4 +1,4 @@
-use Rattle.std.proofs.Common.{◌≡◌, ◌-◌, length, arith, rules}
+use Rattle.std.proofs.Common.{◌≡◌, length, arith, rules}
 use Rattle.hours.specs.Hours.{most_hours}
 use Rattle.hours.proofs.Adding.{one_most, with_on, with_end_lem}
 use Rattle.hours.proofs.sums.hours_with.Goals as goal

@@ -1,6 +1,5 @@
 use native.Mathlib.Omega.{arith}
 use mathlib.Core.Path.{sym, ◌∙◌}
-use Prim.Native.Nat.{◌-◌}
 use Rattle.book.specs.Book.{record_at}
 use Rattle.pay.proofs.Sums.{total_none, total0_step, total_z_none, total_z_step}
 use Rattle.pay.proofs.Signed.{mag_plus}

@@ -1,6 +1,5 @@
 use native.Mathlib.Omega.{arith}
 use mathlib.Core.Path.{◌≡◌, sym, ◌∙◌}
-use Prim.Native.Nat.{◌-◌}
 use Rattle.book.specs.Book.{record_at}
 use Rattle.score.specs.Scoring.{first_refused}
 use Rattle.score.proofs.First.{first_none, first_more, first_hit}

@@ -2,8 +2,6 @@ use mathlib.Core.Path.{sym, ◌∙◌}
 use mathlib.Core.List.{[]}
 use Rattle.book.specs.Book.{record_at}
 use Rattle.score.proofs.Energy.{idle_turned}
-use mathlib.Core.Path.{ap}
-use mathlib.Core.Bool.{not}
 use Rattle.reckon.proofs.refusing.refusal_of.Goals as goal
 
 pub returns-then-not-is_own_live : goal.returns-then-not-is_own_live

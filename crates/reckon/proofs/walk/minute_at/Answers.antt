@@ -1,7 +1,6 @@
 use native.Mathlib.Omega.{arith}
 use mathlib.Core.Path.{◌≡◌, refl, sym, ◌∙◌}
 use mathlib.Core.List.{[]}
-use Prim.Native.Nat.{◌-◌}
 use lib.ListN.{drop, drop_of_length-le}
 use Rattle.reckon.specs.Reckoning.{minute_at}
 use Rattle.reckon.proofs.Minutes.{left_hit, left_miss}

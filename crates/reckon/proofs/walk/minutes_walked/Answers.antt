@@ -1,6 +1,5 @@
 use native.Mathlib.Omega.{arith}
 use mathlib.Core.Path.{sym}
-use Prim.Native.Nat.{◌-◌}
 use Rattle.pay.proofs.Sums.{total_none, total0_step}
 use Rattle.reckon.specs.Reckoning.{minute_at}
 use Rattle.reckon.specs.Inner.{calls_at}

@@ -1,6 +1,6 @@
 use native.Mathlib.Omega.{arith}
 use mathlib.Core.Path.{refl, sym, ◌∙◌, ap}
-use Prim.Native.Nat.{◌+◌, ◌-◌, ◌≤◌, ◌<◌}
+use Prim.Native.Nat.{◌+◌, ◌≤◌, ◌<◌}
 use lib.ListN.{length, set, length-set, length-take}
 use Rattle.book.specs.Book.{most_keys}
 use Rattle.reckon.proofs.Places.{places_none, places_few, next_place, found_one}

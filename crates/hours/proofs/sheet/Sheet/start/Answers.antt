@@ -2,8 +2,6 @@ use Rattle.std.proofs.Common.{sym, refl, ◌∙◌, arith, w16, Fits, rules}
 use Rattle.hours.specs.declared.HoursFault.TheVariants.{OfMember}
 use Rattle.hours.specs.Hours.{is_fault}
 use Rattle.hours.proofs.Taking.{starts_taken, starts_refused, refused_10, refused_12}
-use mathlib.Core.Path.{ap}
-use mathlib.Core.Bool.{not}
 use Rattle.hours.proofs.sheet.Sheet.start.Goals as goal
 
 pub returns-then-not-is_sound : goal.returns-then-not-is_sound

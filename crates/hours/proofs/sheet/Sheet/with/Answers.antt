@@ -1,8 +1,6 @@
 use Rattle.std.proofs.Common.{sym, ◌∙◌}
 use Rattle.hours.specs.Inner.{ended_line}
 use Rattle.hours.proofs.Taking.{with_refused, with_taken}
-use mathlib.Core.Path.{ap}
-use mathlib.Core.Bool.{not}
 use Rattle.hours.proofs.sheet.Sheet.with.Goals as goal
 
 pub returns-then-not-takes : goal.returns-then-not-takes
