@@ -15,6 +15,7 @@ pub fn is_own_live(member: Member, x: Call) -> bool
     (x.participant == member.number) & (x.state == LIVE)
 }
 
+#[tactic(auto, unfolding(crate::specs::Reckoning::is_window))]
 fn is_window(member: Member, service: u8, x: Call) -> bool
     ensures { result ≡ is_window member service x }
 {
