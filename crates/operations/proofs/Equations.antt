@@ -26,7 +26,7 @@ use Rattle.hours.specs.declared.Hours.{Hours}
 use Rattle.hours.specs.Name.{ramping_name}
 use Rattle.hour_faults.specs.declared.HourWrong.{HourWrong}
 use Rattle.hour_faults.specs.declared.Finder.{Finder}
-use Rattle.hour_faults.specs.HourFaults.{is_sound as hourIsSound}
+use Rattle.hour_faults.specs.HourFaults.{is_sound as hour_is_sound}
 use Rattle.hour_faults.specs.Inner.{finder_is_settled}
 use Rattle.hours_file.specs.Given.{hours_of, ramped_of}
 use Rattle.wish.specs.declared.Wish.{Wish}
@@ -116,8 +116,8 @@ compensation_determined m book series ramped = determined (compensation_of (earn
 pub line_sound_determined : (wrong : Wrong) → OneAnswer (line_is_sound wrong)
 line_sound_determined wrong = determined (line_is_sound wrong)
 
-pub hour_sound_determined : (wrong : HourWrong) → OneAnswer (hourIsSound wrong)
-hour_sound_determined wrong = determined (hourIsSound wrong)
+pub hour_sound_determined : (wrong : HourWrong) → OneAnswer (hour_is_sound wrong)
+hour_sound_determined wrong = determined (hour_is_sound wrong)
 
 pub hour_settled_determined : (f : Finder) → OneAnswer (finder_is_settled f)
 hour_settled_determined f = determined (finder_is_settled f)

@@ -2,7 +2,7 @@
 use mathlib.Core.Path.{◌≡◌, refl, sym, ◌∙◌, ap}
 use mathlib.Core.Bool.{Bool, true, false}
 use mathlib.Core.Logic.{◌⊎◌, inl, inr, ⊎_elim}
-use mathlib.Core.List.{List, []}
+use mathlib.Core.List.{List}
 use mathlib.Core.Option.{Option, none, some}
 use Prim.Native.Nat.{ℕ}
 use native.Mathlib.Decide.{ℕ_discrete}
@@ -21,7 +21,7 @@ use Rattle.pair.specs.Screening.{screen}
 use Rattle.join.specs.Joining.{joined_of}
 use Rattle.lookup.specs.Lookup.{Found}
 use Rattle.lookup.proofs.Lookups.{find_refused, find_stands, find-nothing}
-use Rattle.operations.specs.Finding.{Lying, FindVerdict, books_refused, record_found, nothing_found}
+use Rattle.operations.specs.Finding.{FindVerdict, books_refused, record_found, nothing_found}
 
 -- whether a book's record is a call
 is_call : (o : Option Call) (c : Call) → Dec (o ≡ some c)
