@@ -1,3 +1,4 @@
+use native.Mathlib.Omega.{arith}
 use mathlib.Core.Path.{◌∙◌}
 use Rattle.reckon.proofs.Minutes.{reserve_coal, reserve_gas, reserve_hydro, reserve_other}
 use Rattle.reckon.proofs.minute.reserve_minute.Goals as goal
@@ -20,5 +21,4 @@ returns-in-3 c =
 pub returns-in_default : goal.returns-in_default
 returns-in_default c =
     let a = c.args in
-    let r = c.in_default.in_default-own.rest in
-    reserve_other a.rated.0 a.top.0 a.p.0 a.kind r.0.0.1 r.0.1 r.1
+    reserve_other a.rated.0 a.top.0 a.p.0 a.kind (λ e. omega arith) (λ e. omega arith) (λ e. omega arith)

@@ -24,7 +24,6 @@ returns-in-2 c =
 
 pub returns-in_default : goal.returns-in_default
 returns-in_default c =
-    let r = c.in_default.in_default-own.rest in
     let e = c.live_pay-grains.ensures in
     let h = sym c.is_by_energy.ensures ∙ c.if-is_by_energy.false in
-    rated_turned c.args.member c.args.x c.requires.x_value_2 h c.args.series.now r.0.1 r.1 _ e.0 e.1
+    rated_turned c.args.member c.args.x c.requires.x_value_2 h c.args.series.now (λ e. omega arith) (λ e. omega arith) _ e.0 e.1
