@@ -1,5 +1,5 @@
 -- What the cells of a line say that ends here, and what is wrong with them. Assumes nothing.
-use Rattle.std.proofs.Common.{◌≡◌, ℕ, suc, ◌+◌, ◌<◌, ◌≤◌, true, false, cond, ◌&&◌, eqb, leb, List, [], ◌∷◌, ◌++◌, length, get_or, take, set, sym, refl, ap, ◌∙◌, add-one, arith, length-append, length-take, take_all, get_or-take, take-suc-set, eq-eqb, ne_eqb}
+use Rattle.std.proofs.Common.{◌≡◌, ℕ, ◌+◌, ◌<◌, ◌≤◌, true, false, ◌&&◌, leb, List, [], ◌∷◌, ◌++◌, length, get_or, take, set, sym, ap, ◌∙◌, add-one, arith, length-append, length-take, take_all, get_or-take, take-suc-set, eq-eqb, ne_eqb}
 use lib.Seq.{take-append-le}
 use Rattle.grid.specs.declared.Grid.{Grid}
 use Rattle.grid.specs.Meaning.{cell_told, row_left}
@@ -8,7 +8,7 @@ use Rattle.faults.specs.declared.Table.{Table}
 use Rattle.faults.specs.declared.Table.TheVariants.{Register, Series}
 use Rattle.faults.specs.declared.Wrong.TheVariants.{Blank, Columns}
 use Rattle.faults.specs.declared.Wrong.{Wrong}
-use Rattle.faults.specs.Faults.{or_else, entry_fault, rising_fault, columns_of, cells_fault, line_fault, number_of}
+use Rattle.faults.specs.Faults.{or_else, entry_fault, columns_of, cells_fault, line_fault, number_of}
 use Rattle.faults.specs.Inner.{as_told}
 
 module _ (grid : Grid) (ended : List ℕ) (room : length ended ≡ 8) where

@@ -1,10 +1,10 @@
 -- The first of a series' faults is at the value that scoring refuses with 11, and there is none exactly where every value is within its limit. Assumes nothing.
-use Rattle.std.proofs.Common.{◌≡◌, ℕ, zero, suc, ◌+◌, ◌<◌, ◌≤◌, min, Bool, true, false, cond, ◌&&◌, eqb, ltb, leb, List, [], ◌∷◌, map, length, get_or, take, sym, refl, ap, ◌∙◌, arith, le-ltb, lt-ltb, eq-eqb, ne_eqb, le-leb, leb-false, leb-true}
-use native.Mathlib.Decide.{ℕ_discrete, dec_lt}
+use Rattle.std.proofs.Common.{◌≡◌, ℕ, zero, suc, ◌+◌, ◌<◌, ◌≤◌, min, Bool, true, false, cond, ◌&&◌, ltb, leb, List, [], ◌∷◌, map, length, get_or, take, sym, refl, ap, ◌∙◌, arith, le-ltb, lt-ltb, ne_eqb, le-leb, leb-false, leb-true}
+use native.Mathlib.Decide.{dec_lt}
 use lib.Dec.{leb-zero}
 use borrow.Author.Tests.{lt-leb}
 use Rattle.row.specs.Meaning.{most_columns}
-use Rattle.grid.specs.Grid.{is_blank, cells_of, body_of, rows_of}
+use Rattle.grid.specs.Grid.{is_blank, cells_of, body_of}
 use Rattle.grid.specs.Told.{told, row_in, rows_by}
 use Rattle.grid.specs.Meaning.{row_by}
 use Rattle.grid.proofs.Rows.{numbers_rows}

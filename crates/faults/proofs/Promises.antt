@@ -1,12 +1,11 @@
 -- The first of a register's faults is at the line that reading it refuses, and there is none exactly where it is taken. Assumes nothing.
-use Rattle.std.proofs.Common.{◌≡◌, ℕ, suc, ◌+◌, ◌<◌, ◌≤◌, Bool, true, false, cond, ◌&&◌, eqb, ltb, leb, List, [], ◌∷◌, map, length, get_or, take, sym, refl, ap, ◌∙◌, arith, le-ltb, lt-ltb, eq-eqb, ne_eqb, le-leb, leb-true}
+use Rattle.std.proofs.Common.{◌≡◌, ℕ, suc, ◌+◌, ◌<◌, ◌≤◌, Bool, true, false, cond, ◌&&◌, eqb, ltb, leb, List, [], ◌∷◌, map, length, get_or, take, sym, refl, ap, ◌∙◌, arith, le-ltb, eq-eqb, ne_eqb, leb-true}
 use native.Mathlib.Decide.{ℕ_discrete}
 use lib.Dec.{leb-zero}
 use Rattle.le.proofs.Tests.{holds_or_fails, each, all}
 use Rattle.row.specs.Numbers.{ceiling}
 use Rattle.row.specs.Meaning.{most_columns}
 use Rattle.row.specs.Judging.{first_unsound, judged}
-use Rattle.row.proofs.Texts.{and_false}
 use Rattle.row.proofs.Judging.{lowest_unsound, every_sound}
 use Rattle.grid.specs.Grid.{is_blank, cells_of, body_of}
 use Rattle.grid.specs.Told.{none_told, told, row_in, rows_by}

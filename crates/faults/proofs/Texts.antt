@@ -1,5 +1,5 @@
 -- The words where a test decides on them. Assumes nothing.
-use Rattle.std.proofs.Common.{◌≡◌, ℕ, ◌/◌, ◌<◌, ◌≤◌, List, [], ◌∷◌, ◌++◌, refl, le-ltb, lt-ltb, eq-eqb, ne_eqb}
+use Rattle.std.proofs.Common.{◌≡◌, ℕ, ◌/◌, ◌<◌, ◌≤◌, [], ◌++◌, le-ltb, lt-ltb, eq-eqb, ne_eqb}
 use Rattle.row.specs.Numbers.{ceiling}
 use Rattle.render.specs.Decimal.{word, decimal, field}
 use Rattle.faults.specs.Words.{column_name, number_text, cells_text, parted_text, neither_text, lines_text, thousand_text, grouped}

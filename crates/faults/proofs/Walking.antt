@@ -1,8 +1,7 @@
 -- What the end of a line does to the faults that a walk has still to tell. Assumes nothing.
-use Rattle.std.proofs.Common.{◌≡◌, ℕ, zero, suc, ◌+◌, ◌-◌, ◌%◌, ◌^◌, ◌<◌, ◌≤◌, Bool, true, false, cond, List, [], ◌∷◌, ◌++◌, length, get_or, drop, replicate, sym, refl, ap, ◌∙◌, subst, mod-eq_of_lt, arith, drop_of_length-le}
+use Rattle.std.proofs.Common.{◌≡◌, ℕ, suc, ◌+◌, ◌-◌, ◌%◌, ◌^◌, ◌<◌, ◌≤◌, Bool, true, false, List, [], ◌∷◌, ◌++◌, length, drop, replicate, sym, refl, ap, ◌∙◌, mod-eq_of_lt, arith, drop_of_length-le}
 use native.Mathlib.Decide.{dec_lt}
 use Rattle.le.proofs.Tests.{holds_or_fails}
-use Rattle.row.specs.Numbers.{line_feed}
 use Rattle.row.proofs.Left.{next_byte}
 use Rattle.grid.specs.declared.Grid.{Grid}
 use Rattle.grid.specs.declared.Step.{Step}

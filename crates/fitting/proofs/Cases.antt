@@ -1,18 +1,16 @@
 -- A row and a statement's last lines, case by case. Assumes nothing.
-use mathlib.Core.Path.{◌≡◌, refl, sym, ap, ◌∙◌}
-use mathlib.Core.Bool.{Bool, true, false, cond}
-use Prim.Native.Nat.{ℕ, ◌+◌, ◌<◌, ◌≤◌}
-use borrow.Author.Tests.{eq-eqb, ne_eqb, lt-ltb, le-ltb}
+use mathlib.Core.Path.{◌≡◌, sym, ap, ◌∙◌}
+use mathlib.Core.Bool.{Bool, true, false}
+use Prim.Native.Nat.{ℕ, ◌+◌}
+use borrow.Author.Tests.{eq-eqb, ne_eqb}
 use lib.Dec.{eqb}
 use lib.IntN.{ℤ}
 use Rattle.units.specs.declared.Fen.{Fen}
-use Rattle.units.specs.declared.SignedFen.{SignedFen}
 use Rattle.units.specs.Money.{grains_to_fen}
 use Rattle.ceiling.specs.Ceiling.{CeiledPart}
 use Rattle.month.specs.declared.Row.{Row}
 use Rattle.month.specs.declared.Statement.{Statement}
-use Rattle.fitting.specs.declared.Finding.{Finding}
-use Rattle.fitting.specs.declared.Finding.TheVariants.{Fits, NotShared, Compensation, Weight, Share, Uncollected, Given, Amount, Total, User}
+use Rattle.fitting.specs.declared.Finding.TheVariants.{Fits, Compensation, Weight, Share, Uncollected, Given, Amount, Total, User}
 use Rattle.fitting.specs.Fitting.{same_fen, weight_by, status_for, weight_for, own_apart, part_apart, total_apart, user_apart}
 
 module _ (b : Bool) (energy weight : ℕ) where

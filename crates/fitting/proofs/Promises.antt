@@ -1,9 +1,9 @@
 -- What the judge of a statement promises: it takes exactly what sharing gives, and every settled month. Assumes nothing.
-use mathlib.Core.Path.{◌≡◌, refl, sym, ap, ap₂, ◌∙◌}
+use mathlib.Core.Path.{◌≡◌, refl, sym, ap, ◌∙◌}
 use mathlib.Core.Bool.{Bool}
 use mathlib.Core.List.{List, [], ◌∷◌}
 use mathlib.Core.Logic.{◌↔◌}
-use Prim.Native.Nat.{ℕ, zero, suc, ◌-◌, ◌≤◌, ◌<◌}
+use Prim.Native.Nat.{ℕ, suc, ◌-◌, ◌<◌}
 use native.Mathlib.Omega.{arith}
 use lib.ListN.{length, take, drop, get_or, replicate, length-map}
 use lib.Seq.{take_at, get_or-take}
@@ -12,15 +12,15 @@ use Rattle.units.specs.Money.{grains_to_fen}
 use Rattle.share.specs.declared.Line.{Line}
 use Rattle.share.specs.Sharing.{below, sharing}
 use Rattle.ceiling.specs.declared.LimitedLine.{LimitedLine}
-use Rattle.ceiling.specs.Ceiling.{CeiledPart, plain_lines, ceiling}
+use Rattle.ceiling.specs.Ceiling.{CeiledPart, ceiling}
 use Rattle.ceiling.proofs.Outcomes.{taken_list}
 use Rattle.month.specs.declared.Fault.TheVariants.{NoFault}
 use Rattle.month.specs.declared.Ramped.{Ramped}
 use Rattle.month.specs.declared.Row.{Row}
 use Rattle.month.specs.declared.Statement.{Statement}
 use Rattle.month.specs.Settling.{MonthGiven, blank_row, filled_rows, row_of, rows_of, no_part, no_ramping, settling}
-use Rattle.month.specs.Outcomes.{limited_in, lines_in, grains_in, shared_in, statement_of}
-use Rattle.month.proofs.Accepted.{rows_settled, length_rows, length_in, length_limited, passed}
+use Rattle.month.specs.Outcomes.{limited_in, lines_in, grains_in, shared_in}
+use Rattle.month.proofs.Accepted.{rows_settled, length_rows, length_limited, passed}
 use Rattle.month.proofs.Promises.{compensation_is, line_count}
 use Rattle.fitting.specs.declared.Finding.{Finding}
 use Rattle.fitting.specs.declared.Finding.TheVariants.{Fits}

@@ -9,7 +9,7 @@ use lib.ListN.{length, take, length-map}
 use lib.Seq.{length-take-le, take_all}
 use Rattle.share.specs.declared.Line.{Line}
 use Rattle.share.specs.declared.Shared.{Shared}
-use Rattle.share.specs.Sharing.{Part, SharingOutcome, sharing}
+use Rattle.share.specs.Sharing.{SharingOutcome, sharing}
 use Rattle.share.specs.Forms.{fill_in, clear, cleared, array_of, shared_array}
 use Rattle.share.proofs.Counted.{counted_few}
 use Rattle.ceiling.specs.declared.LimitedLine.{LimitedLine}
@@ -24,7 +24,7 @@ use Rattle.month.specs.declared.Row.{Row}
 use Rattle.month.specs.declared.Statement.{Statement}
 use Rattle.month.proofs.Settled.{take_map}
 use Rattle.fitting.specs.declared.Finding.{Finding}
-use Rattle.fitting.specs.declared.Finding.TheVariants.{Fits, NotShared}
+use Rattle.fitting.specs.declared.Finding.TheVariants.{NotShared}
 use Rattle.fitting.specs.Fitting.{is_fits, or_else, first_own, own_line, own_lines, own_limits, first_part_of, total_apart, user_apart, by_ceiling, by_sharing, is_below, finding_in}
 use Rattle.fitting.specs.Inner.{got_of}
 use Rattle.fitting.proofs.Findings.{or_fits, or_not}

@@ -1,5 +1,5 @@
 -- A statement that sharing with some limits gives. Assumes nothing.
-use Rattle.std.specs.Prelude.{◌≡◌, List, [], ◌∷◌, map, ℕ, ◌≤◌, length, take}
+use Rattle.std.specs.Prelude.{◌≡◌, List, [], ◌∷◌, map, ◌≤◌, take}
 use Rattle.units.specs.declared.Grains.{Grains}
 use Rattle.units.specs.Money.{grains_to_fen}
 use Rattle.share.specs.Sharing.{below}

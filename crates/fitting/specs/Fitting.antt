@@ -4,7 +4,7 @@ use Rattle.std.specs.Prelude.{Bool, true, false, cond, List, [], ◌∷◌, map,
 use Rattle.std.specs.Int.Signed.{lt_z}
 use Rattle.units.specs.Money.{grains_to_fen}
 use Rattle.share.specs.declared.Line.{Line}
-use Rattle.share.specs.Sharing.{factor_of, weight_of, Part, SharingOutcome, sharing}
+use Rattle.share.specs.Sharing.{factor_of, Part, SharingOutcome, sharing}
 use Rattle.ceiling.specs.declared.Limit.{Limit}
 use Rattle.ceiling.specs.declared.LimitedLine.{LimitedLine}
 use Rattle.ceiling.specs.Ceiling.{paid, CeiledPart, CeilingOutcome, ceiling}

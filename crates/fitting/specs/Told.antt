@@ -1,8 +1,8 @@
 -- What does not fit, in words. Assumes nothing.
-use Rattle.std.specs.Prelude.{List, [], ◌++◌, ℕ, ◌+◌, ◌-◌, ◌*◌, ◌^◌, min, ℤ}
+use Rattle.std.specs.Prelude.{List, [], ◌++◌, ℕ, ◌+◌, ◌-◌, ◌*◌, ◌^◌, min}
 use Rattle.render.specs.Decimal.{word, decimal}
 use Rattle.render.specs.Room.{most_decimal}
-use Rattle.render.specs.Yuan.{yuan, signed_yuan, most_yuan, most_signed_yuan}
+use Rattle.render.specs.Yuan.{yuan, signed_yuan, most_signed_yuan}
 use Rattle.fitting.specs.declared.Finding.{Finding}
 use Rattle.fitting.specs.declared.Finding.TheVariants.{Fits, NotShared, Compensation, Weight, Share, Uncollected, Given, Amount, Total, User}
 

@@ -2,22 +2,18 @@
 use mathlib.Core.Path.{◌≡◌, refl, sym, ◌∙◌, ap}
 use mathlib.Core.Bool.{Bool}
 use mathlib.Core.List.{List, [], ◌∷◌}
-use Prim.Native.Nat.{ℕ, zero, suc, ◌*◌, ◌^◌, ◌≤◌, ◌<◌}
-use native.Mathlib.Nat.{mul-le-mul}
+use Prim.Native.Nat.{ℕ, zero, suc, ◌^◌, ◌≤◌, ◌<◌}
 use native.Mathlib.Omega.{arith}
-use lib.IntN.{ℤ, pos, nat_abs}
+use lib.IntN.{nat_abs}
 use lib.ListN.{length, get_or}
-use mir.Syntax.{w64}
-use mir.Val.{SFits}
 use Rattle.units.specs.declared.Grains.{Grains}
-use Rattle.units.specs.Money.{most_grains, grains_plus}
-use Rattle.book.specs.declared.Header.{Header}
+use Rattle.units.specs.Money.{grains_plus}
 use Rattle.book.specs.Book.{header_at, count_at}
 use Rattle.book.specs.Check.{accepted, check}
 use Rattle.book.proofs.Exact.{accepted_tests, accepted_few}
 use Rattle.book.proofs.Heads.{headed_is}
 use Rattle.share.specs.declared.Line.{Line}
-use Rattle.share.specs.Sharing.{weight_of, below, gap, sharing, most_number, most_energy, most_compensation, most_assessment, most_part}
+use Rattle.share.specs.Sharing.{below, gap, sharing, most_number, most_energy, most_compensation, most_assessment, most_part}
 use Rattle.share.specs.Forms.{blank_line}
 use Rattle.share.specs.Verdict.{SoundLine, number_before, AllSound}
 use Rattle.share.proofs.Signs.{small_fits}

@@ -1,8 +1,8 @@
 -- The lines of a statement, read from a place of a text on. Assumes nothing.
 use mathlib.Core.Path.{◌≡◌, refl, sym, ◌∙◌, ap}
 use mathlib.Core.Bool.{Bool, true, false}
-use mathlib.Core.List.{List, [], ◌∷◌, ◌++◌, append_assoc}
-use Prim.Native.Nat.{ℕ, suc, ◌+◌, ◌-◌, ◌^◌, ◌≤◌, ◌<◌}
+use mathlib.Core.List.{List, ◌++◌, append_assoc}
+use Prim.Native.Nat.{ℕ, ◌+◌, ◌^◌, ◌≤◌, ◌<◌}
 use native.Mathlib.Omega.{arith}
 use lib.IntN.{ℤ}
 use lib.ListN.{length, take, drop}
@@ -11,7 +11,7 @@ use mir.Syntax.{w64}
 use mir.Val.{SFits, to_z, of_z}
 use Rattle.book.specs.declared.Header.{Header}
 use Rattle.month.specs.declared.Row.{Row}
-use Rattle.render.specs.Decimal.{word, decimal, signed_decimal, field, signed_field}
+use Rattle.render.specs.Decimal.{word, signed_decimal, field, signed_field}
 use Rattle.posted.specs.declared.taken.Number.{Number}
 use Rattle.posted.specs.declared.taken.SignedNumber.{SignedNumber}
 use Rattle.render.specs.Inner.{Puts}
@@ -22,7 +22,7 @@ use Rattle.posted.specs.declared.line.Carried.{Carried}
 use Rattle.posted.specs.declared.line.Got.{Got}
 use Rattle.posted.specs.Posted.{head_text, earned_text, carried_text, got_text, row_text}
 use Rattle.posted.specs.Reading.{HeadFits, RowFits, BeginsHead, BeginsRow, head_line, row_line}
-use Rattle.posted.specs.Inner.{starts_digit, Behind, FieldIs, SignedFieldIs, Begins, EarnedSame, CarriedSame, GotSame, EarnedIs, CarriedIs, GotIs}
+use Rattle.posted.specs.Inner.{starts_digit, Behind, FieldIs, SignedFieldIs, Begins, EarnedIs, CarriedIs, GotIs}
 use Rattle.posted.specs.Inner.{HeadIs, RowIs, SumIs, sum_text, HeadAt, RowAt, SumAt}
 use Rattle.posted.proofs.Signing.{through}
 

@@ -1,7 +1,7 @@
 -- What is written reads back, and nothing else reads whole. Assumes nothing.
 use mathlib.Core.Path.{◌≡◌, refl, sym, ◌∙◌, ap}
-use mathlib.Core.List.{List, [], ◌∷◌, ◌++◌, append_assoc}
-use Prim.Native.Nat.{ℕ, ◌+◌, ◌-◌, ◌≤◌, ◌<◌}
+use mathlib.Core.List.{List, ◌++◌, append_assoc}
+use Prim.Native.Nat.{ℕ, ◌+◌, ◌-◌, ◌≤◌}
 use native.Mathlib.Omega.{arith}
 use lib.IntN.{ℤ}
 use lib.ListN.{length, take, replicate, length-append, length-map, length-replicate}
@@ -21,10 +21,9 @@ use Rattle.month.proofs.Accepted.{rows_settled, length_rows, length_limited, len
 use Rattle.render.specs.Room.{Renders}
 use Rattle.render.proofs.Printed.{front_is}
 use Rattle.posted.specs.declared.Posted.{Posted}
-use Rattle.posted.specs.declared.Reading.{Reading}
 use Rattle.posted.specs.declared.Reading.TheVariants.{Whole, BadLine}
 use Rattle.posted.specs.Posted.{head_text, rows_text, total_text, user_text, is_settled, posted_text, most_posted}
-use Rattle.posted.specs.Reading.{HeadFits, RowsFit, Settled, Taken, statement_with, read_whole, bad_line, ReadPosted, no_head, no_line, no_user_lem, no_end, whole}
+use Rattle.posted.specs.Reading.{HeadFits, RowsFit, Settled, statement_with, read_whole, bad_line, ReadPosted, no_head, no_line, no_user_lem, no_end, whole}
 use Rattle.posted.proofs.Posting.{settled_text}
 use Rattle.posted.proofs.Fits.{HoursCounted, few_entries, month_head, month_rows, month_gap, month_user}
 use Rattle.posted.proofs.Determined.{posted_determined}

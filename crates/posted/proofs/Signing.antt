@@ -1,8 +1,8 @@
 -- Signed numbers at the front of a text. Assumes nothing.
-use mathlib.Core.Path.{◌≡◌, refl, sym, ◌∙◌, ap}
-use mathlib.Core.Bool.{Bool, true, false}
-use mathlib.Core.List.{List, [], ◌∷◌, ◌++◌, append_assoc}
-use Prim.Native.Nat.{ℕ, suc, ◌+◌, ◌-◌, ◌^◌, ◌≤◌, ◌<◌}
+use mathlib.Core.Path.{◌≡◌, sym, ◌∙◌, ap}
+use mathlib.Core.Bool.{true, false}
+use mathlib.Core.List.{List, ◌++◌, append_assoc}
+use Prim.Native.Nat.{ℕ, suc, ◌-◌, ◌^◌, ◌≤◌, ◌<◌}
 use native.Mathlib.Omega.{arith}
 use lib.IntN.{ℤ, pos, negsuc}
 use lib.Dec.{eqb}
@@ -11,7 +11,7 @@ use lib.Seq.{drop_at, drop-cons}
 use mir.Syntax.{w64}
 use mir.Val.{SFits, to_z, of_z}
 use mir.ValLaws.{to_z-of_z}
-use Rattle.render.specs.Decimal.{word, decimal, signed_decimal}
+use Rattle.render.specs.Decimal.{decimal, signed_decimal}
 use Rattle.posted.specs.declared.taken.Number.{Number}
 use Rattle.posted.specs.declared.taken.SignedNumber.{SignedNumber}
 use Rattle.posted.specs.Inner.{worth, behind_digits, starts_digit, starts_minus, Behind, NumberIs, SignedIs, SignedFieldIs}

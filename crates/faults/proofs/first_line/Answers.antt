@@ -1,4 +1,4 @@
-use Rattle.std.proofs.Common.{◌-◌, sym, ◌∙◌, arith}
+use Rattle.std.proofs.Common.{sym, ◌∙◌, arith}
 use Rattle.faults.proofs.Head.{by_feed, by_digit, by_end}
 use Rattle.faults.proofs.first_line.Goals as goal
 

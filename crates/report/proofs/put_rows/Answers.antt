@@ -1,5 +1,4 @@
 use mathlib.Core.Path.{◌∙◌}
-use Prim.Native.Nat.{◌-◌}
 use native.Mathlib.Omega.{arith}
 use Rattle.month.specs.Settling.{blank_row}
 use Rattle.report.proofs.Rows.{rows_none, rows_more}

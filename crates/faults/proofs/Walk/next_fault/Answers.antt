@@ -1,4 +1,4 @@
-use Rattle.std.proofs.Common.{◌-◌, sym, ◌∙◌}
+use Rattle.std.proofs.Common.{sym, ◌∙◌}
 use Rattle.faults.proofs.Walking.{found_first, found_rest}
 use Rattle.faults.proofs.Walk.next_fault.Goals as goal
 

@@ -1,5 +1,4 @@
 use borrow.Author.Tests.{not-true, not-false}
-use Prim.Native.Nat.{◌-◌}
 use native.Mathlib.Omega.{arith}
 use Rattle.posted.proofs.Rows.{read_start, read_more, read_ends}
 use Rattle.posted.proofs.line.rows_at.Goals as goal

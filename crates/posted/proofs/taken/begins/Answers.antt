@@ -1,4 +1,3 @@
-use Prim.Native.Nat.{◌-◌}
 use native.Mathlib.Omega.{arith}
 use Rattle.posted.proofs.Words.{too_short}
 use Rattle.posted.proofs.taken.begins.Goals as goal

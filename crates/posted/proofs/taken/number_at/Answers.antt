@@ -1,5 +1,4 @@
 use mathlib.Core.Path.{sym, ◌∙◌}
-use Prim.Native.Nat.{◌-◌}
 use native.Mathlib.Omega.{arith}
 use Rattle.posted.proofs.Taking.{left_step, left_other, left_ends}
 use Rattle.posted.proofs.taken.number_at.Goals as goal

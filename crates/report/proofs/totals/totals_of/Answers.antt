@@ -1,4 +1,3 @@
-use Prim.Native.Nat.{◌-◌}
 use native.Mathlib.Omega.{arith}
 use Rattle.month.specs.Settling.{blank_row}
 use Rattle.report.proofs.Rows.{totals_none, totals_more}
