@@ -33,7 +33,7 @@ pub enum Command {
 // How many commands there are, and how many of them `desk help` lists.
 const COMMANDS: usize = 20;
 
-const LISTED: usize = 18;
+const LISTED: usize = 15;
 
 // No usage is longer.
 const ROOM: usize = 80;
@@ -86,24 +86,24 @@ fn command_at(k: usize) -> Command {
     match k {
         0 => Command::Check,
         1 => Command::Show,
-        2 => Command::Calls,
-        3 => Command::New,
-        4 => Command::Enter,
-        5 => Command::Revise,
-        6 => Command::Withdraw,
-        7 => Command::Cut,
-        8 => Command::Join,
-        9 => Command::Tabs,
-        10 => Command::Find,
-        11 => Command::Score,
-        12 => Command::Reckon,
-        13 => Command::Ramp,
-        14 => Command::Month,
-        15 => Command::Year,
-        16 => Command::Drawer,
-        17 => Command::Explain,
-        18 => Command::Help,
-        19 => Command::Version,
+        2 => Command::New,
+        3 => Command::Enter,
+        4 => Command::Revise,
+        5 => Command::Withdraw,
+        6 => Command::Join,
+        7 => Command::Find,
+        8 => Command::Score,
+        9 => Command::Reckon,
+        10 => Command::Ramp,
+        11 => Command::Month,
+        12 => Command::Year,
+        13 => Command::Drawer,
+        14 => Command::Explain,
+        15 => Command::Help,
+        16 => Command::Version,
+        17 => Command::Calls,
+        18 => Command::Cut,
+        19 => Command::Tabs,
         _ => Command::Unknown,
     }
 }
