@@ -1,12 +1,12 @@
 -- The text that a settled month is written as is taken with the month's own numbers. Assumes nothing.
-use mathlib.Core.Path.{◌≡◌, refl, sym, ap, ap₂, ◌∙◌}
-use mathlib.Core.Bool.{Bool, true, false}
+use mathlib.Core.Path.{◌≡◌, refl, sym, ap, ◌∙◌}
+use mathlib.Core.Bool.{true}
 use mathlib.Core.List.{List, [], ◌∷◌, ◌++◌, map}
 use Prim.Native.Nat.{ℕ, zero, suc, ◌+◌, ◌-◌, ◌≤◌, ◌<◌}
 use native.Mathlib.Omega.{arith}
 use borrow.Author.Tests.{lt-ltb, le-leb, eq-eqb}
 use lib.Dec.{ltb, leb}
-use lib.IntN.{ℤ, pos, nat_abs, ◌+ℤ◌, +ℤ_idl}
+use lib.IntN.{ℤ, nat_abs, ◌+ℤ◌, +ℤ_idl}
 use lib.ListN.{length, get_or, take, replicate}
 use Rattle.le.proofs.Tests.{all}
 use Rattle.units.specs.Money.{grains_to_fen}
@@ -14,11 +14,10 @@ use Rattle.book.specs.Book.{most_keys, header_at, count_at}
 use Rattle.book.specs.Check.{accepted, check, header_is_sound}
 use Rattle.book.proofs.Exact.{accepted_tests, accepted_few}
 use Rattle.book.proofs.Heads.{headed_is}
-use Rattle.share.specs.Sharing.{most_status, most_compensation, most_part}
+use Rattle.share.specs.Sharing.{most_compensation, most_part}
 use Rattle.share.proofs.Promises as S
 use Rattle.month.specs.declared.Fault.TheVariants.{NoFault}
 use Rattle.month.specs.declared.Row.{Row}
-use Rattle.month.specs.declared.Statement.{Statement}
 use Rattle.month.specs.Settling.{MonthGiven, blank_row, filled_rows, settling}
 use Rattle.month.specs.Outcomes.{ramped_of_line, lines_in, grains_in, shared_in}
 use Rattle.month.proofs.Accepted.{rows_settled, length_rows, length_in, passed}
@@ -29,7 +28,7 @@ use Rattle.posted.specs.Reading.{ReadPosted}
 use Rattle.posted.proofs.Fits.{RowWithin, row_before, few_entries, month_within, told_row, month_gap, month_user}
 use Rattle.posted.proofs.Promises.{month_front, month_filled, month_settled}
 use Rattle.year.specs.declared.Year.{Year}
-use Rattle.year.specs.Year.{most_statements, is_within, lines_in as lines_of, sumℤ, amounts_of, adds_to_zero, statement_is_sound, year_in, last_month, year_of}
+use Rattle.year.specs.Year.{most_statements, lines_in as lines_of, sumℤ, amounts_of, adds_to_zero, statement_is_sound, year_in, last_month, year_of}
 use Rattle.year.specs.Verdict.{GoesOn}
 use Rattle.year.proofs.Lines.{yes_within}
 use Rattle.year.proofs.Statements.{statement_fits}

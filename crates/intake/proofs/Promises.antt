@@ -5,8 +5,8 @@ use mathlib.Core.List.{List, [], ◌∷◌, ◌++◌}
 use mathlib.Core.Logic.{◌↔◌}
 use Prim.Native.Nat.{ℕ, ◌+◌}
 use native.Mathlib.Omega.{arith}
-use borrow.Author.Tests.{eq-eqb, eqb-true, le-ltb}
-use lib.Dec.{eqb, ltb}
+use borrow.Author.Tests.{eq-eqb, eqb-true}
+use lib.Dec.{eqb}
 use lib.ListN.{length, length-append}
 use Rattle.le.proofs.Tests.{each, all}
 use Rattle.month.specs.declared.Statement.{Statement}
@@ -19,7 +19,7 @@ use Rattle.posted.proofs.Promises.{posted_back, posted_only}
 use Rattle.posted.proofs.Determined.{posted_determined}
 use Rattle.year.specs.declared.MonthStatement.{MonthStatement}
 use Rattle.year.specs.declared.Year.{Year}
-use Rattle.year.specs.Year.{most_statements, year_in, last_month, statement_is_sound, goes_on, first_bad_statement, year_of}
+use Rattle.year.specs.Year.{goes_on, first_bad_statement, year_of}
 use Rattle.year.specs.Verdict.{GoesOn, blank_statement}
 use Rattle.year.proofs.Statements.{goes_on_lem, on_goes}
 use Rattle.year.proofs.Taking.{bad_behind, year_with_lem}

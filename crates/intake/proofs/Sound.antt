@@ -5,10 +5,9 @@ use mathlib.Core.List.{List, [], ◌∷◌, map}
 use Prim.Native.Nat.{ℕ, zero, suc, ◌+◌, ◌≤◌, ◌<◌}
 use native.Mathlib.Decide.{dec_lt}
 use native.Mathlib.Omega.{arith}
-use borrow.Author.Tests.{eqb-true, lt-ltb, le-ltb}
+use borrow.Author.Tests.{eqb-true}
 use lib.Dec.{ltb, leb}
 use lib.ListN.{length, take}
-use lib.Seq.{length-take-le}
 use Rattle.le.proofs.Tests.{each, all}
 use Rattle.units.specs.Money.{grains_to_fen}
 use Rattle.units.specs.Month.{months_per_year}

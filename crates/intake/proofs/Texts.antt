@@ -1,18 +1,16 @@
 -- A text that was read: its statement has no more than 64 rows, and what it stands for. Assumes nothing.
-use mathlib.Core.Path.{◌≡◌, refl, sym, ap, ◌∙◌}
+use mathlib.Core.Path.{◌≡◌, ap, ◌∙◌}
 use mathlib.Core.Bool.{true, false}
-use mathlib.Core.List.{List, []}
+use mathlib.Core.List.{List}
 use Prim.Native.Nat.{ℕ, ◌≤◌}
 use native.Mathlib.Omega.{arith}
 use borrow.Author.Tests.{eq-eqb, ne_eqb}
-use lib.ListN.{length}
 use Rattle.register.specs.Register.{most_entries}
 use Rattle.year.specs.declared.MonthStatement.{MonthStatement}
 use Rattle.year.specs.declared.Year.{Year}
 use Rattle.year.specs.Verdict.{blank_statement}
 use Rattle.year.specs.Every.{year_with}
 use Rattle.posted.specs.declared.Posted.{Posted}
-use Rattle.posted.specs.declared.Reading.TheVariants.{Whole, BadLine}
 use Rattle.posted.specs.Reading.{statement_with, read_whole, bad_line, ReadPosted, no_head, no_line, no_user_lem, no_end, whole}
 use Rattle.intake.specs.declared.Intake.{Intake}
 use Rattle.intake.specs.Intake.{area_after, is_taken, as_statement, month_statement, intake_with}

@@ -9,7 +9,6 @@ use Rattle.posted.specs.declared.Posted.{Posted}
 use Rattle.posted.specs.declared.Reading.TheVariants.{Whole, BadLine}
 use Rattle.year.specs.Year.{lines_in, adds_to_zero}
 use Rattle.intake.specs.declared.Intake.{Intake}
-use Rattle.intake.specs.declared.Reason.{Reason}
 use Rattle.intake.specs.declared.Reason.TheVariants.{Nothing, NotLine, Beyond, OtherArea, OtherYear, NotLater, NotZero}
 use Rattle.intake.specs.Limits.{line_beyond, statement_is_within}
 use Rattle.intake.specs.Intake.{month_statement}

@@ -1,5 +1,5 @@
 -- Why a text is not taken, for people. Assumes nothing.
-use Rattle.std.specs.Prelude.{◌≡◌, Bool, cond, not, ◌&&◌, List, ℕ, eqb, leb}
+use Rattle.std.specs.Prelude.{◌≡◌, cond, not, ◌&&◌, List, ℕ, eqb, leb}
 use Rattle.month.specs.declared.Statement.{Statement}
 use Rattle.posted.specs.declared.Posted.{Posted}
 use Rattle.posted.specs.declared.Reading.{Reading}
