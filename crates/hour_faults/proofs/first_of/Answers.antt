@@ -1,4 +1,4 @@
-use Rattle.std.proofs.Common.{◌-◌, sym, ◌∙◌, arith}
+use Rattle.std.proofs.Common.{sym, ◌∙◌, arith}
 use Rattle.hour_faults.proofs.First.{first_known, at_feed, at_digit, at_end}
 use Rattle.hour_faults.proofs.first_of.Goals as goal
 

@@ -1,4 +1,4 @@
-use Rattle.std.proofs.Common.{◌-◌, arith}
+use Rattle.std.proofs.Common.{arith}
 use Rattle.hour_faults.specs.declared.Finder.{Finder}
 use Rattle.hour_faults.proofs.Streaming.{feed_line, feed_all, found_fed}
 use Rattle.hour_faults.proofs.Finder.feed.Goals as goal

@@ -1,5 +1,4 @@
 use Rattle.std.proofs.Common.{◌≡◌, length, sym, refl, ◌∙◌, rules}
-use borrow.Author.Tests.{not-true, not-false}
 use Rattle.le.proofs.Tests.{holds_or_fails}
 use Rattle.hour_faults.proofs.Streaming.{found_settled, found_spoilt, unknown_line, known_fault, by_line}
 use Rattle.hour_faults.proofs.Finder.is_settled.Goals as goal

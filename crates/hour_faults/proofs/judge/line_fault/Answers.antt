@@ -1,5 +1,4 @@
 use Rattle.std.proofs.Common.{sym, ap, ◌∙◌}
-use borrow.Author.Tests.{not-false}
 use Rattle.hour_faults.proofs.Judging.{low_standard}
 use Rattle.hour_faults.specs.HourFaults.{is_sound}
 use Rattle.hour_faults.proofs.judge.line_fault.Goals as goal

@@ -1,5 +1,4 @@
 use Rattle.std.proofs.Common.{◌≡◌, ◌≤◌, length, sym, ap, ◌∙◌, arith, rules}
-use borrow.Author.Tests.{not-true, not-false}
 use Rattle.hour_faults.proofs.Judging.{judged_found, judged_bad, judged_sound}
 use Rattle.hour_faults.specs.HourFaults.{is_sound}
 use Rattle.hour_faults.specs.Inner.{judge_refusing}

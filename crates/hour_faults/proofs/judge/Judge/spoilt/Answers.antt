@@ -1,5 +1,4 @@
 use Rattle.std.proofs.Common.{sym, ◌∙◌}
-use borrow.Author.Tests.{not-true, not-false}
 use Rattle.hour_faults.proofs.Judging.{spoilt_found, spoilt_now}
 use Rattle.hour_faults.proofs.judge.Judge.spoilt.Goals as goal
 
