@@ -1,17 +1,14 @@
 -- The list's `ok`: a month would be settled exactly where nothing is listed that is in its way. Assumes nothing.
-use Rattle.std.proofs.Common.{◌≡◌, ℕ, zero, suc, ◌<◌, ◌≤◌, Bool, true, false, ◌↔◌, List, [], ◌∷◌, length, get_or, take, sym, refl, ap, ◌∙◌, true≢false, arith, length-take}
-use Rattle.book.specs.Book.{count_at}
-use Rattle.book.specs.Check.{accepted, check}
+use Rattle.std.proofs.Common.{◌≡◌, ℕ, zero, suc, ◌<◌, ◌≤◌, true, false, ◌↔◌, List, [], ◌∷◌, length, get_or, sym, refl, ap, ◌∙◌, true≢false, arith}
 use Rattle.pay.specs.Member.{MemberWithin}
 use Rattle.register.specs.declared.Entry.{Entry}
 use Rattle.register.specs.Register.{blank_entry}
 use Rattle.drawer.specs.Refused.{NoneListed}
 use Rattle.drawer.proofs.Scored.{accepted_exactly}
 use Rattle.month.specs.declared.Fault.{Fault}
-use Rattle.month.specs.declared.Fault.TheVariants.{NoFault, InPart, InRegister, InBook, Unlisted, OfMember, OfRamping, InSharing}
 use Rattle.month.specs.declared.Statement.{Statement}
 use Rattle.month.specs.Settling.{MonthGiven, month_refused, settling}
-use Rattle.month.specs.Outcomes.{own_series, score_of_line, statement_of, EntryWithin, AllWithin, RegisterAndBook, AllListed, Scored, AllScored, MonthOutcome}
+use Rattle.month.specs.Outcomes.{own_series, score_of_line, statement_of, AllWithin, RegisterAndBook, AllScored, MonthOutcome}
 use Rattle.month.specs.Outcomes.{bad_part, bad_entry, one_more, bad_book, without_line, bad_member, bad_ramping, not_shared, settled}
 use Rattle.month.proofs.Exact.{outcome_exact}
 use Rattle.closing.specs.Closing.{is_settled, NothingHinders}
