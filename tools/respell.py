@@ -16,8 +16,8 @@ ROOT = sys.argv[1] if len(sys.argv) > 1 else "."
 BY_HAND = {"firstPart": "first_part_of", "secondPart": "second_part_of", "first-part": "first_part", "second-part": "second_part"}
 # a local name of one function's proof, which gives way
 LOCAL = ("kept_of",)
-HEAD = re.compile(r"^((?:(?:unfoldable|abbrev|pub|opaque) )*)(record |data )?([^\s:(){}.,]+)((?: [({][^:]*:.*)?) : ")
-FIELD = re.compile(r"^\s+(?:(?:unfoldable|abbrev|pub|opaque) )*([a-z][\w'-]*(?: [a-z][\w'-]*)*) : ")
+HEAD = re.compile(r"^((?:(?:unfoldable|abbrev|pub|opaque) )*)(record |data )?([^\s:(){}.,]+)((?: [({][^:]*:.*)?) :(?: |$)")
+FIELD = re.compile(r"^\s+(?:(?:unfoldable|abbrev|pub|opaque) )*([a-z][\w'-]*(?: [a-z][\w'-]*)*) :(?: |$)")
 WORD = re.compile(r"(?<![\w.'₀-₉-])[A-Za-z_][\w'₀-₉]*(?:-[\w'₀-₉]+)*")
 ANY = re.compile(r"(?<![\w'₀-₉-])[A-Za-z_][\w'₀-₉]*(?:-[\w'₀-₉]+)*")
 

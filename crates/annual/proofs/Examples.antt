@@ -32,11 +32,11 @@ line_of short whole =
     word "member 7 months " ++ word short ++ word " compensation 0.01 assessment 0.00 share 0.00 amount 0.01 largest 0.01 in " ++ word whole ++ word "\n"
 
 -- THE MONTHS BY THEIR NAMES, each by itself.
-pub each-month :
+pub each_month :
     (line_text 7 (alone_in 1) ≡ line_of "Jan" "January") × (line_text 7 (alone_in 2) ≡ line_of "Feb" "February") × (line_text 7 (alone_in 3) ≡ line_of "Mar" "March")
     × (line_text 7 (alone_in 4) ≡ line_of "Apr" "April") × (line_text 7 (alone_in 5) ≡ line_of "May" "May") × (line_text 7 (alone_in 6) ≡ line_of "Jun" "June")
     × (line_text 7 (alone_in 7) ≡ line_of "Jul" "July") × (line_text 7 (alone_in 8) ≡ line_of "Aug" "August") × (line_text 7 (alone_in 9) ≡ line_of "Sep" "September")
     × (line_text 7 (alone_in 10) ≡ line_of "Oct" "October") × (line_text 7 (alone_in 11) ≡ line_of "Nov" "November") × (line_text 7 (alone_in 12) ≡ line_of "Dec" "December")
 unfolding line_text is_present member_values flag word_shown shown is_number is_sign byte_text next_on next_marked taken_by filled_from yuan signed_yuan two_places decimal decimal_in
     month_word word_at skip months before behind fen_per_thousandth
-each-month = (refl, refl, refl, refl, refl, refl, refl, refl, refl, refl, refl, refl)
+each_month = (refl, refl, refl, refl, refl, refl, refl, refl, refl, refl, refl, refl)

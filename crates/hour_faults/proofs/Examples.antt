@@ -62,7 +62,7 @@ abbrev cells : ℕ → ℕ → ℕ → ℕ → ℕ → ℕ → ℕ → List ℕ
 cells hour start end command delay real standard = hour ∷ start ∷ end ∷ command ∷ delay ∷ real ∷ standard ∷ []
 
 -- how many cells come first, then the cells from the first to the last, each no number or outside its limits
-pub cells-in-turn :
+pub cells_in_turn :
     (row_fault 744 5 60 3000 [] ≡ Blank)
     × (row_fault 744 5 60 3000 (744 ∷ 5000001 ∷ 5000001 ∷ 5000001 ∷ 301 ∷ 1000001 ∷ []) ≡ Columns 6 7)
     × (row_fault 744 5 60 3000 (cells (suc ceiling) 5000001 5000001 5000001 301 1000001 0) ≡ NoNumber 1)
@@ -75,10 +75,10 @@ pub cells-in-turn :
     × (row_fault 744 5 60 3000 (cells 4 100000 109000 100000 60 1000001 0) ≡ Outside 6 1000001 0 1000000)
     × (row_fault 744 5 60 3000 (cells 4 100000 109000 100000 60 300101 0) ≡ Outside 7 0 1 1000000)
 unfolding row_fault cells_fault month_fault column_fault action_fault rising_fault full_fault standard_fault fast_fault move_fault is_sound
-cells-in-turn = (refl, refl, refl, refl, refl, refl, refl, refl, refl, refl, refl)
+cells_in_turn = (refl, refl, refl, refl, refl, refl, refl, refl, refl, refl, refl)
 
 -- then what the cells say together: an earlier hour, one that is full, another standard rate, a real rate too fast, nothing commanded
-pub action-in-turn :
+pub action_in_turn :
     (row_fault 744 5 60 3000 (cells 4 100000 109000 100000 60 300101 3001) ≡ Earlier 4 5)
     × (row_fault 744 4 60 3000 (cells 4 100000 109000 100000 60 300101 3001) ≡ Full 4)
     × (row_fault 744 4 59 3000 (cells 4 100000 109000 100000 60 300101 3001) ≡ OtherStandard 3001 4 3000)
@@ -86,4 +86,4 @@ pub action-in-turn :
     × (row_fault 744 4 59 3001 (cells 4 100000 109000 100000 60 300100 3001) ≡ NoMove 100000)
     × (row_fault 744 4 59 3001 (cells 4 100000 109000 110000 60 300100 3001) ≡ Sound)
 unfolding row_fault cells_fault month_fault column_fault action_fault rising_fault full_fault standard_fault fast_fault move_fault is_sound
-action-in-turn = (refl, refl, refl, refl, refl, refl)
+action_in_turn = (refl, refl, refl, refl, refl, refl)

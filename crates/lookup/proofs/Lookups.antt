@@ -140,12 +140,12 @@ module _ (first second part : Bor (List ℕ)) (participant number : ℕ) (found 
             absurd (⊎_elim (λ l. n.0 (same_call_lem _ c f l ∙ sym (same_call_lem _ c s e))) (λ l. n.1 (same_call_lem _ c g l ∙ sym (same_call_lem _ c s e))) h)
 
     -- nothing is found where the join has no record for the key, or one that lies in neither book
-    pub find-nothing :
+    pub find_nothing :
         ((c : Call) → record_of (key_of participant number) (joined_of first.now second.now) ≡ some c
         → (record_of (key_of participant number) (calls_of first.now) ≡ some c) ⊎ (record_of (key_of participant number) (calls_of second.now) ≡ some c) → ⊥)
         → part.now ≡ []
     unfolding k place
-    find-nothing h = go (ways first.now second.now z participant number)
+    find_nothing h = go (ways first.now second.now z participant number)
       where
         go : Ways first.now second.now z participant number → part.now ≡ []
         go (nowhere s w) = at_place _ w

@@ -38,7 +38,7 @@ use Rattle.join.proofs.Story.{march, stop, entered, withdrawal, entered_within, 
 use Rattle.lookup.specs.declared.Place.{Place}
 use Rattle.lookup.specs.declared.Place.TheVariants.{InSecond}
 use Rattle.lookup.specs.Lookup.{index_from, index_of, stands_at, choose, which, LiesAt, Found}
-use Rattle.lookup.proofs.Lookups.{find_stands, find-nothing, find_refused, find_written}
+use Rattle.lookup.proofs.Lookups.{find_stands, find_nothing, find_refused, find_written}
 
 -- a second plant's record of the stop, live at the same revision and of another length; its book
 rival : Call
@@ -171,14 +171,14 @@ module _ (first second part : Bor (List ℕ)) (p : first.now ≡ plant) (q : sec
   -- a key that neither has gives an empty part
   pub unknown_nowhere : Found first second 3 10 part → part.now ≡ []
   unknown_nowhere f =
-      find-nothing first second part 3 10 f small_first small_second passes
+      find_nothing first second part 3 10 f small_first small_second passes
       (λ c e h. let n : record_of (key_of 3 10) (joined_of first.now second.now) ≡ none = rw (p, q) unknown in let z : ◌≡◌ {A = ℕ} 0 1 = cc in omega arith)
 
 -- of two unequal live records at one revision neither stands, and the part is empty
 pub rivals_nowhere : (first second part : Bor (List ℕ)) → first.now ≡ plant → second.now ≡ rivals → Found first second 3 9 part → part.now ≡ []
 unfolding plant rivals
 rivals_nowhere first second part p q f =
-    find-nothing first second part 3 9 f (rw p are_bytes.0) (rw q are_bytes.2) (rw (p, q) (screened entered rival entered_within rival_within)) neither
+    find_nothing first second part 3 9 f (rw p are_bytes.0) (rw q are_bytes.2) (rw (p, q) (screened entered rival entered_within rival_within)) neither
   where
     struck : record_of (key_of 3 9) (joined_of first.now second.now) ≡ some (call_contested entered)
     struck = rw (p, q) contested_stands

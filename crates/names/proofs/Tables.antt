@@ -65,26 +65,26 @@ month_short (suc (suc (suc (suc (suc (suc (suc (suc (suc (suc (suc (suc (suc n))
 
 -- THE WORDS BY THEIR NUMBERS, each by itself: the services and kinds as the paper numbers them, and the months in their order
 
-pub services-told :
+pub services_told :
     (service_word 1 ≡ word "deep-peak") × (service_word 2 ≡ word "reserve") × (service_word 3 ≡ word "start-stop")
     × (service_word 4 ≡ word "standby") × (service_word 5 ≡ word "black-start") × (service_word 6 ≡ word "agc-availability")
     × (service_word 7 ≡ word "agc-contribution") × (service_word 8 ≡ word "frequency-event") × (service_word 9 ≡ word "avc")
     × (service_word 10 ≡ word "stability-trip")
 unfolding service_word word_at skip services before behind
-services-told = (refl, refl, refl, refl, refl, refl, refl, refl, refl, refl)
+services_told = (refl, refl, refl, refl, refl, refl, refl, refl, refl, refl)
 
-pub kinds-told :
+pub kinds_told :
     (kind_word 1 ≡ word "coal") × (kind_word 2 ≡ word "gas") × (kind_word 3 ≡ word "hydro") × (kind_word 4 ≡ word "wind")
     × (kind_word 5 ≡ word "photovoltaic") × (kind_word 6 ≡ word "solar-thermal") × (kind_word 7 ≡ word "pumped-storage") × (kind_word 8 ≡ word "new-storage")
 unfolding kind_word word_at skip kinds before behind
-kinds-told = (refl, refl, refl, refl, refl, refl, refl, refl)
+kinds_told = (refl, refl, refl, refl, refl, refl, refl, refl)
 
-pub months-told :
+pub months_told :
     (month_word 1 ≡ word "January") × (month_word 2 ≡ word "February") × (month_word 3 ≡ word "March") × (month_word 4 ≡ word "April")
     × (month_word 5 ≡ word "May") × (month_word 6 ≡ word "June") × (month_word 7 ≡ word "July") × (month_word 8 ≡ word "August")
     × (month_word 9 ≡ word "September") × (month_word 10 ≡ word "October") × (month_word 11 ≡ word "November") × (month_word 12 ≡ word "December")
 unfolding month_word word_at skip months before behind
-months-told = (refl, refl, refl, refl, refl, refl, refl, refl, refl, refl, refl, refl)
+months_told = (refl, refl, refl, refl, refl, refl, refl, refl, refl, refl, refl, refl)
 
 -- Read back
 

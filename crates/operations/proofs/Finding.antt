@@ -20,7 +20,7 @@ use Rattle.rule.proofs.Equality.{same_eq, eq_same}
 use Rattle.pair.specs.Screening.{screen}
 use Rattle.join.specs.Joining.{joined_of}
 use Rattle.lookup.specs.Lookup.{Found}
-use Rattle.lookup.proofs.Lookups.{find_refused, find_stands, find-nothing}
+use Rattle.lookup.proofs.Lookups.{find_refused, find_stands, find_nothing}
 use Rattle.operations.specs.Finding.{FindVerdict, books_refused, record_found, nothing_found}
 
 -- whether a book's record is a call
@@ -56,13 +56,13 @@ module _ (first second part : Bor (List ℕ)) (participant number : ℕ) (small_
           let none-lies : (d : Call) → record_of key (joined_of first.now second.now) ≡ some d
           → (record_of key (calls_of first.now) ≡ some d) ⊎ (record_of key (calls_of second.now) ≡ some d) → ⊥ =
           λ d e h. ⊎_elim (λ l. f (l ∙ ap some (is d e))) (λ l. g (l ∙ ap some (is d e))) h in
-          nothing_found z (λ d l. none-lies d l.stands l.lies) (find-nothing first second part participant number found small_first small_second z none-lies)
+          nothing_found z (λ d l. none-lies d l.stands l.lies) (find_nothing first second part participant number found small_first small_second z none-lies)
 
       passed : (screen first.now second.now).number ≡ 0 → (o : Option Call) → record_of key (joined_of first.now second.now) ≡ o
           → FindVerdict first.now second.now participant number part.now
       passed z none s =
           let never : (d : Call) → record_of key (joined_of first.now second.now) ≡ some d → ⊥ = λ d e. let y : ◌≡◌ {A = ℕ} 0 1 = cc in omega arith in
-          nothing_found z (λ d l. never d l.stands) (find-nothing first second part participant number found small_first small_second z (λ d e h. never d e))
+          nothing_found z (λ d l. never d l.stands) (find_nothing first second part participant number found small_first small_second z (λ d e h. never d e))
       passed z (some c) s = some-call z c s (is_call (record_of key (calls_of first.now)) c) (is_call (record_of key (calls_of second.now)) c)
 
       go : Dec ((screen first.now second.now).number ≡ 0) → FindVerdict first.now second.now participant number part.now

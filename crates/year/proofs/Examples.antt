@@ -104,13 +104,13 @@ one_fen_over = refl
 abbrev alone : List YearLine → ℤ → Year
 alone ls user = year_of (statement 5 ls user ∷ [])
 
-pub most-taken :
+pub most_taken :
     ((alone (line 1 0 0 (pos 200000000000) (pos 200000000000) ∷ []) (owed 200000000000)).number ≡ 0)
     × ((alone (line 1 0 0 (owed 200000000000) (owed 200000000000) ∷ []) (pos 200000000000)).number ≡ 0)
 unfolding is_within date_is_sound year_line_is_sound lines_are_sound sumℤ adds_to_zero statement_is_sound year_in last_month goes_on first_bad_statement year_refused year_taken year_of
-most-taken = (refl, refl)
+most_taken = (refl, refl)
 
-pub one-fen-beyond :
+pub one_fen_beyond :
     (alone (line 1 0 0 (pos 200000000001) (pos 0) ∷ []) (pos 0) ≡ year_refused 10 0)
     × (alone (line 1 0 0 (owed 200000000001) (pos 0) ∷ []) (pos 0) ≡ year_refused 10 0)
     × (alone (line 1 0 0 (pos 0) (pos 200000000001) ∷ line 2 0 0 (pos 0) (owed 1) ∷ []) (owed 200000000000) ≡ year_refused 10 0)
@@ -118,7 +118,7 @@ pub one-fen-beyond :
     × (alone (line 1 0 0 (pos 0) (owed 200000000000) ∷ line 2 0 0 (pos 0) (owed 1) ∷ []) (pos 200000000001) ≡ year_refused 10 0)
     × (alone (line 1 0 0 (pos 0) (pos 200000000000) ∷ line 2 0 0 (pos 0) (pos 1) ∷ []) (owed 200000000001) ≡ year_refused 10 0)
 unfolding is_within date_is_sound year_line_is_sound lines_are_sound sumℤ adds_to_zero statement_is_sound year_in last_month goes_on first_bad_statement year_of
-one-fen-beyond = (refl, refl, refl, refl, refl, refl)
+one_fen_beyond = (refl, refl, refl, refl, refl, refl)
 
 -- The promises, of these statements
 
