@@ -112,7 +112,8 @@ module _ (b : List ℕ) (small : IsBytes b) where
     walk (suc left) i e g =
         one (is_record minutes b i) refl (ltb (call_key (record_at b i)) (lowest i)) refl (λ f a. walk left (suc i) (omega arith) (before_more i g f a))
       where
-        one : (u : Bool) → is_record minutes b i ≡ u → (w : Bool) → ltb (call_key (record_at b i)) (lowest i) ≡ w → (Fielded b i → Above b i → (v : Verdict) × Refusal b v) → (v : Verdict) × Refusal b v
+        one : (u : Bool) → is_record minutes b i ≡ u → (w : Bool) → ltb (call_key (record_at b i)) (lowest i) ≡ w → (Fielded b i → Above b i → (v : Verdict) × Refusal b v) → (v : Verdict)
+            × Refusal b v
         one false p w q k = (refused 5 i, no_field i refl t (omega arith) g (refuted (is_record minutes b i) (is_fielded i) p))
         one true p true q k = (refused 6 i, no_rise i refl t (omega arith) g (fielded i p) (λ a. holds_or_fails q (is_above i a)))
         one true p false q k = k (fielded i p) (above i q)

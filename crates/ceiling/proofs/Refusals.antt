@@ -14,7 +14,21 @@ use lib.ListN.{length, get_or, take, length-map}
 use lib.Seq.{length-take-le}
 use Rattle.le.proofs.Tests.{each, all}
 use Rattle.apportion.specs.Apportion.{total}
-use Rattle.share.specs.Sharing.{most_number, most_part, part_place, most_compensation, compensated, generators_gap, all_weights, line_is_sound, parts, SharingOutcome, sharing_refused, sharing_accepted, sharing}
+use Rattle.share.specs.Sharing.{
+  most_number,
+  most_part,
+  part_place,
+  most_compensation,
+  compensated,
+  generators_gap,
+  all_weights,
+  line_is_sound,
+  parts,
+  SharingOutcome,
+  sharing_refused,
+  sharing_accepted,
+  sharing,
+}
 use Rattle.share.specs.Forms.{blank_line}
 use Rattle.share.specs.Verdict.{SoundLine, number_before}
 use Rattle.share.specs.Verdict as plain

@@ -62,7 +62,8 @@ module _ (m : Member) (b series : List ℕ) (day : ℕ) where
     unfolding runs_told
     told_accepted = rw (eq-eqb (reckoning m b series).number 0 z) refl
 
-    pub told_day : (days : ℕ) → days ≡ days_of (header_at b).year (header_at b).month → (leb 1 day && leb day days) ≡ true → runs_told m b series day ≡ runs_from (day_of m b series day) 0 places_per_day 0
+    pub told_day : (days : ℕ) → days ≡ days_of (header_at b).year (header_at b).month → (leb 1 day && leb day days) ≡ true
+        → runs_told m b series day ≡ runs_from (day_of m b series day) 0 places_per_day 0
     unfolding day_runs
     told_day days e h = told_accepted ∙ rw (← e, h) refl
 

@@ -78,7 +78,8 @@ always_why h bs month p covers room few b i c m s = go (record_of (call_key c) (
         let up = (rule_least (header_minutes h) (map calls_of bs) (call_key c) (month_sounds h bs month)).above (calls_of b) (Memᴰ.map calls_of i) in
         rw (has_own h bs month b i c m, sym (joined_stands h bs month p covers room few (call_key c)) ∙ e) at up
 
-    go : (o : Option Call) → record_of (call_key c) (calls_of joined) ≡ o → (r : Call) × (record_of (call_key c) (calls_of joined) ≡ some r) × Reason r c (why_of (record_of (call_key c) (calls_of joined)) c)
+    go : (o : Option Call) → record_of (call_key c) (calls_of joined) ≡ o → (r : Call) × (record_of (call_key c) (calls_of joined) ≡ some r)
+        × Reason r c (why_of (record_of (call_key c) (calls_of joined)) c)
     go none e = absurd (under none e)
     go (some r) e =
         let f = find_in (call_key c) (calls_of joined) r e in

@@ -53,7 +53,8 @@ module _ (m : Member) (b : List ℕ) where
     pub none_accepted : refused_of m b 0 ≡ [] → (scoring m b series).number ≡ 0
     unfolding refused_of in_fen
     none_accepted e =
-        let clear = first_of_all (refusal_at (month_at b) m (record_at b)) (count_at b) (λ k l. passed_number m b k (none_listed (is_refused_at m b) (refused_at m b) (count_at b) 0 e k (omega arith) l)) in
+        let clear = first_of_all (refusal_at (month_at b) m (record_at b)) (count_at b) (λ k l. passed_number m b k
+        (none_listed (is_refused_at m b) (refused_at m b) (count_at b) 0 e k (omega arith) l)) in
         ap (λ (r : Score). r.number) (score_is m b series _ (ready_records m b series ready ∙ records_sum (month_at b) m series (record_at b) (count_at b) clear))
 
     pub accepted_none : (scoring m b series).number ≡ 0 → refused_of m b 0 ≡ []

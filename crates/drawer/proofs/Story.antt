@@ -173,7 +173,8 @@ seven = record { number = 7; kind = coal; rated = record { 0 = 300000 } }
 pub three_told : refused_of seven book 0
     ≡ record { place = 1; number = 12; against = 1 } ∷ record { place = 2; number = 13; against = 1 } ∷ record { place = 3; number = 14; against = 3 } ∷ []
 unfolding
-    book calls call february seven refused_of told_from is_refused_at refused_at first_against against_at first_nonzero refusal_at number_of clash_at clashes overlaps is_once any_below open_to reserve_open
+    book calls call february seven refused_of told_from is_refused_at refused_at first_against against_at first_nonzero refusal_at number_of clash_at clashes overlaps is_once any_below open_to
+    reserve_open
     header_at count_at record_at call_at call_bytes key_bytes time_bytes term_bytes le_at le_bytes book_bytes head_bytes mark_bytes date_bytes count_bytes record_bytes
 three_told = refl
 

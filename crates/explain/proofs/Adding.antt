@@ -62,7 +62,8 @@ module _ (m : Member) (b series : List ℕ) where
   before_grains zero = rw (before_none m b series) (sym (total_none (pay_at m series (record_at b)) 0))
   before_grains (suc n) = go (is_own_live m (record_at b n)) refl (before_grains n)
     where
-      go : (t : Bool) → is_own_live m (record_at b n) ≡ t → parts_grains (before n) ≡ total (pay_at m series (record_at b)) 0 n → parts_grains (before (suc n)) ≡ total (pay_at m series (record_at b)) 0 (suc n)
+      go : (t : Bool) → is_own_live m (record_at b n) ≡ t → parts_grains (before n) ≡ total (pay_at m series (record_at b)) 0 n
+          → parts_grains (before (suc n)) ≡ total (pay_at m series (record_at b)) 0 (suc n)
       go true h ih = omega (arith, one_grains n (rw (pay_own m series (record_at b n) h) (add-zero _)) h, total0_suc (pay_at m series (record_at b)) n)
       go false h ih = rw (before_other m b series n h) (omega (arith, total0_suc (pay_at m series (record_at b)) n, pay_none m series (record_at b n) h))
 

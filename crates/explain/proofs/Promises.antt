@@ -173,7 +173,8 @@ pub refused_as_scored : (m : Member) (b series : List ℕ) (hours : List Grains)
 unfolding explaining explain_earned scoring in_fen
 refused_as_scored m b series hours = go (grains_earned m b series)
   where
-    go : (e : Earned) → ((explain_earned m b series (record { 0 = hours_sum hours }) e).number ≡ (in_fen e).number) × ((explain_earned m b series (record { 0 = hours_sum hours }) e).place ≡ (in_fen e).place)
+    go : (e : Earned) → ((explain_earned m b series (record { 0 = hours_sum hours }) e).number ≡ (in_fen e).number)
+        × ((explain_earned m b series (record { 0 = hours_sum hours }) e).place ≡ (in_fen e).place)
     go (Accepted g) = (refl, refl)
     go (Refused v p) = (refl, refl)
 

@@ -1,5 +1,35 @@
 -- What the cells of a line say that ends here, and what is wrong with them. Assumes nothing.
-use Rattle.std.proofs.Common.{◌≡◌, ℕ, ◌+◌, ◌<◌, ◌≤◌, true, false, ◌&&◌, leb, List, [], ◌∷◌, ◌++◌, length, get_or, take, set, sym, ap, ◌∙◌, add-one, arith, length-append, length-take, take_all, get_or-take, take-suc-set, eq-eqb, ne_eqb}
+use Rattle.std.proofs.Common.{
+  ◌≡◌,
+  ℕ,
+  ◌+◌,
+  ◌<◌,
+  ◌≤◌,
+  true,
+  false,
+  ◌&&◌,
+  leb,
+  List,
+  [],
+  ◌∷◌,
+  ◌++◌,
+  length,
+  get_or,
+  take,
+  set,
+  sym,
+  ap,
+  ◌∙◌,
+  add-one,
+  arith,
+  length-append,
+  length-take,
+  take_all,
+  get_or-take,
+  take-suc-set,
+  eq-eqb,
+  ne_eqb,
+}
 use lib.Seq.{take-append-le}
 use Rattle.grid.specs.declared.Grid.{Grid}
 use Rattle.grid.specs.Meaning.{cell_told, row_left}

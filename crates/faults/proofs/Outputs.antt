@@ -1,5 +1,39 @@
 -- The first of a series' faults is at the value that scoring refuses with 11, and there is none exactly where every value is within its limit. Assumes nothing.
-use Rattle.std.proofs.Common.{◌≡◌, ℕ, zero, suc, ◌+◌, ◌<◌, ◌≤◌, min, Bool, true, false, cond, ◌&&◌, ltb, leb, List, [], ◌∷◌, map, length, get_or, take, sym, refl, ap, ◌∙◌, arith, le-ltb, lt-ltb, ne_eqb, le-leb, leb-false, leb-true}
+use Rattle.std.proofs.Common.{
+  ◌≡◌,
+  ℕ,
+  zero,
+  suc,
+  ◌+◌,
+  ◌<◌,
+  ◌≤◌,
+  min,
+  Bool,
+  true,
+  false,
+  cond,
+  ◌&&◌,
+  ltb,
+  leb,
+  List,
+  [],
+  ◌∷◌,
+  map,
+  length,
+  get_or,
+  take,
+  sym,
+  refl,
+  ap,
+  ◌∙◌,
+  arith,
+  le-ltb,
+  lt-ltb,
+  ne_eqb,
+  le-leb,
+  leb-false,
+  leb-true,
+}
 use native.Mathlib.Decide.{dec_lt}
 use lib.Dec.{leb-zero}
 use borrow.Author.Tests.{lt-leb}

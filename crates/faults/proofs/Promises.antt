@@ -1,5 +1,36 @@
 -- The first of a register's faults is at the line that reading it refuses, and there is none exactly where it is taken. Assumes nothing.
-use Rattle.std.proofs.Common.{◌≡◌, ℕ, suc, ◌+◌, ◌<◌, ◌≤◌, Bool, true, false, cond, ◌&&◌, eqb, ltb, leb, List, [], ◌∷◌, map, length, get_or, take, sym, refl, ap, ◌∙◌, arith, le-ltb, eq-eqb, ne_eqb, leb-true}
+use Rattle.std.proofs.Common.{
+  ◌≡◌,
+  ℕ,
+  suc,
+  ◌+◌,
+  ◌<◌,
+  ◌≤◌,
+  Bool,
+  true,
+  false,
+  cond,
+  ◌&&◌,
+  eqb,
+  ltb,
+  leb,
+  List,
+  [],
+  ◌∷◌,
+  map,
+  length,
+  get_or,
+  take,
+  sym,
+  refl,
+  ap,
+  ◌∙◌,
+  arith,
+  le-ltb,
+  eq-eqb,
+  ne_eqb,
+  leb-true,
+}
 use native.Mathlib.Decide.{ℕ_discrete}
 use lib.Dec.{leb-zero}
 use Rattle.le.proofs.Tests.{holds_or_fails, each, all}

@@ -52,7 +52,8 @@ one_of_two : (j k s : ℕ) → eqb s j ≡ false → eqb s k ≡ false → one_o
 unfolding one_of
 one_of_two j k s e f = rw (e, f)
 
-no_rate : (s : ℕ) → one_of (agc_availability ∷ agc_contribution ∷ avc ∷ []) s ≡ false → eqb s frequency_event ≡ false → one_of (agc_availability ∷ agc_contribution ∷ frequency_event ∷ avc ∷ []) s ≡ false
+no_rate : (s : ℕ) → one_of (agc_availability ∷ agc_contribution ∷ avc ∷ []) s ≡ false → eqb s frequency_event ≡ false
+    → one_of (agc_availability ∷ agc_contribution ∷ frequency_event ∷ avc ∷ []) s ≡ false
 unfolding one_of
 no_rate s e f = rw f e
 

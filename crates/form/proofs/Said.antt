@@ -52,7 +52,8 @@ pub mark_at : (one other f : List ℕ) (c : ℕ) (g vs : List ℕ) → on_behind
     ≡ filled_from one other true false f vs ++ (shown one other c (get_or vs (taken_in false f) 0) ++ filled_from one other true false g (drop (taken_in false f + taken_by true c) vs))
 mark_at one other f c g vs o m =
     filled_both one other true false f (37 ∷ c ∷ g) vs
-    ∙ rw (o, m) (ap (λ (l : List ℕ). filled_from one other true false f vs ++ l) (mark_first one other c g (drop (taken_in false f) vs) ∙ rw (get_or-drop (taken_in false f) vs 0 0, add-zero, drop-drop)))
+    ∙ rw (o, m) (ap (λ (l : List ℕ). filled_from one other true false f vs ++ l) (mark_first one other c g (drop (taken_in false f) vs) ∙ rw
+    (get_or-drop (taken_in false f) vs 0 0, add-zero, drop-drop)))
 
 -- A signed number goes through its bits and back.
 pub signed_back : (z : ℤ) → SFits w64 z → signed_decimal (to_z w64 (bits z)) ≡ signed_decimal z

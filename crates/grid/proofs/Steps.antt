@@ -17,7 +17,23 @@ use Rattle.grid.specs.declared.cell.Run.{Run}
 use Rattle.grid.specs.declared.Grid.{Grid}
 use Rattle.grid.specs.Grid.{mark, comma, is_separator, as_comma, carriage_return, quote}
 use Rattle.grid.specs.Told.{dash}
-use Rattle.grid.specs.Meaning.{cell_so_far, cell_digits, cell_quote, cell_dash, head_left, blank_left, row_left, lines_left, separator_left, lines_by, rows_behind, grid_first, marks_on, rows_left, grid_begun}
+use Rattle.grid.specs.Meaning.{
+  cell_so_far,
+  cell_digits,
+  cell_quote,
+  cell_dash,
+  head_left,
+  blank_left,
+  row_left,
+  lines_left,
+  separator_left,
+  lines_by,
+  rows_behind,
+  grid_first,
+  marks_on,
+  rows_left,
+  grid_begun,
+}
 use Rattle.grid.specs.Meaning.{grid_opened, mark_goes_on, grid_known, grid_spoilt, grid_digits, InLine, Follows, RunFrom, no_feed, StepFrom}
 use Rattle.grid.proofs.Lines.{LineFollows, typed_as, by_foreign, by_quoting, by_dashing, by_return, by_one_digit}
 use Rattle.grid.proofs.Texts.{lines_by_lem, stage_case, late, mark_late, mark_last, mark_more, lines_byte, by_line, by_byte, mark_low, begun_in_line, after_begun, after_opening}

@@ -1,5 +1,41 @@
 -- Nothing is wrong with a line exactly where it is sound behind the lines before it. Assumes nothing.
-use Rattle.std.proofs.Common.{◌≡◌, ℕ, zero, suc, ◌-◌, ◌*◌, ◌<◌, ◌≤◌, Bool, true, false, cond, ◌&&◌, eqb, ltb, leb, List, [], ◌∷◌, ◌++◌, length, get_or, sym, refl, ap, ◌∙◌, arith, ltb-true, le-ltb, lt-ltb, eq-eqb, ne_eqb, eqb-true, le-leb, leb-true}
+use Rattle.std.proofs.Common.{
+  ◌≡◌,
+  ℕ,
+  zero,
+  suc,
+  ◌-◌,
+  ◌*◌,
+  ◌<◌,
+  ◌≤◌,
+  Bool,
+  true,
+  false,
+  cond,
+  ◌&&◌,
+  eqb,
+  ltb,
+  leb,
+  List,
+  [],
+  ◌∷◌,
+  ◌++◌,
+  length,
+  get_or,
+  sym,
+  refl,
+  ap,
+  ◌∙◌,
+  arith,
+  ltb-true,
+  le-ltb,
+  lt-ltb,
+  eq-eqb,
+  ne_eqb,
+  eqb-true,
+  le-leb,
+  leb-true,
+}
 use native.Mathlib.Decide.{ℕ_discrete}
 use borrow.Author.Tests.{eqb-false}
 use Rattle.le.proofs.Tests.{holds_or_fails}
@@ -11,7 +47,21 @@ use Rattle.hours.specs.Hours.{hour_columns, most_hours, as_hour_line, of_hour, l
 use Rattle.hours.specs.Outcomes.{LineWithin}
 use Rattle.hours.proofs.Sound.{line_within, within_line, none_bad}
 use Rattle.hour_faults.specs.declared.HourWrong.{HourWrong}
-use Rattle.hour_faults.specs.HourFaults.{is_sound, or_else, column_fault, month_fault, cells_fault, rising_fault, full_fault, standard_fault, fast_fault, move_fault, action_fault, row_fault, hour_fault}
+use Rattle.hour_faults.specs.HourFaults.{
+  is_sound,
+  or_else,
+  column_fault,
+  month_fault,
+  cells_fault,
+  rising_fault,
+  full_fault,
+  standard_fault,
+  fast_fault,
+  move_fault,
+  action_fault,
+  row_fault,
+  hour_fault,
+}
 use Rattle.hour_faults.proofs.Judging.{or_split, column_split}
 
 or_make : (x y : HourWrong) → is_sound x ≡ true → is_sound y ≡ true → is_sound (or_else x y) ≡ true

@@ -1,5 +1,34 @@
 -- What a judge keeps of the lines before judges a row as the lines do, and so it finds what is wrong with a file. Assumes nothing.
-use Rattle.std.proofs.Common.{◌≡◌, ℕ, suc, ◌+◌, ◌%◌, ◌^◌, ◌<◌, ◌≤◌, Bool, true, false, cond, eqb, List, [], ◌∷◌, ◌++◌, length, get_or, sym, refl, ap, ◌∙◌, mod-eq_of_lt, arith, length-append, ne_eqb, eqb-true}
+use Rattle.std.proofs.Common.{
+  ◌≡◌,
+  ℕ,
+  suc,
+  ◌+◌,
+  ◌%◌,
+  ◌^◌,
+  ◌<◌,
+  ◌≤◌,
+  Bool,
+  true,
+  false,
+  cond,
+  eqb,
+  List,
+  [],
+  ◌∷◌,
+  ◌++◌,
+  length,
+  get_or,
+  sym,
+  refl,
+  ap,
+  ◌∙◌,
+  mod-eq_of_lt,
+  arith,
+  length-append,
+  ne_eqb,
+  eqb-true,
+}
 use native.Mathlib.Decide.{dec_lt}
 use borrow.Author.Tests.{eqb-false, lt-leb}
 use Rattle.grid.specs.declared.Grid.{Grid}

@@ -1,5 +1,37 @@
 -- What is wrong with a line of so many cells, and what it does to the judge. Assumes nothing.
-use Rattle.std.proofs.Common.{◌≡◌, ℕ, ◌+◌, ◌-◌, ◌%◌, ◌^◌, ◌<◌, ◌≤◌, Bool, true, false, cond, ◌&&◌, ltb, leb, List, [], length, get_or, take, sym, refl, ap, ◌∙◌, arith, length-take, get_or-take, le-ltb, eq-eqb, ne_eqb, leb-true}
+use Rattle.std.proofs.Common.{
+  ◌≡◌,
+  ℕ,
+  ◌+◌,
+  ◌-◌,
+  ◌%◌,
+  ◌^◌,
+  ◌<◌,
+  ◌≤◌,
+  Bool,
+  true,
+  false,
+  cond,
+  ◌&&◌,
+  ltb,
+  leb,
+  List,
+  [],
+  length,
+  get_or,
+  take,
+  sym,
+  refl,
+  ap,
+  ◌∙◌,
+  arith,
+  length-take,
+  get_or-take,
+  le-ltb,
+  eq-eqb,
+  ne_eqb,
+  leb-true,
+}
 use native.Mathlib.Decide.{ℕ_discrete}
 use Rattle.le.proofs.Tests.{holds_or_fails}
 use Rattle.row.specs.Numbers.{ceiling}

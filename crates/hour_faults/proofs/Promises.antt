@@ -1,5 +1,34 @@
 -- The first fault of a ramping file is at the line that reading it refuses, and there is none exactly where it is taken. Assumes nothing.
-use Rattle.std.proofs.Common.{◌≡◌, ℕ, suc, ◌+◌, ◌<◌, ◌≤◌, Bool, true, false, cond, ltb, ◌↔◌, List, [], ◌∷◌, ◌++◌, map, length, take, sym, refl, ap, ◌∙◌, append_assoc, append-nil, arith, le-ltb, lt-ltb}
+use Rattle.std.proofs.Common.{
+  ◌≡◌,
+  ℕ,
+  suc,
+  ◌+◌,
+  ◌<◌,
+  ◌≤◌,
+  Bool,
+  true,
+  false,
+  cond,
+  ltb,
+  ◌↔◌,
+  List,
+  [],
+  ◌∷◌,
+  ◌++◌,
+  map,
+  length,
+  take,
+  sym,
+  refl,
+  ap,
+  ◌∙◌,
+  append_assoc,
+  append-nil,
+  arith,
+  le-ltb,
+  lt-ltb,
+}
 use native.Mathlib.Decide.{dec_lt}
 use Rattle.le.proofs.Tests.{holds_or_fails}
 use Rattle.row.specs.Meaning.{most_columns}
@@ -58,7 +87,8 @@ lines_are : (text : List ℕ) → hour_lines text ≡ lines_by (rows_by (λ row.
 unfolding hour_lines rows_by row_in
 lines_are text = ap (λ (rows : List (List ℕ)). map as_hour_line rows) (sym (numbers_rows hour_columns text (omega arith))) ∙ every (body_of text)
   where
-    one : (l : List ℕ) (t : Bool) → as_hour_line (cond t [] (row_by hour_columns (take most_columns (map told (cells_of l))))) ≡ as_hour_line (row_by hour_columns (cond t [] (take most_columns (map told
+    one : (l : List ℕ) (t : Bool) → as_hour_line (cond t [] (row_by hour_columns (take most_columns (map told (cells_of l))))) ≡ as_hour_line
+        (row_by hour_columns (cond t [] (take most_columns (map told
         (cells_of l)))))
     one l true = refl
     one l false = refl

@@ -1,5 +1,42 @@
 -- What the end of a line, a step and the end of the file do to what a finder would find. Assumes nothing.
-use Rattle.std.proofs.Common.{◌≡◌, ℕ, suc, ◌+◌, ◌<◌, ◌≤◌, Bool, true, false, cond, not, ◌&&◌, ◌||◌, leb, List, [], ◌∷◌, ◌++◌, map, length, get_or, take, drop, replicate, sym, refl, ap, ◌∙◌, append_assoc, arith, length-append, drop_of_length-le, length-take, eq-eqb, ne_eqb, leb-true}
+use Rattle.std.proofs.Common.{
+  ◌≡◌,
+  ℕ,
+  suc,
+  ◌+◌,
+  ◌<◌,
+  ◌≤◌,
+  Bool,
+  true,
+  false,
+  cond,
+  not,
+  ◌&&◌,
+  ◌||◌,
+  leb,
+  List,
+  [],
+  ◌∷◌,
+  ◌++◌,
+  map,
+  length,
+  get_or,
+  take,
+  drop,
+  replicate,
+  sym,
+  refl,
+  ap,
+  ◌∙◌,
+  append_assoc,
+  arith,
+  length-append,
+  drop_of_length-le,
+  length-take,
+  eq-eqb,
+  ne_eqb,
+  leb-true,
+}
 use borrow.Author.Tests.{not-true}
 use Rattle.le.proofs.Tests.{each}
 use Rattle.row.specs.Numbers.{line_feed, parts_of}

@@ -6,7 +6,20 @@ pub mod words;
 
 ghost use Rattle.std.specs.Prelude.{◌≡◌, ℕ, ◌≤◌, true, List, [], ◌++◌, slice_index};
 ghost use Rattle.ramp.specs.Ramping.{most_ramp_rate};
-ghost use Rattle.hour_faults.specs.HourFaults.{is_sound, or_else, column_fault, month_fault, cells_fault, rising_fault, full_fault, standard_fault, fast_fault, move_fault, action_fault, first_hour_fault};
+ghost use Rattle.hour_faults.specs.HourFaults.{
+  is_sound,
+  or_else,
+  column_fault,
+  month_fault,
+  cells_fault,
+  rising_fault,
+  full_fault,
+  standard_fault,
+  fast_fault,
+  move_fault,
+  action_fault,
+  first_hour_fault,
+};
 ghost use Rattle.hours.specs.Hours.{month_hours};
 ghost use Rattle.hour_faults.specs.Inner.{blank_after, first_left, found_by, fault_is_known, finder_is_settled, found_left};
 

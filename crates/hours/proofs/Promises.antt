@@ -1,5 +1,34 @@
 -- What reading a ramping file promises: the lowest bad line is told, otherwise every hour; however the bytes come in; and the sum is the hours' sum. Assumes nothing.
-use Rattle.std.proofs.Common.{◌≡◌, ℕ, zero, suc, ◌+◌, ◌*◌, ◌<◌, ◌≤◌, Bool, true, false, List, [], ◌∷◌, ◌++◌, map, length, get_or, replicate, sym, refl, ap, ◌∙◌, add-zero, add-suc, suc-add, zero-add, arith}
+use Rattle.std.proofs.Common.{
+  ◌≡◌,
+  ℕ,
+  zero,
+  suc,
+  ◌+◌,
+  ◌*◌,
+  ◌<◌,
+  ◌≤◌,
+  Bool,
+  true,
+  false,
+  List,
+  [],
+  ◌∷◌,
+  ◌++◌,
+  map,
+  length,
+  get_or,
+  replicate,
+  sym,
+  refl,
+  ap,
+  ◌∙◌,
+  add-zero,
+  add-suc,
+  suc-add,
+  zero-add,
+  arith,
+}
 use Rattle.le.proofs.Tests.{holds_or_fails}
 use Rattle.units.specs.declared.Grains.{Grains}
 use Rattle.units.specs.Money.{most_grains, grains_plus}

@@ -1,5 +1,36 @@
 -- Lines that were all sound, and one more: what the sheet keeps of them judges it as the lines do. Assumes nothing.
-use Rattle.std.proofs.Common.{◌≡◌, ℕ, suc, ◌+◌, ◌*◌, ◌<◌, ◌≤◌, Bool, true, false, cond, eqb, ltb, leb, List, [], ◌∷◌, ◌++◌, length, refl, ap, ◌∙◌, append-nil, arith, length-append, ltb-true, lt-ltb, eqb-true, le-leb, leb-true}
+use Rattle.std.proofs.Common.{
+  ◌≡◌,
+  ℕ,
+  suc,
+  ◌+◌,
+  ◌*◌,
+  ◌<◌,
+  ◌≤◌,
+  Bool,
+  true,
+  false,
+  cond,
+  eqb,
+  ltb,
+  leb,
+  List,
+  [],
+  ◌∷◌,
+  ◌++◌,
+  length,
+  refl,
+  ap,
+  ◌∙◌,
+  append-nil,
+  arith,
+  length-append,
+  ltb-true,
+  lt-ltb,
+  eqb-true,
+  le-leb,
+  leb-true,
+}
 use lib.Seq.{append_snoc}
 use borrow.Author.Tests.{eqb-false}
 use Rattle.le.proofs.Tests.{each, all, fails, holds_or_fails}

@@ -1,5 +1,55 @@
 -- The sheet before any line, after a line that it takes, after one that it does not, and its answer. Assumes nothing.
-use Rattle.std.proofs.Common.{◌≡◌, ℕ, zero, suc, ◌+◌, ◌%◌, ◌^◌, ◌<◌, ◌≤◌, Bool, true, false, cond, ◌&&◌, eqb, ltb, leb, List, [], ◌∷◌, ◌++◌, map, length, get_or, take, set, replicate, sym, refl, ap, ◌∙◌, subst, append_assoc, append-nil, mod-eq_of_lt, zero-add, add-one, arith, length-append, length-set, get_or-take, take-suc-set, ltb-true, le-ltb, lt-ltb, eq-eqb, ne_eqb, eqb-true, leb-true}
+use Rattle.std.proofs.Common.{
+  ◌≡◌,
+  ℕ,
+  zero,
+  suc,
+  ◌+◌,
+  ◌%◌,
+  ◌^◌,
+  ◌<◌,
+  ◌≤◌,
+  Bool,
+  true,
+  false,
+  cond,
+  ◌&&◌,
+  eqb,
+  ltb,
+  leb,
+  List,
+  [],
+  ◌∷◌,
+  ◌++◌,
+  map,
+  length,
+  get_or,
+  take,
+  set,
+  replicate,
+  sym,
+  refl,
+  ap,
+  ◌∙◌,
+  subst,
+  append_assoc,
+  append-nil,
+  mod-eq_of_lt,
+  zero-add,
+  add-one,
+  arith,
+  length-append,
+  length-set,
+  get_or-take,
+  take-suc-set,
+  ltb-true,
+  le-ltb,
+  lt-ltb,
+  eq-eqb,
+  ne_eqb,
+  eqb-true,
+  leb-true,
+}
 use lib.Seq.{append_snoc}
 use borrow.Author.Tests.{eqb-false}
 use Rattle.le.proofs.Tests.{each, holds_or_fails}
@@ -15,7 +65,22 @@ use Rattle.hours.specs.declared.HourLine.{HourLine}
 use Rattle.hours.specs.declared.HoursFault.{HoursFault}
 use Rattle.hours.specs.declared.HoursFault.TheVariants.{NoFault, OfMember, AtLine}
 use Rattle.hours.specs.declared.sheet.Sheet.{Sheet}
-use Rattle.hours.specs.Hours.{hour_columns, most_hours, as_hour_line, of_hour, last_hour, hour_line_is_sound, first_bad_line, pays_from, hours_with, grains_sum, hours_refused, hours_paid, hours_of_lines, is_fault}
+use Rattle.hours.specs.Hours.{
+  hour_columns,
+  most_hours,
+  as_hour_line,
+  of_hour,
+  last_hour,
+  hour_line_is_sound,
+  first_bad_line,
+  pays_from,
+  hours_with,
+  grains_sum,
+  hours_refused,
+  hours_paid,
+  hours_of_lines,
+  is_fault,
+}
 use Rattle.hours.specs.Outcomes.{LineWithin}
 use Rattle.hours.specs.Inner.{most_short, fair_hour_line, ended_line, ended_lines, held_after, lines_say, filled_for, standard_for, sheet_takes, BlankSheet, GoodHour, Taken, Refused, Judged}
 use Rattle.hours.proofs.Lines.{of_its_hour, last_more, bad_behind, paid_for, pays_table, actions_table, table_none, table_more}

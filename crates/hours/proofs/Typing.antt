@@ -37,7 +37,8 @@ fits_by d standard = joined (leb (get_or d 0 0) most_short) (word_tests (line_by
 -- the limits that the casts of its numbers need
 abbrev pub Casts : List ℕ → ℕ → Type 0
 Casts d standard =
-    (get_or d 0 0 ≤ most_short) × (get_or d 1 0 ≤ most_word) × (get_or d 2 0 ≤ most_word) × (get_or d 3 0 ≤ most_word) × (get_or d 4 0 ≤ most_word) × (get_or d 5 0 ≤ most_word) × (standard ≤ most_word)
+    (get_or d 0 0 ≤ most_short) × (get_or d 1 0 ≤ most_word) × (get_or d 2 0 ≤ most_word) × (get_or d 3 0 ≤ most_word) × (get_or d 4 0 ≤ most_word) × (get_or d 5 0 ≤ most_word)
+    × (standard ≤ most_word)
 
 pub seven_casts : (d : List ℕ) (standard : ℕ) → fits_by d standard ≡ true → Casts d standard
 seven_casts d standard h =

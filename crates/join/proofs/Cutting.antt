@@ -283,7 +283,8 @@ module _ (b : List ℕ) (s : Sound b) (whole kept other : Call) (k : KeptAndNew 
                   within = within_once other kept numbered_other z wk;
                   page_long = room.page_long';
                   fits =
-                      had-before (some_not_none whole _ (still b s other kept numbered_other nk page out page' out' z ex (λ e. distinct (sym e)) (some whole) has_kept)) (omega (arith, room.out_long'));
+                      had-before (some_not_none whole _ (still b s other kept numbered_other nk page out page' out' z ex (λ e. distinct (sym e)) (some whole) has_kept))
+                      (omega (arith, room.out_long'));
                 });
           }
 

@@ -119,7 +119,8 @@ module _ (h : Header) (bs : List (List ℕ)) (month : OneMonth h bs) (p : Plan) 
           → (r : Call) × In r (calls_of (written (result p))) × (call_key r ≡ call_key w) × (is_withdrawn r ≡ true)
       stays_withdrawn b i w j t =
           let listed : In (calls_of b) (map calls_of bs) = Memᴰ.map calls_of i in
-          let s = lists.stays_withdrawn (header_minutes h) (tree_of p) (map calls_of bs) over sounds (calls_of b) listed (call_key w) w (in_find 0 (calls_of b) w (sounds (calls_of b) listed).rises j) t in
+          let s = lists.stays_withdrawn (header_minutes h) (tree_of p) (map calls_of bs) over sounds (calls_of b) listed (call_key w) w
+          (in_find 0 (calls_of b) w (sounds (calls_of b) listed).rises j) t in
           let f = find_in (call_key w) (tree_joined (tree_of p)) s.0 s.1 in
           (s.0, subst (λ (l : List Call). In s.0 l) (sym calls) f.0, f.1, s.2)
 

@@ -258,7 +258,8 @@ one_more : (out : List ℕ) (n : ℕ) (c : Call) (cs : List Call) → sets (sets
 unfolding record_bytes
 one_more out n c cs =
     let one : Stores out (place_of n) (call_bytes c) (sets out (place_of n) (call_bytes c)) = record { is = refl } in
-    let all : Stores (sets out (place_of n) (call_bytes c)) (place_of (suc n)) (record_bytes cs) (sets (sets out (place_of n) (call_bytes c)) (place_of (suc n)) (record_bytes cs)) = record { is = refl } in
+    let all : Stores (sets out (place_of n) (call_bytes c)) (place_of (suc n)) (record_bytes cs) (sets (sets out (place_of n) (call_bytes c)) (place_of (suc n)) (record_bytes cs)) = record
+    { is = refl } in
     (then (place_of (suc n)) (omega (arith, length_call c)) one all).is
 
 pub after : (t : ℕ) (xs ys : List Call) → Rises 0 xs → Rises 0 ys → (out : List ℕ) (n : ℕ) (zs : List Call) → merge xs ys ≡ zs → t ≤ length zs → After xs ys out n zs t

@@ -19,7 +19,23 @@ use Rattle.call.specs.Revising.{call_contested}
 use Rattle.call.specs.Service.{CallWithin}
 use Rattle.call.proofs.Exact.{sound_within}
 use Rattle.book.specs.declared.Verdict.{Verdict}
-use Rattle.book.specs.Book.{most_records, first_version, most_keys, size_of, header_at, count_at, record_at, calls_from, calls_of, mark_bytes, date_bytes, count_bytes, head_bytes, record_bytes, book_bytes}
+use Rattle.book.specs.Book.{
+  most_records,
+  first_version,
+  most_keys,
+  size_of,
+  header_at,
+  count_at,
+  record_at,
+  calls_from,
+  calls_of,
+  mark_bytes,
+  date_bytes,
+  count_bytes,
+  head_bytes,
+  record_bytes,
+  book_bytes,
+}
 use Rattle.book.specs.Check.{is_marked, is_known, is_versioned, header_is_sound, is_headed, header_minutes, is_record, judge, check_records, check}
 use Rattle.book.proofs.Heads.{first_known, first_some}
 use Rattle.book.proofs.Exact.{sound_accepted}

@@ -141,7 +141,8 @@ module _ (b c : List ℕ) (s : Sound b) (t : Sound c) (whole first second : Call
       settled a u p r l = listed (with_book g a) p r (ap (λ (v : Verdict). v.number) (sound_accepted a u)) (count_at a) (first_unlisted g.entries (calls_of a)) refl refl l
 
   -- It is settled, with one call more,
-  pub cut_settled : (g : MonthGiven) → (settling (with_book g b)).fault ≡ NoFault → ((settling (with_book g c)).fault ≡ NoFault) × ((settling (with_book g c)).calls ≡ suc (settling (with_book g b)).calls)
+  pub cut_settled : (g : MonthGiven) → (settling (with_book g b)).fault ≡ NoFault → ((settling (with_book g c)).fault ≡ NoFault)
+      × ((settling (with_book g c)).calls ≡ suc (settling (with_book g b)).calls)
   unfolding one_call_more
   cut_settled g none = let e = cut_month g none in (ap (λ (r : Statement). r.fault) e ∙ none, ap (λ (r : Statement). r.calls) e)
 

@@ -171,7 +171,8 @@ module _ (es : List Entry) (book series lengths : List ℕ) (ramped : List Rampe
     pub walk_on : (v end : ℕ) (g : Grains) → v ≡ get_or lengths i 0 → end ≡ at + min v (length series - at) → end ≤ length series → i < length grains
         → turn_of at i ≡ ScoreAndHours g → Walk (set grains i g) end (i + 1)
     walk_on v end g ev is most room e =
-        let z : first_refused_member (drop i all) ≡ suc (first_refused_member (drop (i + 1) all)) = ap first_refused_member (here ∙ ap (λ (x : MemberEarned). x ∷ drop (i + 1) all) e) ∙ refused_later g _ in
+        let z : first_refused_member (drop i all) ≡ suc (first_refused_member (drop (i + 1) all)) = ap first_refused_member (here ∙ ap (λ (x : MemberEarned). x ∷ drop (i + 1) all) e) ∙
+        refused_later g _ in
         let long = length-map all earned_grains in
         let count = length_earnings es book series lengths ramped in
         let m : get_or (map earned_grains all) i no_grains ≡ g =

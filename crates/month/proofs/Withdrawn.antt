@@ -201,7 +201,8 @@ module _ (j : ℕ) where
         go (yes e) = rw (eq-eqb o.number 0 e, header, count) refl
         go (no e) = rw (ne_eqb o.number 0 e) refl
 
-    month_lowered : (es : List Entry) (rs : List Ramped) (earned : List MemberEarned) → earned_month part es b' rs (map (lowered_turn j) earned) ≡ lowered_statement j (earned_month part es b rs earned)
+    month_lowered : (es : List Entry) (rs : List Ramped) (earned : List MemberEarned) → earned_month part es b' rs (map (lowered_turn j) earned) ≡ lowered_statement j
+        (earned_month part es b rs earned)
     unfolding earned_month month_lines
     month_lowered es rs earned = go (dec_lt (first_refused_member earned) (length earned))
       where

@@ -345,7 +345,8 @@ over_each_other = sample _ (lit≤ tt) refl
 pub both_scored : scoring (plant 300000) over_each_other.book (outputs rising) ≡ scores 13650000000 227500
 unfolding
     low_all in_fen grains_to_fen records_earned first_refused first_nonzero any_below refusal_at number_of open_to reserve_open clash_at clashes overlaps is_once
-    month_grains total total_z pay_at wh_at pay_of wh_of is_own_live live_pay live_wh window_pay quarter_at quarter_pay minute_pay deep_peak_minute reserve_minute coal_minute coal_band lacking energy_pay clamp
+    month_grains total total_z pay_at wh_at pay_of wh_of is_own_live live_pay live_wh window_pay quarter_at quarter_pay minute_pay deep_peak_minute reserve_minute coal_minute coal_band lacking
+    energy_pay clamp
 both_scored = sample_scored (plant 300000) coal_line rising (lit≤ tt) refl _ over_each_other
 
 pub one_of_both : CutTo over_each_other.book (deep 5 1 0 120) (deep 5 2 0 45) (deep 9 1 45 75) (deep 5 2 0 45 ∷ called 6 1 0 120 ∷ deep 9 1 45 75 ∷ [])

@@ -88,7 +88,12 @@ filled_at is_below xs ss n i d h k m =
     let ls = length-take-le n ss m in
     let lp = length_parts is_below (take n xs) (take n ss) (ls ∙ sym lx) in
     fill_at (parts_by is_below (take n xs) (take n ss)) (clear xs) i d (part_of is_below d 0) (omega arith) (rw (length-map xs (λ l. cleared l)) (omega arith))
-    ∙ rw (get_d_mapped (λ l. cleared l) xs i d d (omega arith), part_at is_below (take n xs) (take n ss) i d (part_of is_below d 0) (ls ∙ sym lx) (omega arith), get_or-take n xs i d h, get_or-take n ss i 0 h)
+    ∙ rw (
+      get_d_mapped (λ l. cleared l) xs i d d (omega arith),
+      part_at is_below (take n xs) (take n ss) i d (part_of is_below d 0) (ls ∙ sym lx) (omega arith),
+      get_or-take n xs i d h,
+      get_or-take n ss i 0 h,
+    )
 
 pub filled_all : (is_below : Bool) (xs : List Line) (ss : List ℕ) (n : ℕ) → n ≤ length xs → n ≤ length ss
     → let all = fill_in (parts_by is_below (take n xs) (take n ss)) (clear xs) in

@@ -35,7 +35,8 @@ sound_upto first (l ∷ ls) zero h = go (line_is_sound first l) refl h
 sound_upto first (l ∷ ls) (suc k) h = go (line_is_sound first l) h (sound_upto l.number ls k)
   where
     go : (b : Bool) → suc k < cond b (suc (first_bad_line l.number ls)) 0
-        → (k < first_bad_line l.number ls → line_is_sound (number_before l.number ls k) (get_or ls k blank_line) ≡ true) → line_is_sound (number_before first (l ∷ ls) (suc k)) (get_or ls k blank_line) ≡ true
+        → (k < first_bad_line l.number ls → line_is_sound (number_before l.number ls k) (get_or ls k blank_line) ≡ true)
+        → line_is_sound (number_before first (l ∷ ls) (suc k)) (get_or ls k blank_line) ≡ true
     go true i rec = ap (λ (n : ℕ). line_is_sound n (get_or ls k blank_line)) (sym (number_step first l ls k)) ∙ rec (omega arith)
     go false i rec = absurd (not-suc-le-zero i)
 

@@ -94,4 +94,5 @@ three_stop = every_tree_stops three three_covers three_room
 pub join_stops : (out : List ℕ) → joining full one_more out ≡ join_refused (refused 8 0) out
 unfolding full one_more many_calls last_call
 join_stops out =
-    book_refused january heads second_version first_version second_known first_known many_calls last_call many_fit last_fits many_calls_lem last_calls out (omega (arith, joined_one_longer 2000 (lit< tt)))
+    book_refused january heads second_version first_version second_known first_known many_calls last_call many_fit last_fits many_calls_lem last_calls out
+    (omega (arith, joined_one_longer 2000 (lit< tt)))

@@ -127,7 +127,8 @@ tree_paged = pages_of_a_tree seven_tree (conditions_met.alike.first_sound, condi
 eight_unnamed : (header_minutes (header_at seven_before) ≡ header_minutes (header_at (book_of 5 seven_in))) × (own_of 8 (calls_of (book_of 5 seven_in)) ≡ [])
 unfolding
     book_of call seven_before seven_in own_of le_at le_bytes
-    book_bytes head_bytes mark_bytes date_bytes count_bytes record_bytes call_bytes key_bytes time_bytes term_bytes calls_of calls_from record_at count_at call_at header_at header_minutes minutes_of days_of is_leap
+    book_bytes head_bytes mark_bytes date_bytes count_bytes record_bytes call_bytes key_bytes time_bytes term_bytes calls_of calls_from record_at count_at call_at header_at header_minutes
+    minutes_of days_of is_leap
 eight_unnamed = (refl, refl)
 
 pub eight_keeps : (brought_forward (tabs_of (calls_of seven_before)) (calls_of seven_before) (calls_of (book_of 5 seven_in)) 8).count ≡ (tabs_of (calls_of seven_before) 8).count

@@ -50,7 +50,8 @@ one_shown s name k h =
     ap (λ (b : ℕ). sets (set s k b) (k + 1) (drop (k + 1) (shown_name name))) (sym (shown_at name k h))
     ∙ simp zero-add at (one_more s (shown_name name) 0 k within)
 
-pub all_shown : (name before after : List ℕ) (k : ℕ) → k ≡ length name → sets after k (drop k (shown_name name)) ≡ sets before 0 (shown_name name) → Puts (length name) before 0 (shown_name name) after k
+pub all_shown : (name before after : List ℕ) (k : ℕ) → k ≡ length name → sets after k (drop k (shown_name name)) ≡ sets before 0 (shown_name name)
+    → Puts (length name) before 0 (shown_name name) after k
 all_shown name before after k e h =
     let p : Puts (length (shown_name name)) before 0 (shown_name name) after (0 + k) = word_put (shown_name name) before after 0 k (e ∙ sym (shown_long name)) (simp zero-add h) in
     subst (λ (n : ℕ). Puts n before 0 (shown_name name) after k) (shown_long name) (subst (λ (r : ℕ). Puts (length (shown_name name)) before 0 (shown_name name) after r) (zero-add k) p)

@@ -16,7 +16,21 @@ use Rattle.year.specs.declared.YearLine.{YearLine}
 use Rattle.year.specs.declared.MonthStatement.{MonthStatement}
 use Rattle.year.specs.declared.MemberYear.{MemberYear}
 use Rattle.year.specs.declared.Year.{Year}
-use Rattle.year.specs.Year.{most_members, is_within, lines_in, date_is_sound, year_line_is_sound, lines_are_sound, sumℤ, adds_to_zero, statement_is_sound, year_in, last_month, goes_on, first_bad_statement}
+use Rattle.year.specs.Year.{
+  most_members,
+  is_within,
+  lines_in,
+  date_is_sound,
+  year_line_is_sound,
+  lines_are_sound,
+  sumℤ,
+  adds_to_zero,
+  statement_is_sound,
+  year_in,
+  last_month,
+  goes_on,
+  first_bad_statement,
+}
 use Rattle.year.specs.Year.{of_member, present_in, has_month, months_from, sumℕ, sums_of, largest_from, largest_of, member_year, no_months, members_from, year_refused, year_taken, year_of}
 use Rattle.year.specs.Verdict.{blank_line}
 use Rattle.year.specs.Present.{LineOf}

@@ -45,8 +45,10 @@ returns-then-first-ne0 c =
       c.first_bad_limited-bad.ensures ∙ ap (first_bad_limited 0) (take_seen c.args.lines c.args.count n long c.seen.ensures.0),
       omega (arith, c.first_bad_limited-bad.ensures, bad_few (take n c.args.lines)),
     ) in
-    let all_sound : (c.args.count ≤ 64) × (c.args.count ≤ first_bad_limited 0 (take c.args.count c.args.lines)) = let b = bad_is in (omega (arith, b.1, c.if-bad-count.false), omega (arith, b.0, c.if-bad-count.false)) in
-    let first : c.share-first.result ≡ shared_array c.args.part (plain_lines c.args.lines) c.args.count = c.share-first.ensures ∙ ap (λ (ls : List Line). shared_array c.args.part ls c.args.count) c.plain_lines.ensures in
+    let all_sound : (c.args.count ≤ 64) × (c.args.count ≤ first_bad_limited 0 (take c.args.count c.args.lines)) = let b = bad_is in
+    (omega (arith, b.1, c.if-bad-count.false), omega (arith, b.0, c.if-bad-count.false)) in
+    let first : c.share-first.result ≡ shared_array c.args.part (plain_lines c.args.lines) c.args.count = c.share-first.ensures ∙ ap (λ (ls : List Line). shared_array c.args.part ls c.args.count)
+    c.plain_lines.ensures in
     let ls = take c.args.count c.args.lines in
     let a = all_sound in
     let long : length c.args.lines ≡ 64 = search rules in
@@ -66,7 +68,9 @@ second_sharing-requires c =
       c.first_bad_limited-bad.ensures ∙ ap (first_bad_limited 0) (take_seen c.args.lines c.args.count n long c.seen.ensures.0),
       omega (arith, c.first_bad_limited-bad.ensures, bad_few (take n c.args.lines)),
     ) in
-    let all_sound : (c.args.count ≤ 64) × (c.args.count ≤ first_bad_limited 0 (take c.args.count c.args.lines)) = let b = bad_is in (omega (arith, b.1, c.if-bad-count.false), omega (arith, b.0, c.if-bad-count.false)) in
-    let first : c.share-first.result ≡ shared_array c.args.part (plain_lines c.args.lines) c.args.count = c.share-first.ensures ∙ ap (λ (ls : List Line). shared_array c.args.part ls c.args.count) c.plain_lines.ensures in
+    let all_sound : (c.args.count ≤ 64) × (c.args.count ≤ first_bad_limited 0 (take c.args.count c.args.lines)) = let b = bad_is in
+    (omega (arith, b.1, c.if-bad-count.false), omega (arith, b.0, c.if-bad-count.false)) in
+    let first : c.share-first.result ≡ shared_array c.args.part (plain_lines c.args.lines) c.args.count = c.share-first.ensures ∙ ap (λ (ls : List Line). shared_array c.args.part ls c.args.count)
+    c.plain_lines.ensures in
     let a = all_sound in
     record { fair = c.if-part-gt-MOST_PART.false; few = a.0; sound = a.1; is = first; accepted = c.if-first-ne0.false }

@@ -40,7 +40,8 @@ runs_found-requires c =
     let ready : (size_of c.count_at-n.result ≤ length c.args.b.now) × (c.count_at-n.result ≤ most_keys) = let g = book in
     let n = c.count_at-n.ensures.0 in
     (omega (arith, g.size), omega (arith, g.few)) in
-    let is-day : day_at c.args.member c.args.b.now (take c.windows_of-deep.result.count c.windows_of-deep.result.at) (take c.windows_of-reserves.result.count c.windows_of-reserves.result.at) c.args.series.now ((c.args.day - 1) * 1440) ≡ day_of c.args.member c.args.b.now c.args.series.now c.args.day = let a = c.args in
+    let is-day : day_at c.args.member c.args.b.now (take c.windows_of-deep.result.count c.windows_of-deep.result.at) (take c.windows_of-reserves.result.count c.windows_of-reserves.result.at)
+    c.args.series.now ((c.args.day - 1) * 1440) ≡ day_of c.args.member c.args.b.now c.args.series.now c.args.day = let a = c.args in
     let n = c.count_at-n in
     let p = c.windows_of-deep in
     let q = c.windows_of-reserves in
@@ -62,7 +63,8 @@ runs_found-requires c =
 
 pub returns : goal.returns
 returns c =
-    let is-day : day_at c.args.member c.args.b.now (take c.windows_of-deep.result.count c.windows_of-deep.result.at) (take c.windows_of-reserves.result.count c.windows_of-reserves.result.at) c.args.series.now ((c.args.day - 1) * 1440) ≡ day_of c.args.member c.args.b.now c.args.series.now c.args.day = let a = c.args in
+    let is-day : day_at c.args.member c.args.b.now (take c.windows_of-deep.result.count c.windows_of-deep.result.at) (take c.windows_of-reserves.result.count c.windows_of-reserves.result.at)
+    c.args.series.now ((c.args.day - 1) * 1440) ≡ day_of c.args.member c.args.b.now c.args.series.now c.args.day = let a = c.args in
     let n = c.count_at-n in
     let p = c.windows_of-deep in
     let q = c.windows_of-reserves in

@@ -21,7 +21,9 @@ loop-place-init c =
 pub bounds-list-count : goal.bounds-list-count
 bounds-list-count c =
     let day : Day = day_at c.args.member c.args.b.now c.args.deep.now c.args.reserves.now c.args.series.now c.args.first in
-    let begun : Filled (runs_from day 0 places_per_day 0) c.loop-place.list c.loop-place.count (run_at day c.loop-place.place c.loop-place.sum.0 ∷ runs_from day (c.loop-place.place + 1) (places_per_day - (c.loop-place.place + 1)) (run_at day c.loop-place.place c.loop-place.sum.0).sum.0) = let d = day in
+    let begun : Filled (runs_from day 0 places_per_day 0) c.loop-place.list c.loop-place.count
+    (run_at day c.loop-place.place c.loop-place.sum.0 ∷ runs_from day (c.loop-place.place + 1) (places_per_day - (c.loop-place.place + 1))
+    (run_at day c.loop-place.place c.loop-place.sum.0).sum.0) = let d = day in
     let l = c.loop-place in
     let e = runs_take d l.place (omega arith) l.sum.0 (l.invariant.2 (omega arith)) in
     subst (λ (left : List DayRun). Filled (runs_from d 0 places_per_day 0) l.list l.count left) e l.invariant.0 in
@@ -31,11 +33,14 @@ bounds-list-count c =
 pub loop-place-preserved : goal.loop-place-preserved
 loop-place-preserved c =
     let day : Day = day_at c.args.member c.args.b.now c.args.deep.now c.args.reserves.now c.args.series.now c.args.first in
-    let begun : Filled (runs_from day 0 places_per_day 0) c.loop-place.list c.loop-place.count (run_at day c.loop-place.place c.loop-place.sum.0 ∷ runs_from day (c.loop-place.place + 1) (places_per_day - (c.loop-place.place + 1)) (run_at day c.loop-place.place c.loop-place.sum.0).sum.0) = let d = day in
+    let begun : Filled (runs_from day 0 places_per_day 0) c.loop-place.list c.loop-place.count
+    (run_at day c.loop-place.place c.loop-place.sum.0 ∷ runs_from day (c.loop-place.place + 1) (places_per_day - (c.loop-place.place + 1))
+    (run_at day c.loop-place.place c.loop-place.sum.0).sum.0) = let d = day in
     let l = c.loop-place in
     let e = runs_take d l.place (omega arith) l.sum.0 (l.invariant.2 (omega arith)) in
     subst (λ (left : List DayRun). Filled (runs_from d 0 places_per_day 0) l.list l.count left) e l.invariant.0 in
-    let taken : Filled (runs_from day 0 places_per_day 0) c.loop-place.list c.loop-place.count (c.run_at-run.result ∷ runs_from day (c.loop-place.place + 1) (places_per_day - (c.loop-place.place + 1)) c.run_at-run.result.sum.0) = let d = day in
+    let taken : Filled (runs_from day 0 places_per_day 0) c.loop-place.list c.loop-place.count
+    (c.run_at-run.result ∷ runs_from day (c.loop-place.place + 1) (places_per_day - (c.loop-place.place + 1)) c.run_at-run.result.sum.0) = let d = day in
     let l = c.loop-place in
     subst (λ (r : DayRun). Filled (runs_from d 0 places_per_day 0) l.list l.count (r ∷ runs_from d (l.place + 1) (places_per_day - (l.place + 1)) r.sum.0))
     (sym c.run_at-run.ensures.0) begun in

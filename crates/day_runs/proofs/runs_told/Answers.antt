@@ -42,7 +42,8 @@ day_runs-requires c =
 pub returns-then-day-days : goal.returns-then-day-days
 returns-then-day-days c =
     let zero : (reckoning c.args.member c.args.b.now c.args.series.now).number ≡ 0 = sym (ap (λ (r : Score). r.number) c.requires) ∙ c.if-r-ne0.false in
-    let days : c.days_of-days.result ≡ days_of (header_at c.args.b.now).year (header_at c.args.b.now).month = c.days_of-days.ensures ∙ ap (λ (h : Header). days_of h.year h.month) c.header_at-h.ensures in
+    let days : c.days_of-days.result ≡ days_of (header_at c.args.b.now).year (header_at c.args.b.now).month = c.days_of-days.ensures ∙ ap (λ (h : Header). days_of h.year h.month)
+    c.header_at-h.ensures in
     let a = c.args in
     let z = zero in
     rw (told_day a.member a.b.now a.series.now a.day z c.days_of-days.result days c.if-day-days.true) c.day_runs.ensures
@@ -50,7 +51,8 @@ returns-then-day-days c =
 pub returns : goal.returns
 returns c =
     let zero : (reckoning c.args.member c.args.b.now c.args.series.now).number ≡ 0 = sym (ap (λ (r : Score). r.number) c.requires) ∙ c.if-r-ne0.false in
-    let days : c.days_of-days.result ≡ days_of (header_at c.args.b.now).year (header_at c.args.b.now).month = c.days_of-days.ensures ∙ ap (λ (h : Header). days_of h.year h.month) c.header_at-h.ensures in
+    let days : c.days_of-days.result ≡ days_of (header_at c.args.b.now).year (header_at c.args.b.now).month = c.days_of-days.ensures ∙ ap (λ (h : Header). days_of h.year h.month)
+    c.header_at-h.ensures in
     let a = c.args in
     let z = zero in
     rw (told_none a.member a.b.now a.series.now a.day z c.days_of-days.result days c.if-day-days.false) c.no_runs-2.ensures

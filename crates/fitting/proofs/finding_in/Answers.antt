@@ -24,4 +24,5 @@ returns c =
     let fits = sym c.is_fits.ensures ∙ c.if-not-is_fits.false in
     let shared = c.share-first.ensures in
     let limits = c.own_limits-limited.ensures in
-    rest_told s c.if-count-gt-MOST_ENTRIES.false _ c.is_below-negative.ensures _ own fits c.own_lines.ensures.rows_len _ c.own_lines.ensures.value _ shared c.if-first-ne0.false _ limits _ c.by_ceiling.ensures
+    rest_told s c.if-count-gt-MOST_ENTRIES.false _ c.is_below-negative.ensures _ own fits c.own_lines.ensures.rows_len _ c.own_lines.ensures.value _ shared c.if-first-ne0.false _ limits _
+    c.by_ceiling.ensures

@@ -14,7 +14,8 @@ count_at-high-requires c = long _ c.requires
 
 pub loop-low-preserved-then-key_at-key : goal.loop-low-preserved-then-key_at-key
 loop-low-preserved-then-key_at-key c =
-    let middle : (c.loop-low.low ≤ c.loop-low.low + (c.loop-low.high - c.loop-low.low) / 2) × (c.loop-low.low + (c.loop-low.high - c.loop-low.low) / 2 < c.loop-low.high) × (c.loop-low.high ≤ most_keys) =
+    let middle : (c.loop-low.low ≤ c.loop-low.low + (c.loop-low.high - c.loop-low.low) / 2) × (c.loop-low.low + (c.loop-low.high - c.loop-low.low) / 2 < c.loop-low.high)
+    × (c.loop-low.high ≤ most_keys) =
     let l = c.loop-low in
     let h = half l.low l.high c.loop-low-test.true in
     (h.0, h.1, omega (arith, l.invariant.ordered.1, few _ c.requires)) in
@@ -23,7 +24,8 @@ loop-low-preserved-then-key_at-key c =
 
 pub loop-low-preserved : goal.loop-low-preserved
 loop-low-preserved c =
-    let middle : (c.loop-low.low ≤ c.loop-low.low + (c.loop-low.high - c.loop-low.low) / 2) × (c.loop-low.low + (c.loop-low.high - c.loop-low.low) / 2 < c.loop-low.high) × (c.loop-low.high ≤ most_keys) =
+    let middle : (c.loop-low.low ≤ c.loop-low.low + (c.loop-low.high - c.loop-low.low) / 2) × (c.loop-low.low + (c.loop-low.high - c.loop-low.low) / 2 < c.loop-low.high)
+    × (c.loop-low.high ≤ most_keys) =
     let l = c.loop-low in
     let h = half l.low l.high c.loop-low-test.true in
     (h.0, h.1, omega (arith, l.invariant.ordered.1, few _ c.requires)) in

@@ -25,7 +25,8 @@ count_at-n-requires c =
 pub walked-first-requires : goal.walked-first-requires
 walked-first-requires c =
     let book : BookGiven c.args.b.now = book_given c.args.b.now c.requires.b_value in
-    let ready : (c.args.member.rated.0 ≤ most_rated) × ((size_of c.count_at-n.result ≤ length c.args.b.now) × ((c.count_at-n.result ≤ most_keys) × (c.minutes_of-minutes.result ≤ 44640))) = let g = book in
+    let ready : (c.args.member.rated.0 ≤ most_rated) × ((size_of c.count_at-n.result ≤ length c.args.b.now) × ((c.count_at-n.result ≤ most_keys) × (c.minutes_of-minutes.result ≤ 44640))) = let g
+    = book in
     let n = c.count_at-n.ensures.0 in
     ((line_of c.args.member c.requires.member_value).rated.1, (omega (arith, g.size), (omega (arith, g.few), rw c.minutes_of-minutes.ensures (minutes_most _ _)))) in
     let told = ready in
@@ -34,7 +35,8 @@ walked-first-requires c =
 pub walked-second-requires : goal.walked-second-requires
 walked-second-requires c =
     let book : BookGiven c.args.b.now = book_given c.args.b.now c.requires.b_value in
-    let ready : (c.args.member.rated.0 ≤ most_rated) × ((size_of c.count_at-n.result ≤ length c.args.b.now) × ((c.count_at-n.result ≤ most_keys) × (c.minutes_of-minutes.result ≤ 44640))) = let g = book in
+    let ready : (c.args.member.rated.0 ≤ most_rated) × ((size_of c.count_at-n.result ≤ length c.args.b.now) × ((c.count_at-n.result ≤ most_keys) × (c.minutes_of-minutes.result ≤ 44640))) = let g
+    = book in
     let n = c.count_at-n.ensures.0 in
     ((line_of c.args.member c.requires.member_value).rated.1, (omega (arith, g.size), (omega (arith, g.few), rw c.minutes_of-minutes.ensures (minutes_most _ _)))) in
     let told = ready in
@@ -43,7 +45,8 @@ walked-second-requires c =
 pub others_earned-other-requires : goal.others_earned-other-requires
 others_earned-other-requires c =
     let book : BookGiven c.args.b.now = book_given c.args.b.now c.requires.b_value in
-    let ready : (c.args.member.rated.0 ≤ most_rated) × ((size_of c.count_at-n.result ≤ length c.args.b.now) × ((c.count_at-n.result ≤ most_keys) × (c.minutes_of-minutes.result ≤ 44640))) = let g = book in
+    let ready : (c.args.member.rated.0 ≤ most_rated) × ((size_of c.count_at-n.result ≤ length c.args.b.now) × ((c.count_at-n.result ≤ most_keys) × (c.minutes_of-minutes.result ≤ 44640))) = let g
+    = book in
     let n = c.count_at-n.ensures.0 in
     ((line_of c.args.member c.requires.member_value).rated.1, (omega (arith, g.size), (omega (arith, g.few), rw c.minutes_of-minutes.ensures (minutes_most _ _)))) in
     let r = ready in
@@ -59,7 +62,8 @@ others_earned-other-requires c =
 pub overflow_add-sum : goal.overflow_add-sum
 overflow_add-sum c =
     let book : BookGiven c.args.b.now = book_given c.args.b.now c.requires.b_value in
-    let ready : (c.args.member.rated.0 ≤ most_rated) × ((size_of c.count_at-n.result ≤ length c.args.b.now) × ((c.count_at-n.result ≤ most_keys) × (c.minutes_of-minutes.result ≤ 44640))) = let g = book in
+    let ready : (c.args.member.rated.0 ≤ most_rated) × ((size_of c.count_at-n.result ≤ length c.args.b.now) × ((c.count_at-n.result ≤ most_keys) × (c.minutes_of-minutes.result ≤ 44640))) = let g
+    = book in
     let n = c.count_at-n.ensures.0 in
     ((line_of c.args.member c.requires.member_value).rated.1, (omega (arith, g.size), (omega (arith, g.few), rw c.minutes_of-minutes.ensures (minutes_most _ _)))) in
     let r = ready in
@@ -70,7 +74,8 @@ overflow_add-sum c =
 pub overflow_add-sum-2 : goal.overflow_add-sum-2
 overflow_add-sum-2 c =
     let book : BookGiven c.args.b.now = book_given c.args.b.now c.requires.b_value in
-    let ready : (c.args.member.rated.0 ≤ most_rated) × ((size_of c.count_at-n.result ≤ length c.args.b.now) × ((c.count_at-n.result ≤ most_keys) × (c.minutes_of-minutes.result ≤ 44640))) = let g = book in
+    let ready : (c.args.member.rated.0 ≤ most_rated) × ((size_of c.count_at-n.result ≤ length c.args.b.now) × ((c.count_at-n.result ≤ most_keys) × (c.minutes_of-minutes.result ≤ 44640))) = let g
+    = book in
     let n = c.count_at-n.ensures.0 in
     ((line_of c.args.member c.requires.member_value).rated.1, (omega (arith, g.size), (omega (arith, g.few), rw c.minutes_of-minutes.ensures (minutes_most _ _)))) in
     let r = ready in
@@ -82,7 +87,8 @@ overflow_add-sum-2 c =
 pub month_pay-requires : goal.month_pay-requires
 month_pay-requires c =
     let book : BookGiven c.args.b.now = book_given c.args.b.now c.requires.b_value in
-    let ready : (c.args.member.rated.0 ≤ most_rated) × ((size_of c.count_at-n.result ≤ length c.args.b.now) × ((c.count_at-n.result ≤ most_keys) × (c.minutes_of-minutes.result ≤ 44640))) = let g = book in
+    let ready : (c.args.member.rated.0 ≤ most_rated) × ((size_of c.count_at-n.result ≤ length c.args.b.now) × ((c.count_at-n.result ≤ most_keys) × (c.minutes_of-minutes.result ≤ 44640))) = let g
+    = book in
     let n = c.count_at-n.ensures.0 in
     ((line_of c.args.member c.requires.member_value).rated.1, (omega (arith, g.size), (omega (arith, g.few), rw c.minutes_of-minutes.ensures (minutes_most _ _)))) in
     let r = ready in

@@ -42,5 +42,6 @@ gap_of-requires c =
 pub returns : goal.returns
 returns c =
     c.share_gap.ensures c.args.part
-    (gap_is c.args.part (spelt_lines c.args.s.now c.args.count) c.sums_at-t.result.compensated.0 c.sums_at-t.result.assessed.0 _ _ _ _ c.sums_at-t.ensures.compensated_value c.sums_at-t.ensures.assessed_value
+    (gap_is c.args.part (spelt_lines c.args.s.now c.args.count) c.sums_at-t.result.compensated.0 c.sums_at-t.result.assessed.0 _ _ _ _ c.sums_at-t.ensures.compensated_value
+    c.sums_at-t.ensures.assessed_value
     c.gap_of.ensures.amount_value c.gap_of.ensures.negative_value c.gap_of.ensures.whole_value c.gap_of.ensures.user_value)

@@ -22,7 +22,8 @@ returns-then-amount-all c =
     let room : length c.weights_into.new.weights ≡ c.args.count = c.weights_into.auto.weights ∙ length-take-le {A = ℕ} c.args.count (replicate 64 0) (omega (arith, c.requires.count_le_most_number)) in
     let weighed : c.weights_into.new.weights ≡ weights_of c.args.g.negative (spelt_lines c.args.s.now c.args.count) = c.weights_into.ensures
     ∙ ap (λ (k : ℕ). weights_of c.args.g.negative (spelt_lines c.args.s.now k)) (length-take-le {A = ℕ} c.args.count (replicate 64 0) (omega (arith, c.requires.count_le_most_number))) in
-    let summed : c.total-all.result ≡ total (weights_of c.args.g.negative (spelt_lines c.args.s.now c.args.count)) = c.total-all.ensures ∙ ap total (take_at c.weights_into.new.weights _ _ room ∙ weighed) in
+    let summed : c.total-all.result ≡ total (weights_of c.args.g.negative (spelt_lines c.args.s.now c.args.count)) = c.total-all.ensures ∙ ap total
+    (take_at c.weights_into.new.weights _ _ room ∙ weighed) in
     λ part g.
     let ws = weights_of c.args.g.negative (spelt_lines c.args.s.now c.args.count) in
     let t = none_weighs c.args.g.amount.0 c.total-all.result c.if-amount-all.true in
@@ -34,7 +35,8 @@ returns-then-out-count c =
     let room : length c.weights_into.new.weights ≡ c.args.count = c.weights_into.auto.weights ∙ length-take-le {A = ℕ} c.args.count (replicate 64 0) (omega (arith, c.requires.count_le_most_number)) in
     let weighed : c.weights_into.new.weights ≡ weights_of c.args.g.negative (spelt_lines c.args.s.now c.args.count) = c.weights_into.ensures
     ∙ ap (λ (k : ℕ). weights_of c.args.g.negative (spelt_lines c.args.s.now k)) (length-take-le {A = ℕ} c.args.count (replicate 64 0) (omega (arith, c.requires.count_le_most_number))) in
-    let summed : c.total-all.result ≡ total (weights_of c.args.g.negative (spelt_lines c.args.s.now c.args.count)) = c.total-all.ensures ∙ ap total (take_at c.weights_into.new.weights _ _ room ∙ weighed) in
+    let summed : c.total-all.result ≡ total (weights_of c.args.g.negative (spelt_lines c.args.s.now c.args.count)) = c.total-all.ensures ∙ ap total
+    (take_at c.weights_into.new.weights _ _ room ∙ weighed) in
     λ part g.
     let ws = weights_of c.args.g.negative (spelt_lines c.args.s.now c.args.count) in
     let way = some_weighs c.args.g.amount.0 c.total-all.result ws summed c.if-amount-all.false in
@@ -43,10 +45,12 @@ returns-then-out-count c =
 
 pub write_shared-requires-clause-weights_bound : goal.write_shared-requires-clause-weights_bound
 write_shared-requires-clause-weights_bound c =
-    let asked = let room : length c.weights_into.new.weights ≡ c.args.count = c.weights_into.auto.weights ∙ length-take-le {A = ℕ} c.args.count (replicate 64 0) (omega (arith, c.requires.count_le_most_number)) in
+    let asked = let room : length c.weights_into.new.weights ≡ c.args.count = c.weights_into.auto.weights ∙ length-take-le {A = ℕ} c.args.count (replicate 64 0)
+    (omega (arith, c.requires.count_le_most_number)) in
     let weighed : c.weights_into.new.weights ≡ weights_of c.args.g.negative (spelt_lines c.args.s.now c.args.count) = c.weights_into.ensures
     ∙ ap (λ (k : ℕ). weights_of c.args.g.negative (spelt_lines c.args.s.now k)) (length-take-le {A = ℕ} c.args.count (replicate 64 0) (omega (arith, c.requires.count_le_most_number))) in
-    let summed : c.total-all.result ≡ total (weights_of c.args.g.negative (spelt_lines c.args.s.now c.args.count)) = c.total-all.ensures ∙ ap total (take_at c.weights_into.new.weights _ _ room ∙ weighed) in
+    let summed : c.total-all.result ≡ total (weights_of c.args.g.negative (spelt_lines c.args.s.now c.args.count)) = c.total-all.ensures ∙ ap total
+    (take_at c.weights_into.new.weights _ _ room ∙ weighed) in
     let ws = weights_of c.args.g.negative (spelt_lines c.args.s.now c.args.count) in
     let way = some_weighs c.args.g.amount.0 c.total-all.result ws summed c.if-amount-all.false in
     shared_ready c.args.s.now c.args.count c.args.g.amount.0 c.args.g.negative _ (take_at c.weights_into.new.weights _ _ room ∙ weighed)
@@ -58,7 +62,8 @@ returns c =
     let room : length c.weights_into.new.weights ≡ c.args.count = c.weights_into.auto.weights ∙ length-take-le {A = ℕ} c.args.count (replicate 64 0) (omega (arith, c.requires.count_le_most_number)) in
     let weighed : c.weights_into.new.weights ≡ weights_of c.args.g.negative (spelt_lines c.args.s.now c.args.count) = c.weights_into.ensures
     ∙ ap (λ (k : ℕ). weights_of c.args.g.negative (spelt_lines c.args.s.now k)) (length-take-le {A = ℕ} c.args.count (replicate 64 0) (omega (arith, c.requires.count_le_most_number))) in
-    let summed : c.total-all.result ≡ total (weights_of c.args.g.negative (spelt_lines c.args.s.now c.args.count)) = c.total-all.ensures ∙ ap total (take_at c.weights_into.new.weights _ _ room ∙ weighed) in
+    let summed : c.total-all.result ≡ total (weights_of c.args.g.negative (spelt_lines c.args.s.now c.args.count)) = c.total-all.ensures ∙ ap total
+    (take_at c.weights_into.new.weights _ _ room ∙ weighed) in
     λ part g.
     let ws = weights_of c.args.g.negative (spelt_lines c.args.s.now c.args.count) in
     let way = some_weighs c.args.g.amount.0 c.total-all.result ws summed c.if-amount-all.false in

@@ -20,7 +20,8 @@ loop-i-preserved c =
     let is = c.weight_of.ensures ∙ ap (λ (x : Line). weight_of a.negative x) c.fields_at-l.ensures in (
       omega (arith, c.loop-i.invariant.1),
       simp length-set c.loop-i.invariant.1,
-      over_step a.weights.now (weights_of a.negative (spelt_lines a.s.now n)) c.loop-i.weights c.loop-i.i 0 _ c.loop-i.invariant.2 (omega (arith, c.loop-i.invariant.1)) (omega (arith, c.loop-i.invariant.1, long))
+      over_step a.weights.now (weights_of a.negative (spelt_lines a.s.now n)) c.loop-i.weights c.loop-i.i 0 _ c.loop-i.invariant.2 (omega (arith, c.loop-i.invariant.1))
+          (omega (arith, c.loop-i.invariant.1, long))
           (row_weight a.s.now n a.negative c.loop-i.i (omega (arith, c.loop-i.invariant.1)) ∙ sym is),
     )
 
@@ -29,4 +30,5 @@ returns c =
     let a = c.args in
     let n = length a.weights.now in
     let long = length_row_weights a.s.now n a.negative in
-    over_end a.weights.now (weights_of a.negative (spelt_lines a.s.now n)) c.loop-i.weights c.loop-i.i c.loop-i.invariant.2 (omega (arith, c.loop-i.invariant.1, long)) (omega (arith, c.loop-i.invariant.1))
+    over_end a.weights.now (weights_of a.negative (spelt_lines a.s.now n)) c.loop-i.weights c.loop-i.i c.loop-i.invariant.2 (omega (arith, c.loop-i.invariant.1, long))
+    (omega (arith, c.loop-i.invariant.1))

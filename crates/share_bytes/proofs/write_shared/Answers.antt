@@ -17,13 +17,15 @@ shares_into-requires c = record {
 
 pub write_parts-requires-clause-by_index : goal.write_parts-requires-clause-by_index
 write_parts-requires-clause-by_index c =
-    let asked = let long : length c.shares_into.new.shares ≡ length c.args.weights.now = c.shares_into.auto.shares ∙ length-take-le {A = ℕ} (length c.args.weights.now) (replicate 64 0) (omega (arith, c.requires.weights_len_bound)) in
+    let asked = let long : length c.shares_into.new.shares ≡ length c.args.weights.now = c.shares_into.auto.shares ∙ length-take-le {A = ℕ} (length c.args.weights.now) (replicate 64 0)
+    (omega (arith, c.requires.weights_len_bound)) in
     parts_ready c.args.s.now c.args.out.now c.args.weights.now _ c.args.amount.0 (take_at c.shares_into.new.shares _ _ long ∙ c.shares_into.ensures)
     c.requires.weights_in_bounds c.requires.lines_within c.requires.part_size_in_bounds c.requires.amount_le_most_compensation c.requires.weights_nonzero in
     asked.1.1.1
 
 pub returns : goal.returns
 returns c =
-    let long : length c.shares_into.new.shares ≡ length c.args.weights.now = c.shares_into.auto.shares ∙ length-take-le {A = ℕ} (length c.args.weights.now) (replicate 64 0) (omega (arith, c.requires.weights_len_bound)) in
+    let long : length c.shares_into.new.shares ≡ length c.args.weights.now = c.shares_into.auto.shares ∙ length-take-le {A = ℕ} (length c.args.weights.now) (replicate 64 0)
+    (omega (arith, c.requires.weights_len_bound)) in
     parts_as c.args.s.now c.args.out.now c.args.weights.now _ c.args.amount.0 (take_at c.shares_into.new.shares _ _ long ∙ c.shares_into.ensures)
     c.args.negative c.args.user.0 c.write_parts.ensures c.write_part.ensures

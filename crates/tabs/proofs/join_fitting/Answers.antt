@@ -14,7 +14,16 @@ pub bring_forward-requires : goal.bring_forward-requires
 bring_forward-requires c =
     let k = joined_keys _ _ _ c.join_sound-joined.result _ c.join_sound-joined.ensures c.if-joined-ne0.false in
     let t = joined_turns _ _ _ c.requires.accepted c.requires.accepted_2 c.join_sound-joined.result _ k.2 in
-    record { accepted = c.requires.accepted; accepted_2 = c.requires.accepted_2; first_value = c.requires.first_value; first_value_2 = c.requires.first_value_2; page_size_in_bounds = c.requires.page_size_in_bounds; all_value = t; all_le_most_keys = rw t k.0 }
+    record {
+      accepted = c.requires.accepted;
+      accepted_2 = c.requires.accepted_2;
+      first_value = c.requires.first_value;
+      first_value_2 = c.requires.first_value_2;
+      page_size_in_bounds =
+          c.requires.page_size_in_bounds;
+      all_value = t;
+      all_le_most_keys = rw t k.0;
+    }
 
 pub returns : goal.returns
 returns c =

@@ -16,7 +16,8 @@ loop-i-preserved c =
     let l = c.loop-i in
     record {
       few = omega arith;
-      front = ap (λ (a : List LimitedLine). set a l.i (get_or c.args.lines.now l.i blank_limited)) l.invariant.front ∙ gathered_more c.args.lines.now l.i ∙ ap (gathered c.args.lines.now) (sym (add-one l.i));
+      front = ap (λ (a : List LimitedLine). set a l.i (get_or c.args.lines.now l.i blank_limited)) l.invariant.front ∙ gathered_more c.args.lines.now l.i ∙ ap (gathered c.args.lines.now)
+          (sym (add-one l.i));
     }
 
 pub loop-j-init : goal.loop-j-init

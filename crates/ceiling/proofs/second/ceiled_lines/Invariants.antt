@@ -9,7 +9,8 @@ use Rattle.ceiling.proofs.second.ceiled_lines.Given as goal
 
 abbrev pub invariant-loop-i : goal.invariant-loop-i
 invariant-loop-i l =
-    (l.i ≤ l.count) × (length l.out ≡ 64) × (l.out ≡ over l.initial.out (ceiled_lines (ceiled_by (parts_in (take l.count l.shared)) (take l.count l.us) (take l.count l.gs)) (cleared_lines l.lines)) l.i)
+    (l.i ≤ l.count) × (length l.out ≡ 64) × (l.out ≡ over l.initial.out (ceiled_lines (ceiled_by (parts_in (take l.count l.shared)) (take l.count l.us) (take l.count l.gs))
+    (cleared_lines l.lines)) l.i)
 
 abbrev pub decreases-loop-i : goal.decreases-loop-i
 decreases-loop-i l = l.count - l.i

@@ -16,7 +16,8 @@ loop-i-preserved c =
     let lu = length_uncollected_of c.args.lines c.args.shared c.args.count (omega arith) (omega arith) in (
       omega arith,
       simp length-set c.loop-i.invariant.1,
-      over_step (replicate 64 0) (uncollected_of (take c.args.count c.args.lines) (parts_in (take c.args.count c.args.shared))) c.loop-i.us c.loop-i.i 0 _ c.loop-i.invariant.2 (omega arith) (omega arith)
+      over_step (replicate 64 0) (uncollected_of (take c.args.count c.args.lines) (parts_in (take c.args.count c.args.shared))) c.loop-i.us c.loop-i.i 0 _ c.loop-i.invariant.2 (omega arith)
+          (omega arith)
           (uncollected_of_lem c.args.lines c.args.shared c.args.count c.loop-i.i (omega arith) (omega arith) (omega arith) ∙ sym c.beyond.ensures),
     )
 

@@ -25,7 +25,11 @@ pub decide_at-requires : goal.decide_at-requires
 decide_at-requires c =
     let in_others : c.in-At.j < count_at c.args.others.now =
     let r = c.index_of-index in index_in _ _ r.result r.ensures c.in-At.j c.in-At.is in
-    record { record_size_in_bounds = omega (arith, fits _ c.in-At.j c.requires.accepted in_others, c.place_of.ensures); record_size_in_bounds_2 = omega (arith, fits _ c.args.i c.requires.accepted_2 c.requires.i_bound, c.place_of-in-At.ensures) }
+    record {
+      record_size_in_bounds = omega (arith, fits _ c.in-At.j c.requires.accepted in_others, c.place_of.ensures);
+      record_size_in_bounds_2 = omega
+          (arith, fits _ c.args.i c.requires.accepted_2 c.requires.i_bound, c.place_of-in-At.ensures);
+    }
 
 pub returns-in-Missing : goal.returns-in-Missing
 returns-in-Missing c =

@@ -28,7 +28,12 @@ pub refusal_of-number-requires : goal.refusal_of-number-requires
 refusal_of-number-requires c =
     let inside : c.loop-at.at < count_at c.args.b.now =
     omega (arith, c.count_at-n.ensures.0) in
-    let f = c.first_own-first in record { has_record = (fits _ _ c.requires inside).1; i_bound = state_low _ _ (all_sound _ c.requires _ inside); none_before = before_own c.args.member.number (record_at c.args.b.now) _ f.result f.ensures }
+    let f = c.first_own-first in record {
+      has_record = (fits _ _ c.requires inside).1;
+      i_bound = state_low _ _ (all_sound _ c.requires _ inside);
+      none_before = before_own c.args.member.number
+          (record_at c.args.b.now) _ f.result f.ensures;
+    }
 
 pub refused_at-told-requires : goal.refused_at-told-requires
 refused_at-told-requires c =

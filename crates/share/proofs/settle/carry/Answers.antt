@@ -42,7 +42,8 @@ shares_of-shares-requires c =
     let long : length c.args.lines ≡ 64 = search rules in
     let l = length-take-le c.args.count c.args.lines (omega arith) in
     rw c.weights_of-ws.ensures (omega (arith, weights_le c.args.g.negative ls c.requires.counted_within.1)) in
-    let weighty : 0 < c.args.g.amount.0 → 0 < total (take c.args.count c.weights_of-ws.result) = λ h. elim c.if-amount-gt0.branch [ then-amount-gt0+else-all-eq0 w ↦ omega (arith, c.total-all.ensures) | else-amount-gt0 w ↦ omega arith ] in record {
+    let weighty : 0 < c.args.g.amount.0 → 0 < total (take c.args.count c.weights_of-ws.result) = λ h. elim c.if-amount-gt0.branch
+    [ then-amount-gt0+else-all-eq0 w ↦ omega (arith, c.total-all.ensures) | else-amount-gt0 w ↦ omega arith ] in record {
       count_bound = c.requires.counted_within.0;
       amount_bound = omega (arith, c.requires.amount_le_most_compensation);
       weights_bound = sum_fits;
@@ -51,7 +52,8 @@ shares_of-shares-requires c =
 
 pub returns : goal.returns
 returns c =
-    let weighty : 0 < c.args.g.amount.0 → 0 < total (take c.args.count c.weights_of-ws.result) = λ h. elim c.if-amount-gt0.branch [ then-amount-gt0+else-all-eq0 w ↦ omega (arith, c.total-all.ensures) | else-amount-gt0 w ↦ omega arith ] in
+    let weighty : 0 < c.args.g.amount.0 → 0 < total (take c.args.count c.weights_of-ws.result) = λ h. elim c.if-amount-gt0.branch
+    [ then-amount-gt0+else-all-eq0 w ↦ omega (arith, c.total-all.ensures) | else-amount-gt0 w ↦ omega arith ] in
     let all_is : let a = c.args in
     a.g.negative ≡ below (take a.count a.lines) → total (take a.count c.weights_of-ws.result) ≡ all_weights (take a.count a.lines) = λ e. let a = c.args in
     ap total c.weights_of-ws.ensures ∙ ap (λ (b : Bool). total (weights_of b (take a.count a.lines))) e in

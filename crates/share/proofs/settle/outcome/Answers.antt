@@ -44,7 +44,8 @@ settle-requires c =
       e ∙ ap (first_bad_line 0) (take_seen c.args.lines c.args.count n long c.seen.ensures.0),
       omega (arith, e, bad_le 0 (take n c.args.lines), l, c.seen.ensures.2),
     ) in
-    let all_sound : (c.args.count ≤ 64) × (c.args.count ≤ first_bad_line 0 (take c.args.count c.args.lines)) = let b = bad_is in (omega (arith, b.1, c.if-bad-count.false), omega (arith, b.0, c.if-bad-count.false)) in
+    let all_sound : (c.args.count ≤ 64) × (c.args.count ≤ first_bad_line 0 (take c.args.count c.args.lines)) = let b = bad_is in
+    (omega (arith, b.1, c.if-bad-count.false), omega (arith, b.0, c.if-bad-count.false)) in
     let a = all_sound in
     let long : length c.args.lines ≡ 64 = search rules in
     let l = length-take-le c.args.count c.args.lines (omega (arith, a.0)) in record {
@@ -61,7 +62,8 @@ returns c =
       e ∙ ap (first_bad_line 0) (take_seen c.args.lines c.args.count n long c.seen.ensures.0),
       omega (arith, e, bad_le 0 (take n c.args.lines), l, c.seen.ensures.2),
     ) in
-    let all_sound : (c.args.count ≤ 64) × (c.args.count ≤ first_bad_line 0 (take c.args.count c.args.lines)) = let b = bad_is in (omega (arith, b.1, c.if-bad-count.false), omega (arith, b.0, c.if-bad-count.false)) in
+    let all_sound : (c.args.count ≤ 64) × (c.args.count ≤ first_bad_line 0 (take c.args.count c.args.lines)) = let b = bad_is in
+    (omega (arith, b.1, c.if-bad-count.false), omega (arith, b.0, c.if-bad-count.false)) in
     let a = all_sound in
     let ls = take c.args.count c.args.lines in
     subst (λ (o : SharingOutcome). Carries c.args.lines c.args.count o c.settle.result)

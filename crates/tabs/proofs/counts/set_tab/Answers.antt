@@ -41,4 +41,5 @@ returns c =
     c.tab_at-t.ensures ∙ ap (tab_at c.args.page.now) c.tab_place-at.ensures in
     let sums : c.tab_at-t.result.live + c.tab_at-t.result.contested + c.tab_at-t.result.withdrawn ≡ states_on c.args.page.now c.args.member =
     ap (λ (t : Tab). t.live + t.contested + t.withdrawn) reads in
-    let tab = retab_is c.args.below c.args.all c.index_for-index.result c.tab_at-t.result c.index_for-index.ensures ∙ ap (retab c.args.below c.args.all) reads in record { value = ap (λ (k : ℕ). c.args.below + k) sums; stores = rw (tab, c.tab_place-at.ensures) at c.put_tab.ensures }
+    let tab = retab_is c.args.below c.args.all c.index_for-index.result c.tab_at-t.result c.index_for-index.ensures ∙ ap (retab c.args.below c.args.all) reads in record
+    { value = ap (λ (k : ℕ). c.args.below + k) sums; stores = rw (tab, c.tab_place-at.ensures) at c.put_tab.ensures }

@@ -5,7 +5,12 @@ use Rattle.tabs.proofs.counts.set_tabs.Goals as goal
 
 pub set_tab-below-requires : goal.set_tab-below-requires
 set_tab-below-requires c =
-    let m = c.loop-member.invariant.member in record { page_size_in_bounds = omega (arith, length_stored c.loop-member.invariant.is, c.requires.page_size_in_bounds); counted = record { member = (m.0, c.loop-member-test.true); state = omega arith }; member_bound = sum_fits c.loop-member.invariant c.loop-member-test.true c.requires.most_participant_bound }
+    let m = c.loop-member.invariant.member in record {
+      page_size_in_bounds = omega (arith, length_stored c.loop-member.invariant.is, c.requires.page_size_in_bounds);
+      counted = record
+          { member = (m.0, c.loop-member-test.true); state = omega arith };
+      member_bound = sum_fits c.loop-member.invariant c.loop-member-test.true c.requires.most_participant_bound;
+    }
 
 pub loop-member-preserved : goal.loop-member-preserved
 loop-member-preserved c =

@@ -16,7 +16,13 @@ copy_page-requires c =
 
 pub count_in-requires : goal.count_in-requires
 count_in-requires c =
-    record { accepted = c.requires.accepted; accepted_2 = c.requires.accepted_2; first_value = c.requires.first_value_2; counts_of = counts_copied _ _ c.requires.first_value_2 c.requires.page_size_in_bounds c.copy_page.ensures }
+    record {
+      accepted = c.requires.accepted;
+      accepted_2 = c.requires.accepted_2;
+      first_value = c.requires.first_value_2;
+      counts_of = counts_copied _ _ c.requires.first_value_2
+          c.requires.page_size_in_bounds c.copy_page.ensures;
+    }
 
 pub set_tabs-requires : goal.set_tabs-requires
 unfolding IsBytes joined_of
@@ -28,7 +34,11 @@ set_tabs-requires c =
     let o = counts_copied _ _ c.requires.first_value_2 c.requires.page_size_in_bounds c.copy_page.ensures in
     let t = total _ _ first second c.requires.accepted c.requires.accepted_2 c.requires.first_value o c.count_in.ensures in
     let a = all_is in
-    record { page_size_in_bounds = omega (arith, c.count_in.ensures.long, length_stored c.copy_page.ensures, c.requires.page_size_in_bounds); most_participant_bound = omega (arith, c.requires.all_le_most_keys) }
+    record {
+      page_size_in_bounds = omega (arith, c.count_in.ensures.long, length_stored c.copy_page.ensures, c.requires.page_size_in_bounds);
+      most_participant_bound = omega
+          (arith, c.requires.all_le_most_keys);
+    }
 
 pub returns : goal.returns
 unfolding IsBytes joined_of

@@ -41,7 +41,11 @@ returns c =
     let unknown : let s = c.args in is_at s.first.now c.find_from-f.result.at (call_key (call_at s.second.now s.b)) ≡ false =
     sym c.find_from-f.ensures.known ∙ c.if-f.false in
     let g = c.requires.meeting in
-    let k = not_known (meets g c.find_from-f.ensures) unknown in record { passed = passed g c.find_from-f.ensures; recounted = counted_as (λ m n. k.loses m n ∙ sym (no_hit m n)) k.gains (rw (g.is, c.state_at.ensures) at c.add_one.ensures) }
+    let k = not_known (meets g c.find_from-f.ensures) unknown in record {
+      passed = passed g c.find_from-f.ensures;
+      recounted = counted_as (λ m n. k.loses m n ∙ sym (no_hit m n)) k.gains
+          (rw (g.is, c.state_at.ensures) at c.add_one.ensures);
+    }
 
 pub state_at-requires : goal.state_at-requires
 state_at-requires c = let g = c.requires.meeting in (lies g.in_second g.there).long

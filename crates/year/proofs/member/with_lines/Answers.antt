@@ -41,7 +41,8 @@ loop-i-preserved c =
     let room = c.loop-i.invariant.1 in (
       omega arith,
       simp length-set room,
-      lines_on c.args.lines c.args.count (omega arith) c.loop-i.i (omega arith) c.loop-i.out (with_lines c.args.members c.args.month (take c.args.count c.args.lines)) c.args.month c.member_with.result _
+      lines_on c.args.lines c.args.count (omega arith) c.loop-i.i (omega arith) c.loop-i.out (with_lines c.args.members c.args.month (take c.args.count c.args.lines)) c.args.month
+          c.member_with.result _
           (omega (arith, line.number, room)) c.member_with.ensures c.loop-i.invariant.2,
     )
 

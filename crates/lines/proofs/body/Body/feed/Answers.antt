@@ -3,7 +3,13 @@ use native.Mathlib.Omega.{arith}
 use lib.ListN.{get_or}
 use Rattle.lines.proofs.Sheets.{feed_on, in_place, out_of_place, ByteRead, digit_arm, line_arm, blank_arm, bad_arm}
 use Rattle.lines.proofs.body.Body.feed.Goals as goal
-use Rattle.lines.proofs.body.Body.feed.Goals.{then-is_digit, else-is_digit+then-b-eq10+then-sheet-l, else-is_digit+then-b-eq10+else-sheet-l, else-is_digit+else-b-eq10+then-b-row, else-is_digit+else-b-eq10+else-b-row}
+use Rattle.lines.proofs.body.Body.feed.Goals.{
+  then-is_digit,
+  else-is_digit+then-b-eq10+then-sheet-l,
+  else-is_digit+then-b-eq10+else-sheet-l,
+  else-is_digit+else-b-eq10+then-b-row,
+  else-is_digit+else-b-eq10+else-b-row,
+}
 
 pub loop-i-preserved : goal.loop-i-preserved
 loop-i-preserved c =
@@ -21,5 +27,6 @@ loop-i-preserved c =
     ] in (
       omega arith,
       step.long ∙ c.loop-i.invariant.1,
-      feed_on b c.loop-i.i c.args.self (record { row = c.loop-i.row; sheet = c.loop-i.sheet }) (record { row = c.if-is_digit.row; sheet = c.if-is_digit.sheet }) (omega arith) step.says c.loop-i.invariant.2,
+      feed_on b c.loop-i.i c.args.self (record { row = c.loop-i.row; sheet = c.loop-i.sheet }) (record { row = c.if-is_digit.row; sheet = c.if-is_digit.sheet }) (omega arith) step.says
+          c.loop-i.invariant.2,
     )

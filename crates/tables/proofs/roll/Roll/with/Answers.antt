@@ -32,7 +32,8 @@ pub returns-then-at-ge-MOST_ENTRIES : goal.returns-then-at-ge-MOST_ENTRIES
 returns-then-at-ge-MOST_ENTRIES c =
     let a = c.args in record {
       by_index = (λ rows. with_full register_entries lawful (roll_so_far a.self) (said a.grid a.ended) c.if-self.false
-          (roll_so_far c.refuse-then-at-ge-MOST_ENTRIES.result) (c.refuse-then-at-ge-MOST_ENTRIES.ensures.0, c.refuse-then-at-ge-MOST_ENTRIES.ensures.1) c.if-at-ge-MOST_ENTRIES.true (map as_entry rows));
+          (roll_so_far c.refuse-then-at-ge-MOST_ENTRIES.result) (c.refuse-then-at-ge-MOST_ENTRIES.ensures.0, c.refuse-then-at-ge-MOST_ENTRIES.ensures.1) c.if-at-ge-MOST_ENTRIES.true
+          (map as_entry rows));
       blank_value = c.refuse-then-at-ge-MOST_ENTRIES.ensures.2;
     }
 
