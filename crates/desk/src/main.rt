@@ -33,6 +33,7 @@ fn main(rt: HostRuntime) {
 }
 
 // What needs little stack, in two groups: the commands on books, with help and version; those on one member, and the year.
+#[inline(never)]
 fn on_books(terminal: &Terminal, command: Command) {
     match command {
         Command::Check => check_book(terminal),
@@ -52,6 +53,7 @@ fn on_books(terminal: &Terminal, command: Command) {
     }
 }
 
+#[inline(never)]
 fn on_members(terminal: &Terminal, command: Command) {
     match command {
         Command::Score => score_member(terminal),
@@ -65,6 +67,7 @@ fn on_members(terminal: &Terminal, command: Command) {
 
 // The command that a word is; `--help` is `help`. That is said by a call of itself for the stack's sake: into a function that calls itself the compiler takes no large frame of another,
 // so that a command takes the stack that it needs, and not that of the month and the drawer (tests/program-stack).
+#[inline(never)]
 fn run(terminal: &Terminal, word: &[u8]) {
     if 2 < word.len() {
         if is_word(word, b"--help") {
