@@ -5,7 +5,6 @@
  *  2  nwb_share takes the generator part and gives the user's amount besides: a tool built with edition 1 must be built anew.
  *  3  books of version 2, of up to 2,000 records. No signature is changed; "Two versions", below, says what a caller has to know.
  *  4  nwb_join tells its turns in a cell more: a tool built with an earlier header must be built anew.
- *  5  nwb_tabs and nwb_join_tabs, the page of tabs beside a book. Only functions are added, and no tool need be built anew.
  *
  * What holds for every function:
  *
@@ -38,7 +37,7 @@
 #include <stddef.h>
 #include <stdint.h>
 
-#define NWB_EDITION 5
+#define NWB_EDITION 4
 
 /* The most records of a version 1 book, and of a version 2 book; the longest book of either version in bytes, 16 + 32 * 2,000. */
 #define NWB_MOST_RECORDS_1 512

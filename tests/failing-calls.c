@@ -82,6 +82,11 @@ ssize_t read(int fd, void *buffer, size_t size) {
     return REAL(ssize_t, read, int, void *, size_t)(fd, buffer, wrong && size > 1 ? 1 : size);
 }
 
+ssize_t write(int fd, const void *bytes, size_t size);
+
+// The C library's other name of it.
+ssize_t __write(int fd, const void *bytes, size_t size) { return write(fd, bytes, size); }
+
 ssize_t write(int fd, const void *bytes, size_t size) {
     if (fd == full) {
         errno = ENOSPC;

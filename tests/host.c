@@ -844,7 +844,7 @@ static void check_order(void)
 static void constants(void)
 {
     begin(__LINE__, "nwb.h");
-    want("edition", NWB_EDITION, 5);
+    want("edition", NWB_EDITION, 4);
     want("most records of version 1", NWB_MOST_RECORDS_1, MOST_1);
     want("most records of version 2", NWB_MOST_RECORDS_2, MOST_2);
     want("longest book", NWB_MOST_BOOK, BOOK_MOST);
