@@ -106,6 +106,7 @@ fn tell_words(terminal: &Terminal) {
     );
 }
 
+#[inline(never)]
 fn help(terminal: &Terminal) {
     tell_usages(terminal);
     tell_words(terminal);
@@ -138,6 +139,7 @@ fn tell_version(terminal: &Terminal) {
 }
 
 // A word that is no command.
+#[inline(never)]
 fn unknown(terminal: &Terminal, word: &[u8]) {
     tell_usages(terminal);
     print::failed(terminal, word, b"no such command");
