@@ -1,13 +1,16 @@
 -- The table and its sums, member by member, and the room of its lines. Assumes nothing.
 use mathlib.Core.Path.{◌≡◌, refl, sym, ap, ◌∙◌}
-use mathlib.Core.Bool.{true, false}
+use mathlib.Core.Bool.{Bool, true, false, ◌||◌}
 use mathlib.Core.List.{List, [], ◌∷◌}
-use Prim.Native.Nat.{ℕ, zero, suc, ◌+◌, ◌*◌, ◌<◌}
+use Prim.Native.Nat.{ℕ, zero, suc, ◌+◌, ◌*◌, ◌<◌, ◌≤◌}
 use native.Mathlib.Nat.{not-suc-le-zero}
 use native.Mathlib.Numerals.{add-one}
 use native.Mathlib.Omega.{arith}
 use borrow.Author.Tests.{eq-eqb, ne_eqb}
-use lib.ListN.{length, get_or}
+use lib.ListN.{length, get_or, take}
+use lib.Seq.{take-suc, take_all}
+use Rattle.std.specs.List.{list_any}
+use Rattle.std.proofs.lemmas.List.Folds.{list_any-append}
 use Rattle.render.specs.Inner.{Puts}
 use Rattle.render.proofs.Placed.{and_then, looser, same_put, none_put}
 use Rattle.form.specs.Form.{is_sign, next_marked, most_word_shown, most_shown, most_byte, most_from, filled, most_of}
@@ -43,6 +46,22 @@ pub one_line : {k l : List ℕ} {at r : ℕ} (number : ℕ) (m : MemberYear) →
     → Puts most_line k at (line_text number m) l r
 unfolding line_text
 one_line number m e p = rw e p
+
+-- a member is in a month, said from the first month on and from the last one back
+or_false : (b : Bool) → (b || false) ≡ b
+or_false true = refl
+or_false false = refl
+
+present_in : (ms : List Bool) (n : ℕ) → n ≤ length ms → list_any (λ is. is) (take n ms) ≡ is_present ms n
+unfolding is_present
+present_in ms zero h = refl
+present_in ms (suc n) h =
+    ap (list_any (λ is. is)) (take-suc ms n false (omega arith))
+    ∙ list_any-append (λ is. is) (take n ms) (get_or ms n false ∷ [])
+    ∙ (λ i. present_in ms n (omega arith) i || or_false (get_or ms n false) i)
+
+pub present : (ms : List Bool) → length ms ≡ 12 → list_any (λ is. is) ms ≡ is_present ms 12
+present ms e = ap (list_any (λ is. is)) (sym (take_all 12 ms (omega arith))) ∙ present_in ms 12 (omega arith)
 
 either_default : {A : Type 0} (xs : List A) (k : ℕ) (d e : A) → k < length xs → get_or xs k d ≡ get_or xs k e
 either_default [] k d e h = absurd (not-suc-le-zero h)

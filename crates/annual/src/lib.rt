@@ -3,17 +3,18 @@
 #![tactic(auto)]
 
 ghost use Rattle.std.specs.Prelude.{◌≡◌, ◌+◌, ◌*◌, ◌≤◌, length};
+ghost use Rattle.std.specs.List.{list_any};
 ghost use Rattle.io.specs.Counts.{IsPrefixLen};
 ghost use Rattle.render.specs.Inner.{Puts};
 ghost use Rattle.render.specs.Room.{Renders};
 ghost use Rattle.annual.specs.Forms.{member_values, foot_values};
-ghost use Rattle.annual.specs.Texts.{is_present, line_text, members_text, foot_text, year_of_text, year_text, most_line, most_foot, most_year};
+ghost use Rattle.annual.specs.Texts.{line_text, members_text, foot_text, year_of_text, year_text, most_line, most_foot, most_year};
 
 use form::{fen_bits, fill};
 use forms::{FOOT, HEAD, MEMBER};
 use report::totals::{Totals, apart, short, with_user};
 use units::SignedFen;
-use year::{MOST_MEMBERS, MOST_STATEMENTS, MemberYear, Year};
+use year::{MOST_MEMBERS, MemberYear, Year};
 
 mod forms;
 mod sums;
@@ -24,24 +25,21 @@ use sums::year_totals;
 pub const MOST_YEAR: usize = 17570;
 
 // Whether a month is present.
-fn is_present(m: [bool; MOST_STATEMENTS]) -> bool
-    ensures { result ≡ is_present m 12 }
+fn is_present(months: &[bool]) -> bool
+    ensures { result ≡ list_any (λ present. present) months.now }
 {
-    m[0] | m[1] | m[2] | m[3] | m[4] | m[5] | m[6] | m[7] | m[8] | m[9] | m[10] | m[11]
+    months.iter().any(|present| *present)
 }
 
-fn member_values(number: u16, m: MemberYear) -> [u64; 19]
-    ensures { result ≡ member_values number m }
+fn member_values(number: u16, m: &MemberYear) -> [u64; 19]
+    ensures { result ≡ member_values number m.now }
 {
     let sums = m.sums;
-    let largest = m.largest;
     let w = m.months;
-    let compensation = sums.compensation;
-    let assessment = sums.assessment;
-    let charged = assessment.to_fen();
+    let charged = sums.assessment.to_fen();
     let share = fen_bits(sums.share);
     let amount = fen_bits(sums.amount);
-    let most = fen_bits(largest.amount);
+    let most = fen_bits(m.largest.amount);
     [
         number as u64,
         w[0] as u64,
@@ -56,49 +54,45 @@ fn member_values(number: u16, m: MemberYear) -> [u64; 19]
         w[9] as u64,
         w[10] as u64,
         w[11] as u64,
-        compensation.0,
+        sums.compensation.0,
         charged.0,
         share,
         amount,
         most,
-        largest.month as u64,
+        m.largest.month as u64,
     ]
 }
 
 // A member's line, if it is in a month.
-fn put_line(out: &mut [u8], at: usize, number: u16, m: MemberYear) -> usize
+fn put_line(out: &mut [u8], at: usize, number: u16, m: &MemberYear) -> usize
     requires { at + most_line ≤ length out.old }
-    ensures { Puts most_line out.old at (line_text number m) out.new result }
+    ensures { Puts most_line out.old at (line_text number m.now) out.new result }
 {
-    let months = m.months;
-    if !is_present(months) {
+    if !is_present(&m.months) {
         return at;
     }
     let values = member_values(number, m);
     fill(out, at, &MEMBER, &values)
 }
 
-fn put_members(out: &mut [u8], at: usize, members: [MemberYear; MOST_MEMBERS]) -> usize
+fn put_members(out: &mut [u8], at: usize, members: &[MemberYear; MOST_MEMBERS]) -> usize
     requires { at + 64 * most_line ≤ length out.old }
-    ensures { Puts (64 * most_line) out.old at (members_text members 64) out.new result }
+    ensures { Puts (64 * most_line) out.old at (members_text members.now 64) out.new result }
 {
     let mut next = at;
-    let mut i: usize = 0;
-    while i < MOST_MEMBERS {
-        let m = members[i];
+    for (i, m) in members.iter().enumerate() {
         next = put_line(out, next, (i + 1) as u16, m);
-        i += 1;
     }
     next
 }
 
+#[tactic(auto, unfolding(crate::specs::Forms::foot_values))]
 fn foot_values(users: SignedFen, t: Totals) -> [u64; 5]
     ensures { result ≡ foot_values users.0 t }
 {
-    let users = fen_bits(users);
     let minus = short(t.due, t.owed);
     let left = apart(t.due, t.owed);
-    [users, t.compensation, t.assessment, minus, left]
+    [fen_bits(users), t.compensation, t.assessment, minus, left]
 }
 
 // The users' line and the sums.
@@ -114,14 +108,12 @@ fn put_year(out: &mut [u8], area: u8, y: Year) -> usize
     requires { most_year ≤ length out.old }
     ensures { Puts most_year out.old 0 (year_of_text area y) out.new result }
 {
-    let members = y.members;
-    let users = y.users;
-    let t = year_totals(members);
-    let all = with_user(t, users);
+    let t = year_totals(&y.members);
+    let all = with_user(t, y.users);
     let head = [area as u64, y.year as u64, y.count as u64];
     let a = fill(out, 0, &HEAD, &head);
-    let b = put_members(out, a, members);
-    put_foot(out, b, users, all)
+    let b = put_members(out, a, &y.members);
+    put_foot(out, b, y.users, all)
 }
 
 // The year's table; none of a year that is refused.

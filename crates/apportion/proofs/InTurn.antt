@@ -1,13 +1,12 @@
 -- Remainders that are equally large are served in turn, the lower number first. Assumes nothing.
 use mathlib.Core.Path.{◌≡◌, refl, sym, ap, ◌∙◌}
-use mathlib.Core.Bool.{Bool, true, false, cond, ◌&&◌}
+use mathlib.Core.Bool.{cond}
 use mathlib.Core.List.{List}
 use Prim.Native.Nat.{ℕ, ◌+◌, ◌-◌, ◌≤◌, ◌<◌}
 use native.Mathlib.Decide.{ℕ_discrete}
 use native.Mathlib.Omega.{arith}
-use lib.Dec.{eqb, ltb}
+use lib.Dec.{eqb}
 use lib.ListN.{length, get_or, set, length-set}
-use borrow.Author.Tests.{ltb-true}
 use lib.Seq.{get_or-set_same, get_or-set_other, set-get_or}
 use Rattle.apportion.specs.Giving.{top, largest_at}
 use Rattle.apportion.specs.Ties.{UnitsGiven, UnitInTurn, served, passed}
@@ -26,14 +25,6 @@ given_more g h =
       shares_long = h.shares_long ∙ g.shares_long;
       same = h.same ∙ g.same;
     }
-
--- there is a remainder left while the loop goes on
-pub goes_on_lem : (i n k : ℕ) → (ltb i n && ltb 0 k) ≡ true → i < n
-goes_on_lem i n k e = ltb-true _ _ (first (ltb i n) (ltb 0 k) e)
-  where
-    first : (t u : Bool) → (t && u) ≡ true → t ≡ true
-    first true u e = refl
-    first false u e = e
 
 pub turn_le : {left most r x : ℕ} → UnitInTurn left most r x → x ≤ left
 turn_le (served z p q m) = omega arith

@@ -8,17 +8,12 @@ use native.Mathlib.Omega.{arith}
 use lib.Arith.{lt-one}
 use borrow.Author.Count.{below_more}
 use lib.ListN.{length, get_or, set, take, drop, drop_of_length-le}
-use lib.Seq.{drop-cons, take_all}
+use lib.Seq.{take_all}
 use borrow.Author.Tests.{le-leb, lt-leb}
+use Rattle.std.specs.List.{sum}
+use Rattle.std.proofs.lemmas.List.Recursion.{is_sum_by}
 use Rattle.apportion.specs.Apportion.{total}
 use Rattle.apportion.specs.Giving.{top, largest_at, give_out}
-
--- What is left of a sum: the element at i, and the rest.
-pub total_step : (xs : List ℕ) (i : ℕ) → i < length xs → total (drop i xs) ≡ get_or xs i 0 + total (drop (i + 1) xs)
-total_step xs i h = rw (add-one, drop-cons xs i 0)
-
-pub total_end : (xs : List ℕ) (i : ℕ) → length xs ≤ i → total (drop i xs) ≡ 0
-total_end xs i h = ap total (drop_of_length-le xs h)
 
 -- The largest of a list bounds each element, and is bounded by what bounds them all.
 pub le_top : (xs : List ℕ) (k : ℕ) → get_or xs k 0 ≤ top xs
@@ -96,6 +91,10 @@ give_turn zero rs ss h = absurd (not-suc-le-zero h)
 give_turn (suc k) rs ss h =
     let e : suc k - 1 ≡ k = omega arith in
     rw e
+
+-- The rule's sum is the library's.
+pub total_sum : (xs : List ℕ) → total xs ≡ sum xs
+total_sum xs = is_sum_by total (λ x. x) refl (λ _ _. refl) xs
 
 pub get_d_total : (xs : List ℕ) (i : ℕ) → get_or xs i 0 ≤ total xs
 get_d_total [] i = omega arith

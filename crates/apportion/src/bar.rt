@@ -20,22 +20,22 @@ fn unless_served(bar: u64, r: u64) -> u64
 }
 
 // How many remainders are above the bar.
+#[tactic(auto, using(crate::proofs::Turns::above_step, crate::proofs::Turns::above_le))]
 pub fn count_above(bar: u64, rests: &[u64]) -> u64
     requires bar_bound { bar < 2 ^ 63 }
     requires by_index { (k : ℕ) → get_or rests.now k 0 < 2 ^ 63 }
     ensures { result ≡ count_above bar rests.now }
 {
     let mut n: u64 = 0;
-    let mut i: usize = 0;
-    while i < rests.len() {
-        n += one_above(bar, rests[i]);
-        i += 1;
+    for r in rests {
+        n += one_above(bar, *r);
     }
     n
 }
 
 // A bar, at most `all`, that no more than `left` remainders are above: by halving, until it is exactly so many, or to a thousandth of
 // `all`; few remainders are nearer to each other than that, if they are not equal.
+#[tactic(auto, using(crate::proofs::Turns::above_none))]
 pub fn bar_for(left: u64, all: u64, rests: &[u64]) -> u64
     requires all_bound { all < 2 ^ 63 }
     requires none_above { NoneAbove all rests.now }
@@ -45,6 +45,7 @@ pub fn bar_for(left: u64, all: u64, rests: &[u64]) -> u64
     let mut low: u64 = 0;
     let mut bar = all;
     let fine = all / 1024;
+    // Stays a while: each turn halves what is between `low` and `bar`.
     while low + fine < bar {
         let middle = low + (bar - low) / 2;
         let n = count_above(middle, rests);
@@ -69,11 +70,9 @@ pub fn give_above(bar: u64, rests: &mut [u64], shares: &mut [u64])
     ensures shares_after { shares.new ≡ give_above bar rests.old shares.old }
     ensures rests_after { rests.new ≡ strike_above bar rests.old }
 {
-    let mut i: usize = 0;
-    while i < rests.len() {
+    for i in 0..rests.len() {
         let r = rests[i];
-        shares[i] = shares[i] + one_above(bar, r);
+        shares[i] += one_above(bar, r);
         rests[i] = unless_served(bar, r);
-        i += 1;
     }
 }

@@ -14,17 +14,12 @@ use crate::ties::{count_equal, give_equal};
 use product::product_over;
 
 // The sum of the numbers.
+#[tactic(auto, using(crate::proofs::Loops::total_sum))]
 pub fn total(xs: &[u64]) -> u64
     requires { total xs.now < 2 ^ 64 }
     ensures { result ≡ total xs.now }
 {
-    let mut sum: u64 = 0;
-    let mut i: usize = 0;
-    while i < xs.len() {
-        sum += xs[i];
-        i += 1;
-    }
-    sum
+    xs.iter().sum()
 }
 
 // The place of the largest number, the lowest where several are as large.
@@ -34,12 +29,10 @@ fn largest_at(xs: &[u64]) -> usize
     ensures upper_bound { result < length xs.now }
 {
     let mut best: usize = 0;
-    let mut i: usize = 1;
-    while i < xs.len() {
+    for i in 1..xs.len() {
         if xs[best] < xs[i] {
             best = i;
         }
-        i += 1;
     }
     best
 }
@@ -52,12 +45,10 @@ fn split(amount: u64, all: u64, weights: &[u64], shares: &mut [u64], rests: &mut
     ensures shares_after { shares.new ≡ rounded_down amount all weights.now }
     ensures rests_after { rests.new ≡ remainders amount all weights.now }
 {
-    let mut i: usize = 0;
-    while i < weights.len() {
+    for i in 0..weights.len() {
         let p = product_over(amount, weights[i], all);
         shares[i] = p.q;
         rests[i] = p.r;
-        i += 1;
     }
 }
 
@@ -71,7 +62,7 @@ fn give_most(left: u64, rests: &mut [u64], shares: &mut [u64]) -> u64
     let b = largest_at(rests);
     let most = rests[b];
     rests[b] = 0;
-    shares[b] = shares[b] + 1;
+    shares[b] += 1;
     give_equal(left - 1, most, rests, shares)
 }
 
@@ -81,6 +72,7 @@ fn give_out(left: u64, rests: &mut [u64], shares: &mut [u64])
     ensures { shares.new ≡ give_out left rests.old shares.old }
 {
     let mut k = left;
+    // Stays a while: each turn gives as many units as there are equal remainders.
     while 0 < k {
         k = give_most(k, rests, shares);
     }
@@ -100,6 +92,7 @@ fn give_by_bar(left: u64, all: u64, rests: &mut [u64], shares: &mut [u64])
 }
 
 // The same: where the largest remainders are as many as the units left, these are served in one pass.
+#[tactic(auto, using(crate::proofs::InTurn::largest_most))]
 fn give_left(left: u64, all: u64, rests: &mut [u64], shares: &mut [u64])
     requires can_give { CanGive left rests.old shares.old }
     requires all_bound { all < 2 ^ 63 }

@@ -31,31 +31,27 @@ pub fn give_equal(left: u64, most: u64, rests: &mut [u64], shares: &mut [u64]) -
     ensures { UnitsGiven left rests.old shares.old result rests.new shares.new }
 {
     let mut k = left;
-    let mut i: usize = 0;
-    while (i < rests.len()) & (0 < k) {
+    for i in 0..rests.len() {
+        if k == 0 {
+            break;
+        }
         let r = rests[i];
         let x = one_in_turn(k, most, r);
         rests[i] = unless_one(x, r);
-        shares[i] = shares[i] + x;
+        shares[i] += x;
         k -= x;
-        i += 1;
     }
     k
 }
 
-fn one_if(t: bool) -> u64
-    ensures { result ≤ 1 }
-{
-    if t { 1 } else { 0 }
-}
-
 // How many remainders are as large as `most`: it decides on a way of giving, and either way gives the same, so that nothing is said of it.
 pub fn count_equal(most: u64, rests: &[u64]) -> u64 {
+    // For speed: the machine tests two at a time here, which it does not where a filter counts.
     let mut n: u64 = 0;
-    let mut i: usize = 0;
-    while i < rests.len() {
-        n += one_if(rests[i] == most);
-        i += 1;
+    for r in rests {
+        if *r == most {
+            n += 1;
+        }
     }
     n
 }

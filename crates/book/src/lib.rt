@@ -33,7 +33,7 @@ pub const FIRST_YEAR: u16 = 2024;
 pub const LAST_YEAR: u16 = 2099;
 
 // Whose month a book is of.
-#[derive(Clone, Copy)]
+#[derive(Clone, Copy, PartialEq, Eq)]
 pub struct Header {
     pub area: u8,
     pub year: u16,
@@ -72,6 +72,7 @@ pub fn size_of(n: usize) -> usize
 }
 
 // Where record i lies.
+// Stays two functions: a book's length and a record's place are two words of docs/FORMAT.md that happen to have one formula.
 pub fn place_of(i: usize) -> usize
     requires { place_of i < word_limit }
     ensures { result ≡ place_of i }
@@ -214,16 +215,13 @@ fn check_records(b: &[u8], n: usize, minutes: u32) -> Verdict
     requires { size_of n ≤ length b.now }
     ensures { result ≡ check_records minutes b.now 0 0 n }
 {
-    let mut i = 0;
     let mut low: u64 = 0;
-    while i < n {
+    for i in 0..n {
         let t = turn_at(b, i, minutes, low);
-        let number = t.number;
-        if number != 0 {
-            return refused(number, i);
+        if t.number != 0 {
+            return refused(t.number, i);
         }
         low = t.low;
-        i += 1;
     }
     refused(0, 0)
 }

@@ -22,7 +22,7 @@ pub const MOST_PARTICIPANT: u16 = 64;
 pub const RECORD_SIZE: usize = 32;
 
 // The fields in the order of the record's bytes.
-#[derive(Clone, Copy)]
+#[derive(Clone, Copy, PartialEq, Eq)]
 pub struct Call {
     pub participant: u16,
     pub service: u8,

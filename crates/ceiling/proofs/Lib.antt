@@ -3,7 +3,6 @@ pub mod Places
 pub mod Turns
 pub mod PastFirst
 pub mod Outcomes
-pub mod Gather
 pub mod Promises
 pub mod Refusals
 pub mod NoLimits

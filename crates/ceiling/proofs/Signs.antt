@@ -1,35 +1,21 @@
 -- What is paid and what is got, and sums that fit. Assumes nothing.
-use mathlib.Core.Path.{◌≡◌, refl, sym, ap, ◌∙◌}
+use mathlib.Core.Path.{◌≡◌, refl, sym}
 use mathlib.Core.Bool.{Bool, true, false, cond}
-use Prim.Native.Nat.{ℕ, zero, suc, ◌+◌, ◌-◌, ◌^◌, ◌≤◌, ◌<◌}
+use Prim.Native.Nat.{ℕ, zero, suc, ◌+◌, ◌-◌, ◌≤◌}
 use native.Mathlib.Omega.{arith}
 use borrow.Author.Tests.{le-ltb, lt-ltb}
-use lib.Dec.{T}
-use lib.IntN.{ℤ, pos, negsuc, nat_abs, ◌+ℤ◌, ◌-ℤ◌, +ℤ_comm}
-use lib.Signed.{lt_z, non_neg}
-use mir.Syntax.{Width, w64}
-use mir.Val.{Fits, SFits, to_z, of_z}
+use lib.IntN.{ℤ, pos, negsuc, nat_abs, ◌+ℤ◌, +ℤ_comm}
+use lib.Signed.{lt_z}
+use mir.Syntax.{Width}
+use mir.Val.{SFits, to_z, of_z}
 use mir.ValLaws.{to_z-of_z}
-use Rattle.share.proofs.Signs.{abs_most, signed_add, abs_signed, small_fits}
-use Rattle.le.proofs.Signs.{cast_pos}
+use Rattle.share.proofs.Signs.{abs_most}
 use Rattle.ceiling.specs.declared.Limit.{Limit}
 use Rattle.ceiling.specs.Ceiling.{paid, beyond, positive}
 
 pub abs_plus : (z : ℤ) (u : ℕ) → nat_abs (z +ℤ pos u) ≤ nat_abs z + u
 abs_plus (pos n) u = omega arith
 abs_plus (negsuc n) u = rw (+ℤ_comm (negsuc n) (pos u)) (abs_most u (suc n) (suc n + u) (omega arith) (omega arith))
-
-pub abs_minus : (z : ℤ) (g : ℕ) → nat_abs (z -ℤ pos g) ≤ nat_abs z + g
-abs_minus (pos n) g = abs_most n g (n + g) (omega arith) (omega arith)
-abs_minus (negsuc n) g = omega (arith, ap nat_abs (signed_add true (suc n) g), abs_signed true (suc n + g))
-
--- an amount with what is not collected of it, and less what it gives up, fits 64 bits
-pub plus_fits : (z : ℤ) (u : ℕ) → nat_abs z < 2 ^ 60 → u < 2 ^ 60 → SFits w64 (z +ℤ pos u)
-plus_fits z u h k = small_fits (z +ℤ pos u) (nat_abs z + u) (abs_plus z u) (omega arith)
-
-pub minus_fits : (z : ℤ) (u g : ℕ) → nat_abs z < 2 ^ 60 → u < 2 ^ 60 → g < 2 ^ 60 → SFits w64 (z +ℤ pos u -ℤ pos g)
-minus_fits z u g h k l =
-    small_fits (z +ℤ pos u -ℤ pos g) (nat_abs z + u + g) (omega (arith, abs_plus z u, abs_minus (z +ℤ pos u) g)) (omega arith)
 
 -- what is paid and what is got, by the test
 paid_yes : (z : ℤ) → lt_z z (pos 0) ≡ true → nat_abs z ≡ paid z
@@ -39,14 +25,6 @@ paid_yes z t = rw t
 paid_no : (z : ℤ) → lt_z z (pos 0) ≡ false → 0 ≡ paid z
 unfolding paid
 paid_no z t = rw t
-
-positive_yes : (z : ℤ) → lt_z (pos 0) z ≡ true → nat_abs z ≡ positive z
-unfolding positive
-positive_yes z t = rw t
-
-positive_no : (z : ℤ) → lt_z (pos 0) z ≡ false → 0 ≡ positive z
-unfolding positive
-positive_no z t = rw t
 
 not_below : (z : ℤ) → lt_z (pos 0) z ≡ true → lt_z z (pos 0) ≡ false
 not_below (pos n) t = le-ltb n 0 (omega arith)
@@ -62,15 +40,6 @@ module _ (w : Width) (z : ℤ) (f : SFits w z) where
 
   pub paid_none : lt_z (to_z w (of_z w z)) (pos 0) ≡ false → 0 ≡ paid z
   paid_none t = paid_no z (rw same at t)
-
-  pub positive_cast : lt_z (pos 0) (to_z w (of_z w z)) ≡ true → T (non_neg (to_z w (of_z w z))) × Fits w (nat_abs (to_z w (of_z w z)))
-  positive_cast t = cast_pos w z f (not_below (to_z w (of_z w z)) t)
-
-  pub positive_some : lt_z (pos 0) (to_z w (of_z w z)) ≡ true → nat_abs (to_z w (of_z w z)) ≡ positive z
-  positive_some t = ap nat_abs same ∙ positive_yes z (rw same at t)
-
-  pub positive_none : lt_z (pos 0) (to_z w (of_z w z)) ≡ false → 0 ≡ positive z
-  positive_none t = positive_no z (rw same at t)
 
 -- none is more than the amount without its sign
 pub paid_le : (z : ℤ) → paid z ≤ nat_abs z

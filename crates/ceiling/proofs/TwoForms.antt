@@ -15,6 +15,9 @@ use Rattle.ceiling.specs.declared.Ceiled.{Ceiled}
 use Rattle.ceiling.specs.Ceiling.{limited_is_sound, first_bad_limited, plain_lines, beyond, uncollected_of, given_up, CeiledPart, ceiled_parts}
 use Rattle.ceiling.specs.Ceiling.{CeilingOutcome, second_sharing, both_sharings, ceiling_in_turn, ceiling}
 use Rattle.ceiling.specs.Forms.{ceiled_lines, cleared_line, cleared_lines, ceiled_array, LentLimited}
+use Rattle.ceiling.specs.Inner.{lend_limited}
+use Rattle.ceiling.proofs.Places.{ceiled_front}
+use Rattle.ceiling.proofs.Refusals.{few_counted}
 use Rattle.ceiling.proofs.NoLimits.{plain_cleared}
 use Rattle.ceiling.proofs.Outcomes.{Taken, Refused, outcome, none_given, each_given, same_ceiling}
 
@@ -103,6 +106,14 @@ parts_le part lines count = go (outcome part (first_bad_limited 0 (take count li
     go : Taken part (first_bad_limited 0 (take count lines)) count (take count lines) ⊎ Refused (ceiling_counted part lines count) → length (ceiling_counted part lines count).parts ≤ count
     go (inl t) = omega (arith, each_given part (first_bad_limited 0 (take count lines)) count (take count lines) t, take_le count lines)
     go (inr r) = let none : length (ceiling_counted part lines count).parts ≡ 0 = ap (λ (x : CeilingOutcome). length x.parts) r.is in omega arith
+
+-- THE FRONT OF AN ARRAY that is lent is shared as the array form shares it: the lines cleared before, the others left.
+pub front_as_array : (part : ℕ) (lines : List LimitedLine) (count : ℕ) → count ≤ length lines → lend_limited part (cleared_lines lines) count ≡ ceiled_array part lines count
+unfolding lend_limited ceiled_array
+front_as_array part lines count h =
+    let same : ceiling part (take count (cleared_lines lines)) ≡ ceiling_counted part lines count =
+    ap (ceiling part) (sym (take_cleared count lines)) ∙ ceiling_cleared part (take count lines) ∙ sym (few_counted part lines count h) in
+    rw (same, ceiled_front (ceiling_counted part lines count).parts (cleared_lines lines) count (parts_le part lines count))
 
 -- On a refusal, and beyond the count, the four of the array's lines are 0.
 pub array_cleared : (part : ℕ) (lines : List LimitedLine) (count : ℕ) → 0 < (ceiled_array part lines count).number → (ceiled_array part lines count).lines ≡ cleared_lines lines

@@ -1,14 +1,14 @@
 // 64 lines with limits, by value.
-ghost use Rattle.std.specs.Prelude.{◌≡◌, ◌<◌, ◌≤◌, get_or, set, take, replicate};
-ghost use Rattle.share.specs.Forms.{filled};
+ghost use Rattle.std.specs.Prelude.{◌≡◌, ◌<◌, ◌≤◌, length, set, take, replicate};
+ghost use Rattle.share.specs.Sharing.{most_number};
 ghost use Rattle.ceiling.specs.Ceiling.{limited_is_sound, first_bad_limited, plain_lines};
 ghost use Rattle.ceiling.specs.Forms.{cleared_line, cleared_lines};
-ghost use Rattle.ceiling.specs.Inner.{blank_limited, kept_limited, answer_in_ceiled};
+ghost use Rattle.ceiling.specs.Inner.{blank_limited};
 
-use crate::{Ceiled, Limit, LimitedLine, limit_is_sound};
+use crate::{Limit, LimitedLine, limit_is_sound};
+use share::Line;
 use share::array::{blank_line, blank_lines};
-use share::settle::line_is_sound;
-use share::{Answer, Line};
+use share::settle::{filled, line_is_sound};
 use units::{Fen, SignedFen};
 
 // Whether a line is sound after the number `before`, and its limit is.
@@ -20,55 +20,38 @@ fn limited_is_sound(l: LimitedLine, before: u16) -> bool
     line_is_sound(line, before) & limit_is_sound(limit)
 }
 
-// The place of the first line that is not sound, or count.
-pub fn first_bad_limited(lines: [LimitedLine; 64], count: usize) -> usize
-    requires { count ≤ 64 }
-    ensures { result ≡ first_bad_limited 0 (take count lines) }
+// The place of the first line that is not sound, or their number.
+// Stays two functions: a walk shared with plain lines would take the test and the number as closures, and be no shorter.
+pub fn first_bad_limited(lines: &[LimitedLine]) -> usize
+    ensures { result ≡ first_bad_limited 0 lines.now }
 {
     let mut before: u16 = 0;
-    let mut i: usize = 0;
-    while i < count {
-        let l = lines[i];
-        if limited_is_sound(l, before) {
-            before = l.line.number;
-        } else {
+    for (i, l) in lines.iter().enumerate() {
+        if !limited_is_sound(*l, before) {
             return i;
         }
-        i += 1;
+        before = l.line.number;
     }
-    count
+    lines.len()
 }
 
-// The lines without their limits.
-pub fn plain_lines(lines: [LimitedLine; 64]) -> [Line; 64]
-    ensures { result ≡ plain_lines lines }
+// The lines without their limits, in front.
+pub fn plain_lines(lines: &[LimitedLine]) -> [Line; 64]
+    requires { length lines.now ≤ most_number }
+    ensures { take (length lines.now) result ≡ plain_lines lines.now }
 {
     let mut out = blank_lines();
-    let mut i: usize = 0;
-    while i < 64 {
-        let l = lines[i];
-        let line = l.line;
-        out[i] = line;
-        i += 1;
+    for (i, l) in lines.iter().enumerate() {
+        out[i] = l.line;
     }
     out
-}
-
-// A line with a share and an amount.
-pub fn with_amount(l: Line, share: SignedFen, amount: SignedFen) -> Line
-    ensures { result ≡ filled l (record { share = share.0; amount = amount.0 }) }
-{
-    let mut done = l;
-    done.share = share;
-    done.amount = amount;
-    done
 }
 
 // A line whose share, amount, what is not collected and what is given up are 0.
 fn cleared_line(l: LimitedLine) -> LimitedLine
     ensures { result ≡ cleared_line l }
 {
-    let line = with_amount(l.line, SignedFen(0), SignedFen(0));
+    let line = filled(l.line, SignedFen(0), SignedFen(0));
     let limit = l.limit;
     LimitedLine {
         line,
@@ -79,17 +62,13 @@ fn cleared_line(l: LimitedLine) -> LimitedLine
 }
 
 // The lines with the four 0.
-pub fn cleared_lines(lines: [LimitedLine; 64]) -> [LimitedLine; 64]
+pub fn cleared_lines(mut lines: [LimitedLine; 64]) -> [LimitedLine; 64]
     ensures { result ≡ cleared_lines lines }
 {
-    let mut out = lines;
-    let mut i: usize = 0;
-    while i < 64 {
-        let l = lines[i];
-        out[i] = cleared_line(l);
-        i += 1;
+    for line in lines.iter_mut() {
+        *line = cleared_line(*line);
     }
-    out
+    lines
 }
 
 pub fn blank_limited() -> LimitedLine
@@ -120,32 +99,4 @@ pub fn put_limited(mut lines: [LimitedLine; 64], i: usize, l: LimitedLine) -> [L
 {
     lines[i] = l;
     lines
-}
-
-pub fn take_limited(s: Ceiled, i: usize) -> LimitedLine
-    requires { i < 64 }
-    ensures { result ≡ get_or s.lines i blank_limited }
-{
-    s.lines[i]
-}
-
-// How many lines are taken over: all, or none where the array form refused.
-pub fn kept_limited(s: Ceiled, count: usize) -> usize
-    ensures { (result ≡ kept_limited s count) × (result ≤ count) }
-{
-    if s.number == 0 { count } else { 0 }
-}
-
-// What an array form's answer says besides its lines.
-pub fn answer_in_ceiled(s: Ceiled) -> Answer
-    ensures { result ≡ answer_in_ceiled s }
-{
-    let gap = s.gap;
-    let user = s.user;
-    Answer {
-        number: s.number,
-        place: s.place,
-        gap,
-        user,
-    }
 }

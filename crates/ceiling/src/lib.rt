@@ -10,10 +10,9 @@ ghost use Rattle.std.specs.Prelude.{◌≡◌};
 ghost use Rattle.ceiling.specs.Ceiling.{limit_is_sound, ceiling_refused};
 ghost use Rattle.ceiling.specs.Forms.{ceiled_of, ceiled_array};
 
-use array::{cleared_lines, first_bad_limited, plain_lines};
-use second::second_sharing;
+use array::{cleared_lines, first_bad_limited};
+use lent::lend_limited;
 use share::Line;
-use share::array::seen;
 use share::limits::{MOST_PART, PART_PLACE};
 use units::{Fen, SignedFen};
 
@@ -47,6 +46,7 @@ pub struct Ceiled {
 }
 
 // Whether a limit is none, or within its own bound.
+#[tactic(auto, unfolding(crate::specs::Ceiling::limit_is_sound))]
 pub fn limit_is_sound(l: Limit) -> bool
     ensures { result ≡ limit_is_sound l }
 {
@@ -71,16 +71,12 @@ pub fn refuse(number: u32, place: usize, lines: [LimitedLine; 64]) -> Ceiled
 pub fn ceiled_array(part: u32, lines: [LimitedLine; 64], count: usize) -> Ceiled
     ensures { result ≡ ceiled_array part lines count }
 {
+    if count <= 64 {
+        return lend_limited(part, cleared_lines(lines), count);
+    }
     if MOST_PART < part {
         return refuse(10, PART_PLACE, lines);
     }
-    let bad = first_bad_limited(lines, seen(count));
-    if bad < count {
-        return refuse(10, bad, lines);
-    }
-    let first = share::share(part, plain_lines(lines), count);
-    if first.number != 0 {
-        return refuse(first.number, first.place, lines);
-    }
-    second_sharing(part, lines, count, first)
+    let bad = first_bad_limited(&lines);
+    refuse(10, bad, lines)
 }

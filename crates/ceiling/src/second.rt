@@ -1,21 +1,24 @@
 // The second sharing: what is not collected of each line, and what each line gives up of it.
-ghost use Rattle.std.specs.Prelude.{◌≡◌, ◌<◌, ◌≤◌, ◌^◌, nat_abs, take};
+ghost use Rattle.std.specs.Prelude.{◌≡◌, ◌<◌, ◌≤◌, ◌^◌, nat_abs, length, take};
 ghost use Rattle.apportion.specs.Apportion.{total, apportion};
+ghost use Rattle.share.specs.Sharing.{most_number};
 ghost use Rattle.ceiling.specs.Ceiling.{paid, beyond, positive, positives, uncollected_of, ceiled_part, ceiled_by};
-ghost use Rattle.ceiling.specs.Forms.{ceiled_line, ceiled_lines, cleared_lines, ceiled_array};
-ghost use Rattle.ceiling.specs.Inner.{part_in, parts_in, AmountsWithin, EachWithin, PastFirst};
+ghost use Rattle.ceiling.specs.Forms.{ceiled_line, ceiled_lines};
+ghost use Rattle.ceiling.specs.Inner.{part_in, parts_in, AmountsWithin, EachWithin, Small, most_amount, SecondShared};
 
-use crate::array::{cleared_lines, with_amount};
-use crate::{Ceiled, Limit, LimitedLine, refuse};
-use share::{Line, Shared};
+use crate::{Limit, LimitedLine};
+use share::array::refused;
+use share::settle::filled;
+use share::{Answer, Line};
 use units::{Fen, SignedFen};
 
 // What a member with such an amount pays.
+#[tactic(auto, unfolding(crate::specs::Ceiling::paid))]
 fn paid(amount: SignedFen) -> u64
     ensures { result ≡ paid amount.0 }
 {
     if amount.0 < 0 {
-        (!amount.0) as u64 + 1
+        amount.0.unsigned_abs()
     } else {
         0
     }
@@ -29,62 +32,54 @@ fn beyond(l: Limit, amount: SignedFen) -> u64
     if l.none {
         return 0;
     }
-    let most = l.fen.0;
-    if p < most { 0 } else { p - most }
+    p.saturating_sub(l.fen.0)
 }
 
 // What a member with such an amount gets.
+#[tactic(auto, unfolding(crate::specs::Ceiling::positive))]
 fn positive(amount: SignedFen) -> u64
     ensures { result ≡ positive amount.0 }
 {
     if 0 < amount.0 { amount.0 as u64 } else { 0 }
 }
 
-// What is not collected of each of the first lines.
-fn uncollected_of(lines: [LimitedLine; 64], shared: [Line; 64], count: usize) -> [u64; 64]
-    requires { count ≤ 64 }
-    ensures { take count result ≡ uncollected_of (take count lines) (parts_in (take count shared)) }
+// What is not collected of each line, in front.
+fn uncollected_of(lines: &[LimitedLine], shared: &[Line]) -> [u64; 64]
+    requires few { length lines.now ≤ most_number }
+    requires each_shared { length shared.now ≡ length lines.now }
+    ensures { take (length lines.now) result ≡ uncollected_of lines.now (parts_in shared.now) }
 {
     let mut us = [0u64; 64];
-    let mut i: usize = 0;
-    while i < count {
-        let l = lines[i];
-        let s = shared[i];
-        let limit = l.limit;
-        let amount = s.amount;
-        us[i] = beyond(limit, amount);
-        i += 1;
+    for i in 0..lines.len() {
+        us[i] = beyond(lines[i].limit, shared[i].amount);
     }
     us
 }
 
-// The positive amounts of the first lines.
-fn positives(shared: [Line; 64], count: usize) -> [u64; 64]
-    requires { count ≤ 64 }
-    ensures { take count result ≡ positives (parts_in (take count shared)) }
+// The positive amounts of the lines, in front.
+fn positives(shared: &[Line]) -> [u64; 64]
+    requires { length shared.now ≤ most_number }
+    ensures { take (length shared.now) result ≡ positives (parts_in shared.now) }
 {
     let mut ps = [0u64; 64];
-    let mut i: usize = 0;
-    while i < count {
-        let s = shared[i];
-        let got = s.amount;
-        ps[i] = positive(got);
-        i += 1;
+    for (i, s) in shared.iter().enumerate() {
+        ps[i] = positive(s.amount);
     }
     ps
 }
 
-// What each of the first lines gives up of the sum.
-fn given_up(sum: u64, ps: [u64; 64], count: usize) -> [u64; 64]
-    requires count_bound { count ≤ 64 }
-    requires sum_bound { sum ≤ total (take count ps) }
-    requires ps_bound { total (take count ps) < 2 ^ 62 }
-    ensures { take count result ≡ apportion sum (take count ps) }
+// What each line gives up of the sum, in front.
+fn given_up(sum: u64, ps: &[u64]) -> [u64; 64]
+    requires few { length ps.now ≤ most_number }
+    requires sum_bound { sum ≤ total ps.now }
+    requires ps_bound { total ps.now < 2 ^ 62 }
+    ensures { take (length ps.now) result ≡ apportion sum ps.now }
 {
     let mut gs = [0u64; 64];
     let mut rs = [0u64; 64];
+    let count = ps.len();
     if 0 < sum {
-        apportion::apportion_into(sum, &ps[..count], &mut gs[..count], &mut rs[..count]);
+        apportion::apportion_into(sum, ps, &mut gs[..count], &mut rs[..count]);
     }
     gs
 }
@@ -98,7 +93,7 @@ fn ceiled_line(l: LimitedLine, s: Line, u: u64, g: u64) -> LimitedLine
 {
     let amount = s.amount.0 + (u as i64) - (g as i64);
     let share = s.share;
-    let line = with_amount(l.line, share, SignedFen(amount));
+    let line = filled(l.line, share, SignedFen(amount));
     let limit = l.limit;
     LimitedLine {
         line,
@@ -108,53 +103,37 @@ fn ceiled_line(l: LimitedLine, s: Line, u: u64, g: u64) -> LimitedLine
     }
 }
 
-// The first lines with what they get, the others cleared.
-fn ceiled_lines(
-    lines: [LimitedLine; 64],
-    shared: [Line; 64],
-    us: [u64; 64],
-    gs: [u64; 64],
-    count: usize,
-) -> [LimitedLine; 64]
-    requires count_bound { count ≤ 64 }
-    requires amounts_within { AmountsWithin shared count }
-    requires each_within { EachWithin us count }
-    requires each_within_2 { EachWithin gs count }
-    ensures { result ≡ ceiled_lines (ceiled_by (parts_in (take count shared)) (take count us) (take count gs)) (cleared_lines lines) }
+// The lines with what they get.
+fn ceiled_lines(lines: &mut [LimitedLine], shared: &[Line], us: &[u64], gs: &[u64])
+    requires each_shared { length shared.now ≡ length lines.old }
+    requires each_uncollected { length us.now ≡ length lines.old }
+    requires each_given { length gs.now ≡ length lines.old }
+    requires amounts_within { AmountsWithin shared.now (length lines.old) }
+    requires each_within { EachWithin us.now (length lines.old) }
+    requires each_within_2 { EachWithin gs.now (length lines.old) }
+    ensures { lines.new ≡ ceiled_lines (ceiled_by (parts_in shared.now) us.now gs.now) lines.old }
 {
-    let mut out = cleared_lines(lines);
-    let mut i: usize = 0;
-    while i < count {
-        let l = lines[i];
-        let s = shared[i];
-        out[i] = ceiled_line(l, s, us[i], gs[i]);
-        i += 1;
+    for i in 0..lines.len() {
+        lines[i] = ceiled_line(lines[i], shared[i], us[i], gs[i]);
     }
-    out
 }
 
 // The second sharing, behind a first that was accepted: 17, or the lines filled in.
-pub fn second_sharing(part: u32, lines: [LimitedLine; 64], count: usize, first: Shared) -> Ceiled
-    requires { PastFirst part lines count first }
-    ensures { result ≡ ceiled_array part lines count }
+pub fn second_sharing(lines: &mut [LimitedLine], shared: &[Line], first: Answer) -> Answer
+    requires few { length lines.old ≤ most_number }
+    requires each_shared { length shared.now ≡ length lines.old }
+    requires small { Small most_amount (parts_in shared.now) }
+    ensures { SecondShared lines.old (parts_in shared.now) first lines.new result }
 {
-    let shared = first.lines;
-    let us = uncollected_of(lines, shared, count);
-    let ps = positives(shared, count);
+    let count = lines.len();
+    let us = uncollected_of(lines, shared);
+    let ps = positives(shared);
     let sum = apportion::total(&us[..count]);
     let most = apportion::total(&ps[..count]);
     if most < sum {
-        return refuse(17, 0, lines);
+        return refused(17, 0);
     }
-    let gs = given_up(sum, ps, count);
-    let gap = first.gap;
-    let user = first.user;
-    let ceiled = ceiled_lines(lines, shared, us, gs, count);
-    Ceiled {
-        number: 0,
-        place: 0,
-        gap,
-        user,
-        lines: ceiled,
-    }
+    let gs = given_up(sum, &ps[..count]);
+    ceiled_lines(lines, shared, &us[..count], &gs[..count]);
+    first
 }

@@ -1,71 +1,40 @@
-// The program's arguments: words, files, numbers, dates.
+// The program's arguments: words, files, numbers, dates. What gives None has said in one line why.
+ghost use Rattle.std.specs.Prelude.{◌≤◌, length, IfSome};
+
 use crate::print;
-use clock::{Minutes, length_of, start_of};
-use grid::alone::{Told, ToldInteger, integer, number};
-use names::{Named, is_same, kind_of, service_of};
+use clock::{length_of, start_of};
+use grid::alone::{integer, number};
+use names::{is_same, kind_of, service_of};
 pub use node::first;
 use say::Terminal;
-
-// So many bytes at the start of a lent buffer are what was asked for; or nothing is, and one line has said why.
-#[derive(Clone, Copy)]
-pub enum Held {
-    Bytes(usize),
-    Nothing,
-}
-
-// A number of one byte, of two, of four, of four with a sign; or none, and one line has said so.
-#[derive(Clone, Copy)]
-pub enum Byte {
-    Number(u8),
-    Nothing,
-}
-
-#[derive(Clone, Copy)]
-pub enum Short {
-    Number(u16),
-    Nothing,
-}
-
-#[derive(Clone, Copy)]
-pub enum Long {
-    Number(u32),
-    Nothing,
-}
-
-#[derive(Clone, Copy)]
-pub enum Integer {
-    Number(i32),
-    Nothing,
-}
-
-const MOST_BYTE: u64 = 0xff;
-
-const MOST_SHORT: u64 = 0xffff;
-
-const MOST_LONG: u64 = 0xffff_ffff;
 
 // No month has more days.
 pub const MOST_DAYS: u32 = 31;
 
-// Argument i, in the buffer's first bytes. One that is missing or too long is no argument, and nothing is said.
-pub fn argument(terminal: &Terminal, i: usize, buf: &mut [u8]) -> Held {
-    match say::argument(terminal, i, buf) {
-        Some(n) => Held::Bytes(n),
-        None => Held::Nothing,
-    }
+// Argument i, in the buffer's first bytes: how long it is. One that is missing or too long is no argument, and nothing is said.
+pub fn argument(terminal: &Terminal, i: usize, buf: &mut [u8]) -> Option<usize>
+    ensures { IfSome result (λ n. n ≤ length buf.new) }
+{
+    say::argument(terminal, i, buf)
+}
+
+// What is made of argument i; where it is missing or too long, of a text of no bytes.
+pub fn with_word<R, F: FnOnce(&[u8]) -> R>(terminal: &Terminal, i: usize, make: F) -> R
+    requires { F.IsAlwaysCallable make }
+{
+    let mut buf = io::buffer();
+    let n = say::word(terminal, i, &mut buf);
+    make(&buf[..n])
 }
 
 // A file's name, as argument i has it.
-pub fn path(terminal: &Terminal, i: usize, buf: &mut [u8]) -> Held {
-    let Held::Bytes(n) = argument(terminal, i, buf) else {
-        print::bad_argument(terminal, i, b"too long for a file's name");
-        return Held::Nothing;
-    };
-    if n == 0 {
-        print::bad_argument(terminal, i, b"no name");
-        return Held::Nothing;
+pub fn path(terminal: &Terminal, i: usize, buf: &mut [u8]) -> Option<usize> {
+    match argument(terminal, i, buf) {
+        None => print::bad_argument(terminal, i, b"too long for a file's name"),
+        Some(0) => print::bad_argument(terminal, i, b"no name"),
+        Some(n) => return Some(n),
     }
-    Held::Bytes(n)
+    None
 }
 
 // Whether two texts are the same.
@@ -75,9 +44,7 @@ pub fn is_word(word: &[u8], name: &[u8]) -> bool {
 
 // Whether argument i is a word.
 pub fn is_word_at(terminal: &Terminal, i: usize, word: &[u8]) -> bool {
-    let mut buf = io::buffer();
-    let n = say::word(terminal, i, &mut buf);
-    is_word(&buf[0..n], word)
+    with_word(terminal, i, |given| is_word(given, word))
 }
 
 // Whether argument i is `-`: no file.
@@ -86,149 +53,110 @@ pub fn is_none(terminal: &Terminal, i: usize) -> bool {
 }
 
 // What argument i says as a number.
-pub fn number_at(terminal: &Terminal, i: usize) -> Told {
-    let mut buf = io::buffer();
-    let n = say::word(terminal, i, &mut buf);
-    number(&buf[0..n])
+pub fn number_at(terminal: &Terminal, i: usize) -> Option<u64> {
+    with_word(terminal, i, number)
+}
+
+// What argument i says; where it says nothing that is taken, one line has told why.
+fn or_told<T>(terminal: &Terminal, i: usize, said: Option<T>, why: &[u8]) -> Option<T> {
+    if said.is_none() {
+        print::bad_argument(terminal, i, why);
+    }
+    said
 }
 
 // Argument i, a service by its word or by a number; a kind by its word or by a number.
-pub fn service_at(terminal: &Terminal, i: usize) -> Byte {
-    let mut buf = io::buffer();
-    let n = say::word(terminal, i, &mut buf);
-    if let Named::Number(service) = service_of(&buf[0..n]) {
-        return Byte::Number(service);
-    }
-    byte_or(
+pub fn service_at(terminal: &Terminal, i: usize) -> Option<u8> {
+    or_told(
         terminal,
         i,
+        with_word(terminal, i, service_of).or_else(|| fitting_at(terminal, i)),
         b"no service: a number, or a word as reserve (desk help has them)",
     )
 }
 
-pub fn kind_at(terminal: &Terminal, i: usize) -> Byte {
-    let mut buf = io::buffer();
-    let n = say::word(terminal, i, &mut buf);
-    if let Named::Number(kind) = kind_of(&buf[0..n]) {
-        return Byte::Number(kind);
-    }
-    byte_or(
+pub fn kind_at(terminal: &Terminal, i: usize) -> Option<u8> {
+    or_told(
         terminal,
         i,
+        with_word(terminal, i, kind_of).or_else(|| fitting_at(terminal, i)),
         b"no kind: a number, or a word as hydro (desk help has them)",
     )
 }
 
 // Whether argument i is a start in a month of so many days.
 pub fn is_start(terminal: &Terminal, i: usize, days: u32) -> bool {
-    let mut buf = io::buffer();
-    let n = say::word(terminal, i, &mut buf);
-    let start = start_of(days, &buf[0..n]);
-    match start {
-        Minutes::Number(_) => true,
-        Minutes::Nothing => false,
-    }
+    with_word(terminal, i, |word| start_of(days, word)).is_some()
 }
 
 // Whether a text is a date by its day, but no month has that day.
 fn is_no_day(text: &[u8]) -> bool {
-    let mark = node::find(text, 0, text.len(), b'/');
-    if mark == text.len() {
-        return false;
-    }
-    let Told::Number(day) = number(first(text, mark)) else {
+    let Some(mark) = text.iter().position(|b| *b == b'/') else {
         return false;
     };
-    (day == 0) | ((MOST_DAYS as u64) < day)
+    number(&text[..mark]).is_some_and(|day| (day == 0) | (u64::from(MOST_DAYS) < day))
 }
 
 // Argument i, a start, in a month as long as any.
-pub fn start_at(terminal: &Terminal, i: usize) -> Short {
-    let mut buf = io::buffer();
-    let n = say::word(terminal, i, &mut buf);
-    if let Minutes::Number(start) = start_of(MOST_DAYS, &buf[0..n]) {
-        return Short::Number(start);
-    }
-    if is_no_day(&buf[0..n]) {
-        print::bad_argument(
-            terminal,
-            i,
-            b"no such day: days are counted from 1, and no month has more than 31",
-        );
-        return Short::Nothing;
-    }
-    print::bad_argument(
-        terminal,
-        i,
-        b"no start: minutes up to 65535, or day/hour:minute as 16/00:00",
-    );
-    Short::Nothing
+pub fn start_at(terminal: &Terminal, i: usize) -> Option<u16> {
+    let why: &[u8] = if with_word(terminal, i, is_no_day) {
+        b"no such day: days are counted from 1, and no month has more than 31"
+    } else {
+        b"no start: minutes up to 65535, or day/hour:minute as 16/00:00"
+    };
+    let start = with_word(terminal, i, |word| start_of(MOST_DAYS, word));
+    or_told(terminal, i, start, why)
 }
 
 // Argument i, a length.
-pub fn length_at(terminal: &Terminal, i: usize) -> Short {
-    let mut buf = io::buffer();
-    let n = say::word(terminal, i, &mut buf);
-    if let Minutes::Number(minutes) = length_of(&buf[0..n]) {
-        return Short::Number(minutes);
-    }
-    print::bad_argument(
+pub fn length_at(terminal: &Terminal, i: usize) -> Option<u16> {
+    or_told(
         terminal,
         i,
+        with_word(terminal, i, length_of),
         b"no length: minutes up to 65535, or hours and minutes as 45h, 90m, 1h30m",
-    );
-    Short::Nothing
+    )
 }
 
-// Argument i, a number that a byte holds; what is expected is told where it is none.
-fn byte_or(terminal: &Terminal, i: usize, why: &[u8]) -> Byte {
-    if let Told::Number(n) = number_at(terminal, i) {
-        if n <= MOST_BYTE {
-            return Byte::Number(n as u8);
-        }
+// Argument i, a number that the type holds. Where there is none nothing is said.
+fn fitting_at<T: TryFrom<u64>>(terminal: &Terminal, i: usize) -> Option<T>
+where
+    T::Error: Drop,
+{
+    T::try_from(number_at(terminal, i)?).ok()
+}
+
+// The same of a type that holds numbers up to so much, which is told where there is none.
+fn unsigned_at<T: TryFrom<u64>>(terminal: &Terminal, i: usize, most: u64) -> Option<T>
+where
+    T::Error: Drop,
+{
+    let number = fitting_at(terminal, i);
+    if number.is_none() {
+        print::no_number(terminal, i, most);
     }
-    print::bad_argument(terminal, i, why);
-    Byte::Nothing
+    number
 }
 
 // Argument i, a number that a byte holds, or two, or four.
-pub fn byte_at(terminal: &Terminal, i: usize) -> Byte {
-    if let Told::Number(n) = number_at(terminal, i) {
-        if n <= MOST_BYTE {
-            return Byte::Number(n as u8);
-        }
-    }
-    print::no_number(terminal, i, MOST_BYTE);
-    Byte::Nothing
+pub fn byte_at(terminal: &Terminal, i: usize) -> Option<u8> {
+    unsigned_at(terminal, i, u64::from(u8::MAX))
 }
 
-pub fn short_at(terminal: &Terminal, i: usize) -> Short {
-    if let Told::Number(n) = number_at(terminal, i) {
-        if n <= MOST_SHORT {
-            return Short::Number(n as u16);
-        }
-    }
-    print::no_number(terminal, i, MOST_SHORT);
-    Short::Nothing
+pub fn short_at(terminal: &Terminal, i: usize) -> Option<u16> {
+    unsigned_at(terminal, i, u64::from(u16::MAX))
 }
 
-pub fn long_at(terminal: &Terminal, i: usize) -> Long {
-    if let Told::Number(n) = number_at(terminal, i) {
-        if n <= MOST_LONG {
-            return Long::Number(n as u32);
-        }
-    }
-    print::no_number(terminal, i, MOST_LONG);
-    Long::Nothing
+pub fn long_at(terminal: &Terminal, i: usize) -> Option<u32> {
+    unsigned_at(terminal, i, u64::from(u32::MAX))
 }
 
 // Argument i, a number with or without a sign.
-pub fn integer_at(terminal: &Terminal, i: usize) -> Integer {
-    let mut buf = io::buffer();
-    let n = say::word(terminal, i, &mut buf);
-    if let ToldInteger::Number(number) = integer(&buf[0..n]) {
-        return Integer::Number(number);
-    }
-    print::bad_argument(terminal, i, b"no number between -2147483647 and 2147483647");
-    Integer::Nothing
+pub fn integer_at(terminal: &Terminal, i: usize) -> Option<i32> {
+    or_told(
+        terminal,
+        i,
+        with_word(terminal, i, integer),
+        b"no number between -2147483647 and 2147483647",
+    )
 }

@@ -1,7 +1,6 @@
 // A file of a run that may go on without it.
-use crate::args::Held;
 use crate::print;
-use files::Loaded;
+use files::NotLoaded;
 use say::Terminal;
 
 // What is in the way of a file: in the last line, or, where the run goes on, in a remark.
@@ -14,12 +13,13 @@ pub fn tell_of(terminal: &Terminal, path: &[u8], goes_on: bool, why: &[u8]) {
 }
 
 // The whole file in the buffer's first bytes.
-pub fn load_or(terminal: &Terminal, path: &[u8], goes_on: bool, buf: &mut [u8]) -> Held {
-    match files::load(terminal.system(), path, buf) {
-        Loaded::Whole(n) => return Held::Bytes(n),
-        Loaded::Missing => tell_of(terminal, path, goes_on, b"no such file"),
-        Loaded::TooLong => tell_of(terminal, path, goes_on, b"longer than 65536 bytes"),
-        Loaded::Failed => tell_of(terminal, path, goes_on, b"cannot be read"),
-    }
-    Held::Nothing
+pub fn load_or(terminal: &Terminal, path: &[u8], goes_on: bool, buf: &mut [u8]) -> Option<usize> {
+    let why: &[u8] = match files::load(terminal.system(), path, buf) {
+        Ok(n) => return Some(n),
+        Err(NotLoaded::Missing) => b"no such file",
+        Err(NotLoaded::TooLong) => b"longer than 65536 bytes",
+        Err(NotLoaded::Failed) => b"cannot be read",
+    };
+    tell_of(terminal, path, goes_on, why);
+    None
 }

@@ -17,6 +17,78 @@ use text::told::{
 };
 use units::{Fen, Grains, Kw};
 
+// What is put at the start of a line, printed.
+fn tell<F: FnOnce(&mut [u8]) -> usize>(terminal: &Terminal, put_text: F)
+    requires { F.IsAlwaysCallable put_text }
+{
+    let mut line = io::buffer();
+    let n = put_text(&mut line);
+    say::text(terminal, first(&line, n));
+}
+
+// The same on a page.
+fn put<F: FnOnce(&mut [u8]) -> usize>(
+    terminal: &Terminal,
+    page: &mut [u8],
+    at: usize,
+    put_text: F,
+) -> usize
+    requires { F.IsAlwaysCallable put_text }
+{
+    let mut line = io::buffer();
+    let n = put_text(&mut line);
+    say::add(terminal, page, at, first(&line, n))
+}
+
+// A line with a name as it is printed. It is long: that who prints one takes no more stack the whole time, it is made in a function of its own.
+#[inline(never)]
+fn tell_of<F: FnOnce(&[u8], &mut [u8]) -> usize>(terminal: &Terminal, what: &[u8], put_text: F)
+    requires { F.IsAlwaysCallable put_text }
+{
+    let mut name = io::buffer();
+    let m = shown_text(what, &mut name);
+    let mut line = io::large_buffer();
+    let n = put_text(&name[..m], &mut line);
+    say::text(terminal, first(&line, n));
+}
+
+// The same on a page.
+#[inline(never)]
+fn put_of<F: FnOnce(&[u8], &mut [u8]) -> usize>(
+    terminal: &Terminal,
+    page: &mut [u8],
+    at: usize,
+    what: &[u8],
+    put_text: F,
+) -> usize
+    requires { F.IsAlwaysCallable put_text }
+{
+    let mut name = io::buffer();
+    let m = shown_text(what, &mut name);
+    let mut line = io::large_buffer();
+    let n = put_text(&name[..m], &mut line);
+    say::add(terminal, page, at, first(&line, n))
+}
+
+// A line with the names of a page and of its book.
+#[inline(never)]
+fn tell_beside<F: FnOnce(&[u8], &[u8], &mut [u8]) -> usize>(
+    terminal: &Terminal,
+    page: &[u8],
+    book: &[u8],
+    put_text: F,
+)
+    requires { F.IsAlwaysCallable put_text }
+{
+    let mut name = io::buffer();
+    let m = shown_text(page, &mut name);
+    let mut other = io::buffer();
+    let k = shown_text(book, &mut other);
+    let mut line = io::large_buffer();
+    let n = put_text(&name[..m], &other[..k], &mut line);
+    say::text(terminal, first(&line, n));
+}
+
 pub fn done(terminal: &Terminal) {
     say::text(terminal, b"ok\n");
 }
@@ -29,52 +101,39 @@ pub fn finish(terminal: &Terminal, page: &mut [u8], at: usize) {
 
 // That nothing was changed, and why.
 pub fn unchanged(terminal: &Terminal, why: &[u8]) {
-    let mut line = io::buffer();
-    let n = unchanged_text(why, &mut line);
-    say::text(terminal, &line[..n]);
+    tell(terminal, |line| unchanged_text(why, line));
 }
 
 // The same, since a revision stands that is as high.
 pub fn not_higher(terminal: &Terminal, stands: u32) {
-    let mut line = io::buffer();
-    let n = not_higher_text(stands, &mut line);
-    say::text(terminal, &line[..n]);
+    tell(terminal, |line| not_higher_text(stands, line));
 }
 
 // A refusal's number and place, and what it is about.
 pub fn refused(terminal: &Terminal, number: u32, place: usize, what: &[u8]) {
-    let mut name = io::buffer();
-    let m = shown_text(what, &mut name);
-    let mut line = io::large_buffer();
-    let n = refused_about_text(number, place, &name[..m], &mut line);
-    say::text(terminal, &line[..n]);
+    tell_of(
+        terminal,
+        what,
+        |name, line| refused_about_text(number, place, name, line),
+    );
 }
 
 // What failed, and why.
 pub fn failed(terminal: &Terminal, what: &[u8], why: &[u8]) {
-    let mut name = io::buffer();
-    let m = shown_text(what, &mut name);
-    let mut line = io::large_buffer();
-    let n = failed_text(&name[..m], why, &mut line);
-    say::text(terminal, &line[..n]);
+    tell_of(terminal, what, |name, line| failed_text(name, why, line));
 }
 
 // An argument that is not taken, by its name in the command's usage, and why.
 pub fn bad_argument(terminal: &Terminal, i: usize, why: &[u8]) {
-    let own = name_of(terminal, i);
-    let name = own.bytes;
-    let mut line = io::large_buffer();
-    let n = bad_argument_text(i, first(&name, own.size), why, &mut line);
-    say::text(terminal, &line[..n]);
+    tell_of(terminal, name_of(terminal, i), |name, line| {
+        bad_argument_text(i, name, why, line)
+    });
 }
 
 // An argument that is no number, or one too large.
 pub fn no_number(terminal: &Terminal, i: usize, most: u64) {
-    let own = name_of(terminal, i);
-    let name = own.bytes;
-    let mut line = io::buffer();
-    let n = no_number_text(i, first(&name, own.size), most, &mut line);
-    say::text(terminal, &line[..n]);
+    let name = name_of(terminal, i);
+    tell(terminal, |line| no_number_text(i, name, most, line));
 }
 
 // An argument that is no quarter hour inside a window, and where that runs.
@@ -93,27 +152,26 @@ pub fn takes(
     most: usize,
     given: usize,
 ) {
-    let mut line = io::buffer();
-    let n = takes_text(name, more, least, most, given, &mut line);
-    say::text(terminal, &line[..n]);
+    tell(
+        terminal,
+        |line| takes_text(name, more, least, most, given, line),
+    );
 }
 
 // A remark in words, and what it is about: a line before the last one.
 pub fn note(terminal: &Terminal, what: &[u8], why: &[u8]) {
-    let mut name = io::buffer();
-    let m = shown_text(what, &mut name);
-    let mut line = io::large_buffer();
-    let n = note_text(&name[..m], why, &mut line);
-    say::text(terminal, &line[..n]);
+    tell_of(terminal, what, |name, line| note_text(name, why, line));
 }
 
 // The same on a page.
 pub fn put_note(terminal: &Terminal, page: &mut [u8], at: usize, what: &[u8], why: &[u8]) -> usize {
-    let mut name = io::buffer();
-    let m = shown_text(what, &mut name);
-    let mut line = io::large_buffer();
-    let n = note_text(&name[..m], why, &mut line);
-    say::add(terminal, page, at, &line[..n])
+    put_of(
+        terminal,
+        page,
+        at,
+        what,
+        |name, line| note_text(name, why, line),
+    )
 }
 
 // A number outside its limits, by its name, and what it is of: a line before the last one.
@@ -128,100 +186,74 @@ pub fn bad_record(terminal: &Terminal, what: &[u8], i: usize, why: &[u8]) {
     if MOST_RECORDS <= i {
         return;
     }
-    let mut name = io::buffer();
-    let m = shown_text(what, &mut name);
-    let mut line = io::large_buffer();
-    let n = record_text(&name[..m], i + 1, why, &mut line);
-    say::text(terminal, &line[..n]);
+    tell_of(
+        terminal,
+        what,
+        |name, line| record_text(name, i + 1, why, line),
+    );
 }
 
 // Of which month and area a book is, and of which those before it.
 pub fn other_month(terminal: &Terminal, what: &[u8], h: Header, before: Header) {
-    let mut name = io::buffer();
-    let m = shown_text(what, &mut name);
-    let mut line = io::large_buffer();
-    let n = other_month_text(&name[..m], h, before, &mut line);
-    say::text(terminal, &line[..n]);
+    tell_of(
+        terminal,
+        what,
+        |name, line| other_month_text(name, h, before, line),
+    );
 }
 
 // A page of tabs that does not fit its book from a member on, by both names: a line before the last one.
 pub fn unfit(terminal: &Terminal, page: &[u8], book: &[u8], member: usize) {
-    let mut name = io::buffer();
-    let m = shown_text(page, &mut name);
-    let mut other = io::buffer();
-    let k = shown_text(book, &mut other);
-    let mut line = io::large_buffer();
-    let n = unfit_text(&name[..m], &other[..k], member, &mut line);
-    say::text(terminal, &line[..n]);
+    tell_beside(terminal, page, book, |page, book, line| {
+        unfit_text(page, book, member, line)
+    });
 }
 
 // A page that is removed, where its book could not be replaced: a line before the last one.
 pub fn removed(terminal: &Terminal, page: &[u8], book: &[u8]) {
-    let mut name = io::buffer();
-    let m = shown_text(page, &mut name);
-    let mut other = io::buffer();
-    let k = shown_text(book, &mut other);
-    let mut line = io::large_buffer();
-    let n = removed_text(&name[..m], &other[..k], &mut line);
-    say::text(terminal, &line[..n]);
+    tell_beside(terminal, page, book, |page, book, line| {
+        removed_text(page, book, line)
+    });
 }
 
 // A page that could not be put in place, where its book is written.
 pub fn unplaced(terminal: &Terminal, page: &[u8], book: &[u8]) {
-    let mut name = io::buffer();
-    let m = shown_text(page, &mut name);
-    let mut other = io::buffer();
-    let k = shown_text(book, &mut other);
-    let mut line = io::large_buffer();
-    let n = unplaced_text(&name[..m], &other[..k], &mut line);
-    say::text(terminal, &line[..n]);
+    tell_beside(terminal, page, book, |page, book, line| {
+        unplaced_text(page, book, line)
+    });
 }
 
 // Why scoring turns a call away: it is not open to a plant, an earlier call stands against it, it is contested.
 pub fn not_open(terminal: &Terminal, x: Call, kind: u8, rated: Kw, h: Header) {
-    let mut line = io::buffer();
-    let n = not_open_text(x, kind, rated, h, &mut line);
-    say::text(terminal, &line[..n]);
+    tell(terminal, |line| not_open_text(x, kind, rated, h, line));
 }
 
 pub fn clash(terminal: &Terminal, x: Call, y: Call) {
-    let mut line = io::buffer();
-    let n = clash_text(x, y, &mut line);
-    say::text(terminal, &line[..n]);
+    tell(terminal, |line| clash_text(x, y, line));
 }
 
 pub fn contested(terminal: &Terminal, x: Call) {
-    let mut line = io::buffer();
-    let n = contested_text(x, &mut line);
-    say::text(terminal, &line[..n]);
+    tell(terminal, |line| contested_text(x, line));
 }
 
 // How a command is called.
 pub fn usage(terminal: &Terminal, words: &[u8]) {
-    let mut line = io::buffer();
-    let n = usage_text(words, &mut line);
-    say::text(terminal, &line[..n]);
+    tell(terminal, |line| usage_text(words, line));
 }
 
 // One call, on one line. What is contested or withdrawn has no details.
 pub fn call(terminal: &Terminal, x: Call) {
-    let mut line = io::buffer();
-    let n = call_text(x, &mut line);
-    say::text(terminal, &line[..n]);
+    tell(terminal, |line| call_text(x, line));
 }
 
 // The same on a page.
 pub fn put_call(terminal: &Terminal, page: &mut [u8], at: usize, x: Call) -> usize {
-    let mut line = io::buffer();
-    let n = call_text(x, &mut line);
-    say::add(terminal, page, at, &line[..n])
+    put(terminal, page, at, |line| call_text(x, line))
 }
 
 // The call that stands, and whether the second of two books has it or the first, on a page.
 pub fn put_found(terminal: &Terminal, page: &mut [u8], at: usize, second: bool, x: Call) -> usize {
-    let mut line = io::buffer();
-    let n = found_text(second, x, &mut line);
-    say::add(terminal, page, at, &line[..n])
+    put(terminal, page, at, |line| found_text(second, x, line))
 }
 
 // No call stands in either book, on a page.
@@ -237,9 +269,7 @@ pub fn put_header(
     h: Header,
     calls: usize,
 ) -> usize {
-    let mut line = io::buffer();
-    let n = header_text(h, calls, &mut line);
-    say::add(terminal, page, at, &line[..n])
+    put(terminal, page, at, |line| header_text(h, calls, line))
 }
 
 // The same of a book that is shown or written, with its version where that is the second.
@@ -251,9 +281,12 @@ pub fn put_book(
     h: Header,
     calls: usize,
 ) -> usize {
-    let mut line = io::buffer();
-    let n = book_text(version, h, calls, &mut line);
-    say::add(terminal, page, at, &line[..n])
+    put(
+        terminal,
+        page,
+        at,
+        |line| book_text(version, h, calls, line),
+    )
 }
 
 // The turns of a join, by the book that was joined in, or of all joins together, on a page.
@@ -264,11 +297,13 @@ pub fn put_turns(
     what: &[u8],
     turns: usize,
 ) -> usize {
-    let mut name = io::buffer();
-    let m = shown_text(what, &mut name);
-    let mut line = io::large_buffer();
-    let n = turns_text(&name[..m], turns, &mut line);
-    say::add(terminal, page, at, &line[..n])
+    put_of(
+        terminal,
+        page,
+        at,
+        what,
+        |name, line| turns_text(name, turns, line),
+    )
 }
 
 // A member's tab, on a page: how many calls it has, and how many of them are live, contested and withdrawn.
@@ -282,9 +317,12 @@ pub fn put_tab(
     contested: u16,
     withdrawn: u16,
 ) -> usize {
-    let mut line = io::buffer();
-    let n = tab_text(member, calls, live, contested, withdrawn, &mut line);
-    say::add(terminal, page, at, &line[..n])
+    put(
+        terminal,
+        page,
+        at,
+        |line| tab_text(member, calls, live, contested, withdrawn, line),
+    )
 }
 
 // A member's score, on a page.
@@ -295,7 +333,5 @@ pub fn put_score(
     grains: Grains,
     fen: Fen,
 ) -> usize {
-    let mut lines = io::buffer();
-    let n = score_text(grains, fen, &mut lines);
-    say::add(terminal, page, at, &lines[..n])
+    put(terminal, page, at, |line| score_text(grains, fen, line))
 }

@@ -14,69 +14,54 @@ use units::calendar::minutes_of;
 
 // A call that the arguments say, in the month of a header.
 pub fn tell_call(terminal: &Terminal, h: Header, x: Call) {
-    let f = bad_field(minutes_of(h.year, h.month), x, 0);
+    let Some(f) = bad_field(minutes_of(h.year, h.month), x, 0) else {
+        return;
+    };
     let mut why = io::buffer();
     let n = field_text(f, x, &mut why);
     print::note(terminal, b"call", &why[..n]);
 }
 
+// Whether a number is outside its limits; where it is, that is told by its name.
+fn is_outside(terminal: &Terminal, what: &[u8], name: &[u8], n: u64, low: u64, high: u64) -> bool {
+    if (low..=high).contains(&n) {
+        return false;
+    }
+    print::outside(terminal, what, name, n, low, high);
+    true
+}
+
 // The first of area, year and month that is outside its limits.
 pub fn tell_header(terminal: &Terminal, what: &[u8], h: Header) {
-    if (h.area < 1) | (MOST_AREA < h.area) {
-        print::outside(terminal, what, b"AREA", h.area as u64, 1, MOST_AREA as u64);
+    let (area, year, month) = (u64::from(h.area), u64::from(h.year), u64::from(h.month));
+    if is_outside(terminal, what, b"AREA", area, 1, u64::from(MOST_AREA)) {
         return;
     }
-    if (h.year < FIRST_YEAR) | (LAST_YEAR < h.year) {
-        print::outside(
-            terminal,
-            what,
-            b"YEAR",
-            h.year as u64,
-            FIRST_YEAR as u64,
-            LAST_YEAR as u64,
-        );
+    let (first, last) = (u64::from(FIRST_YEAR), u64::from(LAST_YEAR));
+    if is_outside(terminal, what, b"YEAR", year, first, last) {
         return;
     }
-    print::outside(terminal, what, b"MONTH", h.month as u64, 1, 12);
+    print::outside(terminal, what, b"MONTH", month, 1, 12);
 }
 
 // That a number is no member's.
 pub fn tell_number(terminal: &Terminal, number: u16) {
-    print::outside(
-        terminal,
-        b"member",
-        b"MEMBER",
-        number as u64,
-        1,
-        MOST_PARTICIPANT as u64,
-    );
+    let most = u64::from(MOST_PARTICIPANT);
+    print::outside(terminal, b"member", b"MEMBER", u64::from(number), 1, most);
 }
 
 // The first of a member's number, kind and rating that is outside its limits.
 pub fn tell_member(terminal: &Terminal, m: Member) {
-    if (m.number < 1) | (MOST_PARTICIPANT < m.number) {
+    if !(1..=MOST_PARTICIPANT).contains(&m.number) {
         tell_number(terminal, m.number);
         return;
     }
-    if (m.kind < COAL) | (NEW_STORAGE < m.kind) {
-        print::outside(
-            terminal,
-            b"member",
-            b"KIND",
-            m.kind as u64,
-            COAL as u64,
-            NEW_STORAGE as u64,
-        );
+    let (least, most) = (u64::from(COAL), u64::from(NEW_STORAGE));
+    if is_outside(terminal, b"member", b"KIND", u64::from(m.kind), least, most) {
         return;
     }
-    print::outside(
-        terminal,
-        b"member",
-        b"RATED",
-        m.rated.0 as u64,
-        1,
-        MOST_RATED as u64,
-    );
+    let (rated, most) = (u64::from(m.rated.0), u64::from(MOST_RATED));
+    print::outside(terminal, b"member", b"RATED", rated, 1, most);
 }
 
 fn tell_size(terminal: &Terminal, name: &[u8], book: &[u8]) {
@@ -123,11 +108,14 @@ fn tell_bad_header(terminal: &Terminal, name: &[u8], book: &[u8]) {
 
 // Record i of a book, by its bad field.
 fn tell_field(terminal: &Terminal, name: &[u8], book: &[u8], i: usize) {
-    let r = bad_record(book, i);
-    let f = r.field;
-    let x = r.call;
+    let Some(r) = bad_record(book, i) else {
+        return;
+    };
+    let Some(f) = r.field else {
+        return;
+    };
     let mut why = io::buffer();
-    let n = field_text(f, x, &mut why);
+    let n = field_text(f, r.call, &mut why);
     print::bad_record(terminal, name, i, &why[..n]);
 }
 

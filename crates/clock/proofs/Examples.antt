@@ -4,60 +4,59 @@ use mathlib.Core.List.{List, [], ◌∷◌, map}
 use Prim.Native.Nat.{ℕ}
 use Prim.Native.String.{String}
 use Rattle.render.specs.Decimal.{word, decimal_in, decimal}
-use Rattle.clock.specs.declared.Minutes.{Minutes}
-use Rattle.clock.specs.declared.Minutes.TheVariants.{Number, Nothing}
+use Rattle.std.specs.Prelude.{Option, Some, None}
 use Rattle.clock.specs.Clock.{has, before, behind, number_in, up_to16_bits, date_of, start_of, minutes_in, rest_in, length_of}
 use Rattle.clock.specs.Clock.{two_digits, clock_text, date_text, hours_text, minutes_text, length_text}
 
 pub record Case : Type 0 where
   pub text : String
-  pub says : Minutes
+  pub says : Option ℕ
 
-abbrev case : String → Minutes → Case
+abbrev case : String → Option ℕ → Case
 case text says = record { text = text; says = says }
 
 -- starts, in a month of 28 days
 pub starts : List Case
 starts =
-    case "0" (Number 0)
-    ∷ case "21600" (Number 21600)
-    ∷ case "65535" (Number 65535)
-    ∷ case "65536" Nothing
-    ∷ case "1/00:00" (Number 0)
-    ∷ case "16/00:00" (Number 21600)
-    ∷ case "16/7:5" (Number 22025)
-    ∷ case "28/23:59" (Number 40319)
-    ∷ case "0/00:00" Nothing
-    ∷ case "29/00:00" Nothing
-    ∷ case "16/24:00" Nothing
-    ∷ case "16/00:60" Nothing
-    ∷ case "16/00" Nothing
-    ∷ case "16/" Nothing
-    ∷ case "/00:00" Nothing
-    ∷ case "16/00:00:00" Nothing
-    ∷ case "1/6/00:00" Nothing
-    ∷ case "-1" Nothing
-    ∷ case "" Nothing
+    case "0" (Some 0)
+    ∷ case "21600" (Some 21600)
+    ∷ case "65535" (Some 65535)
+    ∷ case "65536" None
+    ∷ case "1/00:00" (Some 0)
+    ∷ case "16/00:00" (Some 21600)
+    ∷ case "16/7:5" (Some 22025)
+    ∷ case "28/23:59" (Some 40319)
+    ∷ case "0/00:00" None
+    ∷ case "29/00:00" None
+    ∷ case "16/24:00" None
+    ∷ case "16/00:60" None
+    ∷ case "16/00" None
+    ∷ case "16/" None
+    ∷ case "/00:00" None
+    ∷ case "16/00:00:00" None
+    ∷ case "1/6/00:00" None
+    ∷ case "-1" None
+    ∷ case "" None
     ∷ []
 
 -- lengths
 pub lengths : List Case
 lengths =
-    case "2700" (Number 2700)
-    ∷ case "45h" (Number 2700)
-    ∷ case "90m" (Number 90)
-    ∷ case "1h30m" (Number 90)
-    ∷ case "1h30" (Number 90)
-    ∷ case "0h" (Number 0)
-    ∷ case "1092h15m" (Number 65535)
-    ∷ case "1092h16m" Nothing
-    ∷ case "h" Nothing
-    ∷ case "m" Nothing
-    ∷ case "30m1h" Nothing
-    ∷ case "1h2h" Nothing
-    ∷ case "1m2m" Nothing
-    ∷ case "1.5h" Nothing
-    ∷ case "" Nothing
+    case "2700" (Some 2700)
+    ∷ case "45h" (Some 2700)
+    ∷ case "90m" (Some 90)
+    ∷ case "1h30m" (Some 90)
+    ∷ case "1h30" (Some 90)
+    ∷ case "0h" (Some 0)
+    ∷ case "1092h15m" (Some 65535)
+    ∷ case "1092h16m" None
+    ∷ case "h" None
+    ∷ case "m" None
+    ∷ case "30m1h" None
+    ∷ case "1h2h" None
+    ∷ case "1m2m" None
+    ∷ case "1.5h" None
+    ∷ case "" None
     ∷ []
 
 -- Each text says what its table has.
@@ -75,8 +74,8 @@ unfolding date_text clock_text two_digits length_text hours_text minutes_text de
 written = refl
 
 -- A text says one start, and one length.
-pub start_determined : (days : ℕ) (text : List ℕ) (t u : Minutes) → t ≡ start_of days text → u ≡ start_of days text → t ≡ u
+pub start_determined : (days : ℕ) (text : List ℕ) (t u : Option ℕ) → t ≡ start_of days text → u ≡ start_of days text → t ≡ u
 start_determined days text t u e f = e ∙ sym f
 
-pub length_determined : (text : List ℕ) (t u : Minutes) → t ≡ length_of text → u ≡ length_of text → t ≡ u
+pub length_determined : (text : List ℕ) (t u : Option ℕ) → t ≡ length_of text → u ≡ length_of text → t ≡ u
 length_determined text t u e f = e ∙ sym f

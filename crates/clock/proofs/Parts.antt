@@ -1,47 +1,30 @@
 -- Texts in parts: what stands before and behind a byte, and the number that digits say. Assumes nothing.
 use mathlib.Core.Path.{◌≡◌, refl, sym, ◌∙◌, ap}
-use mathlib.Core.Bool.{true, false}
+use mathlib.Core.Bool.{Bool, true, false, cond, ◌||◌}
 use mathlib.Core.List.{List, [], ◌∷◌}
 use Prim.Native.Nat.{ℕ, suc, ◌+◌, ◌-◌, ◌≤◌, ◌<◌}
 use native.Mathlib.Numerals.{add-one}
-use native.Mathlib.Decide.{dec_lt, ℕ_discrete}
+use native.Mathlib.Decide.{ℕ_discrete}
 use native.Mathlib.Omega.{arith}
-use lib.Dec.{ltb}
+use lib.Dec.{eqb, ltb}
+use Rattle.std.specs.Prelude.{Option, Some, None}
+use Rattle.std.specs.List.{list_any, position, position_or_len}
+use Rattle.std.proofs.lemmas.List.Recursion.{is_position_or_len}
 use lib.ListN.{length, get_or, take, drop, length-drop}
 use lib.Seq.{drop-cons, drop-length, take_all}
-use borrow.Author.Tests.{eq-eqb, ne_eqb, lt-ltb, le-ltb}
+use borrow.Author.Tests.{eq-eqb, ne_eqb, ltb-true, ltb-false}
 use Rattle.row.specs.Numbers.{is_digit, digits, not_empty, value, hold, ceiling}
 use Rattle.clock.specs.Clock.{has, before, behind, number_in}
 
 -- The first such byte
 
-pub found : (mark b : ℕ) (bs : List ℕ) → b ≡ mark → length (before mark (b ∷ bs)) ≡ 0
+found : (mark b : ℕ) (bs : List ℕ) → b ≡ mark → length (before mark (b ∷ bs)) ≡ 0
 unfolding before
 found mark b bs e = rw (eq-eqb b mark e)
 
-pub passed : (mark b : ℕ) (bs : List ℕ) → (b ≡ mark → ⊥) → length (before mark (b ∷ bs)) ≡ suc (length (before mark bs))
+passed : (mark b : ℕ) (bs : List ℕ) → (b ≡ mark → ⊥) → length (before mark (b ∷ bs)) ≡ suc (length (before mark bs))
 unfolding before
 passed mark b bs e = rw (ne_eqb b mark e)
-
-none_left : (mark : ℕ) → length (before mark []) ≡ 0
-unfolding before
-none_left mark = refl
-
--- the search's turns
-module _ (text : List ℕ) (mark i : ℕ) where
-  abbrev left : ℕ
-  left = length (before mark (drop i text))
-
-  pub here : i < length text → get_or text i 0 ≡ mark → i + left ≡ i
-  here h e = ap (λ (l : List ℕ). i + length (before mark l)) (drop-cons text i 0 h) ∙ ap (λ (n : ℕ). i + n) (found mark (get_or text i 0) (drop (suc i) text) e) ∙ omega arith
-
-  pub on : i < length text → (get_or text i 0 ≡ mark → ⊥) → (i + 1) + length (before mark (drop (i + 1) text)) ≡ i + left
-  on h e =
-      let one : left ≡ suc (length (before mark (drop (suc i) text))) = ap (λ (l : List ℕ). length (before mark l)) (drop-cons text i 0 h) ∙ passed mark (get_or text i 0) (drop (suc i) text) e in
-      rw add-one (omega arith)
-
-  pub over : i ≡ length text → i + left ≡ i
-  over e = ap (λ (l : List ℕ). i + length (before mark l)) (ap (λ (n : ℕ). drop n text) e ∙ drop-length text) ∙ ap (λ (n : ℕ). i + n) (none_left mark) ∙ omega arith
 
 -- a text that begins with such a byte, and one that does not
 module _ (mark b : ℕ) (bs : List ℕ) where
@@ -70,7 +53,7 @@ module _ (mark b : ℕ) (bs : List ℕ) where
   has_on e = rw (ne_eqb b mark e)
 
 -- what is cut there
-pub take_before : (mark : ℕ) (text : List ℕ) → take (length (before mark text)) text ≡ before mark text
+take_before : (mark : ℕ) (text : List ℕ) → take (length (before mark text)) text ≡ before mark text
 unfolding before
 take_before mark [] = refl
 take_before mark (b ∷ bs) = go (ℕ_discrete b mark) (take_before mark bs)
@@ -79,7 +62,7 @@ take_before mark (b ∷ bs) = go (ℕ_discrete b mark) (take_before mark bs)
     go (yes e) h = ap (λ (l : List ℕ). take (length l) (b ∷ bs)) (before_here mark b bs e) ∙ sym (before_here mark b bs e)
     go (no e) h = ap (λ (l : List ℕ). take (length l) (b ∷ bs)) (before_on mark b bs e) ∙ ap (λ (l : List ℕ). b ∷ l) h ∙ sym (before_on mark b bs e)
 
-pub before_within : (mark : ℕ) (text : List ℕ) → length (before mark text) ≤ length text
+before_within : (mark : ℕ) (text : List ℕ) → length (before mark text) ≤ length text
 unfolding before
 before_within mark [] = omega arith
 before_within mark (b ∷ bs) = go (ℕ_discrete b mark) (before_within mark bs)
@@ -88,21 +71,40 @@ before_within mark (b ∷ bs) = go (ℕ_discrete b mark) (before_within mark bs)
     go (yes e) h = omega (arith, found mark b bs e)
     go (no e) h = omega (arith, passed mark b bs e)
 
-next_ltb : (k n : ℕ) → ltb (suc k) (suc n) ≡ ltb k n
-next_ltb k n = go (dec_lt k n)
-  where
-    go : Dec (k < n) → ltb (suc k) (suc n) ≡ ltb k n
-    go (yes h) = lt-ltb (suc k) (suc n) (omega arith) ∙ sym (lt-ltb k n h)
-    go (no h) = le-ltb (suc k) (suc n) (omega arith) ∙ sym (le-ltb k n (omega arith))
-
-pub has_is : (mark : ℕ) (text : List ℕ) → ltb (length (before mark text)) (length text) ≡ has mark text
-unfolding before has
+pub has_is : (mark : ℕ) (text : List ℕ) → list_any (λ b. eqb b mark) text ≡ has mark text
+unfolding has
 has_is mark [] = refl
-has_is mark (b ∷ bs) = go (ℕ_discrete b mark) (has_is mark bs)
+has_is mark (b ∷ bs) = ap (λ (t : Bool). eqb b mark || t) (has_is mark bs)
+
+-- the first place that has the byte, or the text's length
+first_place : (mark : ℕ) (text : List ℕ) → length (before mark text) ≡ position_or_len (λ b. eqb b mark) text
+unfolding before
+first_place mark text = is_position_or_len (λ l. length (before mark l)) (λ b. eqb b mark) refl (λ x xs. one x xs (eqb x mark)) text
   where
-    go : Dec (b ≡ mark) → ltb (length (before mark bs)) (length bs) ≡ has mark bs → ltb (length (before mark (b ∷ bs))) (length (b ∷ bs)) ≡ has mark (b ∷ bs)
-    go (yes e) h = ap (λ (n : ℕ). ltb n (suc (length bs))) (found mark b bs e) ∙ lt-ltb 0 (suc (length bs)) (omega arith) ∙ sym (has_here mark b bs e)
-    go (no e) h = ap (λ (n : ℕ). ltb n (suc (length bs))) (passed mark b bs e) ∙ next_ltb (length (before mark bs)) (length bs) ∙ h ∙ sym (has_on mark b bs e)
+    one : (x : ℕ) (xs : List ℕ) (t : Bool) → length (cond t [] (x ∷ before mark xs)) ≡ cond t 0 (1 + length (before mark xs))
+    one x xs true = refl
+    one x xs false = omega arith
+
+-- there is such a place, or none
+some_place : (mark : ℕ) (text : List ℕ) (n : ℕ) → Some n ≡ position (λ b. eqb b mark) text → (n ≡ length (before mark text)) × (n < length text)
+some_place mark text n h = go (ltb place (length text)) refl h
+  where
+    place : ℕ
+    place = position_or_len (λ b. eqb b mark) text
+
+    go : (t : Bool) → ltb place (length text) ≡ t → Some n ≡ cond t (Some place) None → (n ≡ length (before mark text)) × (n < length text)
+    go true e f = let is : n ≡ place = cc in (is ∙ sym (first_place mark text), omega (arith, is, ltb-true place (length text) e))
+    go false e f = absurd (cc)
+
+no_place : (mark : ℕ) (text : List ℕ) → None ≡ position (λ b. eqb b mark) text → length (before mark text) ≡ length text
+no_place mark text h = go (ltb place (length text)) refl h
+  where
+    place : ℕ
+    place = position_or_len (λ b. eqb b mark) text
+
+    go : (t : Bool) → ltb place (length text) ≡ t → ◌≡◌ {A = Option ℕ} None (cond t (Some place) None) → length (before mark text) ≡ length text
+    go true e f = absurd (cc)
+    go false e f = omega (arith, first_place mark text, before_within mark text, ltb-false place (length text) e)
 
 drop_next : (mark : ℕ) (text : List ℕ) → length (before mark text) < length text → drop (suc (length (before mark text))) text ≡ behind mark text
 drop_next mark [] h = absurd (omega arith)
@@ -112,7 +114,7 @@ drop_next mark (b ∷ bs) h = go (ℕ_discrete b mark) (λ g. drop_next mark bs 
     go (yes e) r = ap (λ (n : ℕ). drop (suc n) (b ∷ bs)) (found mark b bs e) ∙ sym (behind_here mark b bs e)
     go (no e) r = ap (λ (n : ℕ). drop (suc n) (b ∷ bs)) (passed mark b bs e) ∙ r (omega (arith, passed mark b bs e)) ∙ sym (behind_on mark b bs e)
 
-pub drop_behind : (mark : ℕ) (text : List ℕ) → length (before mark text) < length text → drop (length (before mark text) + 1) text ≡ behind mark text
+drop_behind : (mark : ℕ) (text : List ℕ) → length (before mark text) < length text → drop (length (before mark text) + 1) text ≡ behind mark text
 drop_behind mark text h = rw add-one (drop_next mark text h)
 
 no_behind : (mark : ℕ) (text : List ℕ) → length (before mark text) ≡ length text → [] ≡ behind mark text
@@ -124,17 +126,22 @@ no_behind mark (b ∷ bs) h = go (ℕ_discrete b mark) (λ g. no_behind mark bs 
     go (yes e) r = absurd (omega (arith, found mark b bs e))
     go (no e) r = r (omega (arith, passed mark b bs e)) ∙ sym (behind_on mark b bs e)
 
-pub none_behind : (mark : ℕ) (text : List ℕ) → length (before mark text) ≡ length text → drop (length (before mark text)) text ≡ behind mark text
-none_behind mark text h = ap (λ (n : ℕ). drop n text) h ∙ drop-length text ∙ no_behind mark text h
+-- the parts, as the code cuts them
+module _ (mark : ℕ) (text : List ℕ) (n : ℕ) (is : Some n ≡ position (λ b. eqb b mark) text) where
+  pub cut_before : take n text ≡ before mark text
+  cut_before = ap (λ (k : ℕ). take k text) (some_place mark text n is).0 ∙ take_before mark text
 
--- the part behind it, as the code cuts it
-module _ (mark : ℕ) (text : List ℕ) (n : ℕ) (is : n ≡ length (before mark text)) where
-  pub cut_end : n ≡ length text → take (length text - n) (drop n text) ≡ behind mark text
-  cut_end e = take_all (length text - n) (drop n text) (omega (arith, length-drop n text)) ∙ ap (λ (k : ℕ). drop k text) is ∙ none_behind mark text (sym is ∙ e)
+  pub cut_behind : take (length text - (n + 1)) (drop (n + 1) text) ≡ behind mark text
+  cut_behind =
+      let p = some_place mark text n is in
+      take_all (length text - (n + 1)) (drop (n + 1) text) (omega (arith, length-drop (n + 1) text)) ∙ ap (λ (k : ℕ). drop (k + 1) text) p.0 ∙ drop_behind mark text (omega arith)
 
-  pub cut_behind : n ≤ length text → (n ≡ length text → ⊥) → take (length text - (n + 1)) (drop (n + 1) text) ≡ behind mark text
-  cut_behind h e =
-      take_all (length text - (n + 1)) (drop (n + 1) text) (omega (arith, length-drop (n + 1) text)) ∙ ap (λ (k : ℕ). drop (k + 1) text) is ∙ drop_behind mark text (omega arith)
+module _ (mark : ℕ) (text : List ℕ) (is : None ≡ position (λ b. eqb b mark) text) where
+  pub all_before : text ≡ before mark text
+  all_before = sym (ap (λ (k : ℕ). take k text) (no_place mark text is) ∙ take_all (length text) text (omega arith)) ∙ take_before mark text
+
+  pub none_behind : [] ≡ behind mark text
+  none_behind = no_behind mark text (no_place mark text is)
 
 -- Numbers
 
@@ -146,14 +153,6 @@ module _ (text : List ℕ) (v i : ℕ) where
   bad_digit h e d =
       let no : digits text ≡ false = d ∙ ap (λ (l : List ℕ). digits l) (drop-cons text i 0 h) ∙ rw e in
       rw no
-
-  -- one digit more
-  pub digit_on : i < length text → is_digit (get_or text i 0) ≡ true → digits text ≡ digits (drop i text) → digits text ≡ digits (drop (i + 1) text)
-  digit_on h e d = rw add-one (d ∙ ap (λ (l : List ℕ). digits l) (drop-cons text i 0 h) ∙ rw e)
-
-  pub value_on : (r : ℕ) → i < length text → ((rest : List ℕ) → hold (value r rest) ≡ hold (value v (get_or text i 0 ∷ rest))) → hold (value v (drop i text)) ≡ hold (value 0 text)
-      → hold (value r (drop (i + 1) text)) ≡ hold (value 0 text)
-  value_on r h f g = rw add-one (f (drop (suc i) text) ∙ ap (λ (l : List ℕ). hold (value v l)) (sym (drop-cons text i 0 h)) ∙ g)
 
   -- the last
   pub all_digits : (r : ℕ) → 0 < length text → i ≡ length text → digits text ≡ digits (drop i text) → hold (value v (drop i text)) ≡ hold (value 0 text) → r ≡ hold v → r ≡ number_in text

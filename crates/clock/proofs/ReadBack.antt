@@ -11,7 +11,7 @@ use Rattle.le.proofs.Tests.{each, all}
 use Rattle.row.specs.Numbers.{is_digit, digits, not_empty, value, hold, ceiling}
 use Rattle.render.specs.Decimal.{word, digit, decimal_in, decimal}
 use Rattle.render.proofs.Decimals.{small, none_left, large}
-use Rattle.clock.specs.declared.Minutes.TheVariants.{Number}
+use Rattle.std.specs.Prelude.{Some}
 use Rattle.clock.specs.Clock.{slash, colon, letter_h, letter_m, has, before, behind, number_in, up_to16_bits, date_of, start_of, minutes_in, rest_in, length_of}
 use Rattle.clock.specs.Clock.{two_digits, clock_text, date_text, hours_text, minutes_text, length_text}
 use Rattle.clock.proofs.Parts.{before_here, before_on, behind_here, behind_on, has_here, has_on}
@@ -140,11 +140,11 @@ module _ (mark : ℕ) (ys : List ℕ) where
 
 -- A start
 
-within_16 : (n : ℕ) → n ≤ 65535 → up_to16_bits n ≡ Number n
+within_16 : (n : ℕ) → n ≤ 65535 → up_to16_bits n ≡ Some n
 unfolding up_to16_bits
 within_16 n h = rw (le-leb n 65535 h)
 
-date_minutes : (days m : ℕ) → m < days * 1440 → m ≤ 65535 → date_of days (m / 1440 + 1) (m % 1440 / 60) (m % 60) ≡ Number m
+date_minutes : (days m : ℕ) → m < days * 1440 → m ≤ 65535 → date_of days (m / 1440 + 1) (m % 1440 / 60) (m % 60) ≡ Some m
 unfolding date_of
 date_minutes days m h k =
     let there = all (leb 1 (m / 1440 + 1)) (leb (m / 1440 + 1) days ∷ ltb (m % 1440 / 60) 24 ∷ ltb (m % 60) 60 ∷ [])
@@ -161,7 +161,7 @@ unfolding clock_text
 timed m = append_assoc (two_digits (m % 1440 / 60)) (word ":") (two_digits (m % 60))
 
 -- A DATE IS READ AS THE MINUTE THAT IT WAS WRITTEN FOR, in each month that has the minute.
-pub start_back : (days m : ℕ) → m < days * 1440 → m ≤ 65535 → start_of days (date_text m) ≡ Number m
+pub start_back : (days m : ℕ) → m < days * 1440 → m ≤ 65535 → start_of days (date_text m) ≡ Some m
 unfolding start_of
 start_back days m h k =
     let day = decimal (m / 1440 + 1) in
@@ -202,14 +202,14 @@ unfolding minutes_text
 minutes_some n = longer (decimal n) (word "m") (decimal_some n)
 
 -- each of the three forms
-of_minutes : (n : ℕ) → n ≤ 65535 → length_of (minutes_text n) ≡ Number n
+of_minutes : (n : ℕ) → n ≤ 65535 → length_of (minutes_text n) ≡ Some n
 unfolding length_of
 of_minutes n h = rw (no_hour n, minutes_says n (omega arith)) (within_16 n h)
 
 hours_parted : (n : ℕ) (ys : List ℕ) → Parted letter_h ys (decimal n)
 hours_parted n ys = parted letter_h ys (decimal n) (no_mark letter_h (decimal n) refl (decimal_digits n))
 
-of_hours : (n : ℕ) → n ≤ 65535 → n % 60 ≡ 0 → length_of (hours_text (n / 60)) ≡ Number n
+of_hours : (n : ℕ) → n ≤ 65535 → n % 60 ≡ 0 → length_of (hours_text (n / 60)) ≡ Some n
 unfolding length_of hours_text rest_in
 of_hours n h e =
     let p = hours_parted (n / 60) [] in
@@ -224,7 +224,7 @@ rest_says : (n : ℕ) → n < ceiling → rest_in (minutes_text n) ≡ n
 unfolding rest_in
 rest_says n h = rw (minutes_some n) (minutes_says n h)
 
-of_both : (n : ℕ) → n ≤ 65535 → length_of (hours_text (n / 60) ++ minutes_text (n % 60)) ≡ Number n
+of_both : (n : ℕ) → n ≤ 65535 → length_of (hours_text (n / 60) ++ minutes_text (n % 60)) ≡ Some n
 unfolding length_of
 of_both n h =
     let t = hours_text (n / 60) ++ minutes_text (n % 60) in
@@ -236,10 +236,10 @@ of_both n h =
     rw (marked, front, rest) (ap (λ (k : ℕ). up_to16_bits k) same ∙ within_16 n h)
 
 -- A LENGTH IS READ AS THE MINUTES THAT IT WAS WRITTEN FOR.
-pub length_back : (n : ℕ) → n ≤ 65535 → length_of (length_text n) ≡ Number n
+pub length_back : (n : ℕ) → n ≤ 65535 → length_of (length_text n) ≡ Some n
 length_back n h = go (dec_lt n 60) (ℕ_discrete (n % 60) 0)
   where
-    go : Dec (n < 60) → Dec (n % 60 ≡ 0) → length_of (length_text n) ≡ Number n
+    go : Dec (n < 60) → Dec (n % 60 ≡ 0) → length_of (length_text n) ≡ Some n
     go (yes l) d = ap (λ (t : List ℕ). length_of t) (sym (in_minutes n l)) ∙ of_minutes n h
     go (no l) (yes d) = ap (λ (t : List ℕ). length_of t) (sym (in_hours n (omega arith) d)) ∙ of_hours n h d
     go (no l) (no d) = ap (λ (t : List ℕ). length_of t) (sym (in_both n (omega arith) d)) ∙ of_both n h

@@ -1,11 +1,9 @@
 -- Minutes of the month as a date, lengths in hours and minutes: how they are written, and what such a text says. Assumes nothing.
-use Rattle.std.specs.Prelude.{Bool, false, cond, ◌&&◌, ◌||◌, List, [], ◌∷◌, ◌++◌, ℕ, ◌+◌, ◌*◌, ◌-◌, ◌/◌, ◌%◌, eqb, ltb, leb}
+use Rattle.std.specs.Prelude.{Bool, false, cond, ◌&&◌, ◌||◌, List, [], ◌∷◌, ◌++◌, ℕ, ◌+◌, ◌*◌, ◌-◌, ◌/◌, ◌%◌, eqb, ltb, leb, Option, Some, None}
 use Rattle.units.specs.Month.{minutes_per_day}
 use Rattle.row.specs.Numbers.{not_empty, is_number, value, hold, ceiling}
 use Rattle.render.specs.Decimal.{word, digit, decimal}
 use Rattle.render.specs.Room.{most_decimal}
-use Rattle.clock.specs.declared.Minutes.{Minutes}
-use Rattle.clock.specs.declared.Minutes.TheVariants.{Number, Nothing}
 
 -- hours have 60 minutes, days 24 hours
 abbrev pub minutes_per_hour : ℕ
@@ -51,18 +49,18 @@ number_in text = cond (is_number text) (hold (value 0 text)) ceiling
 -- Reading
 
 -- so many minutes, as many as 16 bits hold
-unfoldable pub up_to16_bits : ℕ → Minutes
-up_to16_bits n = cond (leb n 65535) (Number n) Nothing
+unfoldable pub up_to16_bits : ℕ → Option ℕ
+up_to16_bits n = cond (leb n 65535) (Some n) None
 
 -- a day of the month from 1 on, an hour up to 23 and a minute up to 59, as minutes from the month's first midnight
-unfoldable pub date_of : ℕ → ℕ → ℕ → ℕ → Minutes
+unfoldable pub date_of : ℕ → ℕ → ℕ → ℕ → Option ℕ
 date_of days day hour minute =
     cond (leb 1 day && leb day days && ltb hour hours_per_day && ltb minute minutes_per_hour)
     (up_to16_bits ((day - 1) * minutes_per_day + hour * minutes_per_hour + minute))
-    Nothing
+    None
 
 -- a start: `16/00:00` in a month of so many days, or minutes
-unfoldable pub start_of : ℕ → List ℕ → Minutes
+unfoldable pub start_of : ℕ → List ℕ → Option ℕ
 start_of days text =
     cond (has slash text)
     (date_of days (number_in (before slash text)) (number_in (before colon (behind slash text))) (number_in (behind colon (behind slash text))))
@@ -77,7 +75,7 @@ unfoldable pub rest_in : List ℕ → ℕ
 rest_in text = cond (not_empty text) (minutes_in text) 0
 
 -- a length: `45h`, `90m`, `1h30m`, or minutes
-unfoldable pub length_of : List ℕ → Minutes
+unfoldable pub length_of : List ℕ → Option ℕ
 length_of text =
     cond (has letter_h text)
     (up_to16_bits (number_in (before letter_h text) * minutes_per_hour + rest_in (behind letter_h text)))

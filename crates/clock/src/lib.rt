@@ -1,7 +1,7 @@
 // Minutes of the month as a date, lengths in hours and minutes: read from an argument, and put into a lent buffer.
 #![tactic(auto)]
 
-ghost use Rattle.std.specs.Prelude.{◌≡◌, ◌+◌, ◌%◌, ◌≤◌, length};
+ghost use Rattle.std.specs.Prelude.{◌≡◌, ◌==◌, ◌+◌, ◌%◌, ◌≤◌, length, position};
 ghost use Rattle.render.specs.Decimal.{digit};
 ghost use Rattle.render.specs.Inner.{Puts};
 ghost use Rattle.clock.specs.Clock.{has, before, behind, number_in, up_to16_bits, date_of, start_of, minutes_in, rest_in};
@@ -10,99 +10,78 @@ ghost use Rattle.clock.specs.Clock.{length_of, two_digits, clock_text, date_text
 use render::{put_decimal, put_word};
 use row::{CEILING, grown, hold, is_digit};
 
-// What a text says: so many minutes, as many as 16 bits hold; or it says none.
-#[derive(Clone, Copy)]
-pub enum Minutes {
-    Number(u16),
-    Nothing,
-}
-
-// The most minutes that a start or a length holds.
-const MOST_MINUTES: u64 = 65535;
-
-// Where the first such byte stands, or the text's end.
-fn mark_at(text: &[u8], mark: u8) -> usize
-    ensures value { result ≡ length (before mark text.now) }
-    ensures upper_bound { result ≤ length text.now }
+// Where the first such byte stands, if there is one.
+fn place_of(text: &[u8], mark: u8) -> Option<usize>
+    ensures { result ≡ position (λ b. b == mark) text.now }
 {
-    let mut i: usize = 0;
-    while i < text.len() {
-        if text[i] == mark {
-            return i;
-        }
-        i += 1;
-    }
-    i
+    text.iter().position(|b| *b == mark)
 }
 
 // Whether the text has such a byte; what stands before the first of them, and behind it.
 fn has(text: &[u8], mark: u8) -> bool
     ensures { result ≡ has mark text.now }
 {
-    mark_at(text, mark) < text.len()
+    text.contains(&mark)
 }
 
 pub fn before(text: &[u8], mark: u8) -> &[u8]
     ensures { result.now ≡ before mark text.now }
 {
-    let n = mark_at(text, mark);
-    &text[..n]
+    match place_of(text, mark) {
+        Some(n) => &text[..n],
+        None => text,
+    }
 }
 
 pub fn behind(text: &[u8], mark: u8) -> &[u8]
     ensures { result.now ≡ behind mark text.now }
 {
-    let n = mark_at(text, mark);
-    if n == text.len() {
-        return &text[n..];
+    match place_of(text, mark) {
+        Some(n) => &text[n + 1..],
+        None => &[],
     }
-    let next = n + 1;
-    &text[next..]
 }
 
 // The number that digits say; what is no number is past every limit.
 fn number_in(text: &[u8]) -> u64
     ensures { result ≡ number_in text.now }
 {
-    if text.len() == 0 {
+    if text.is_empty() {
         return CEILING;
     }
-    let mut value: u64 = 0;
-    let mut i: usize = 0;
-    while i < text.len() {
-        let b = text[i];
-        if !is_digit(b) {
+    let mut value = 0;
+    for b in text {
+        if !is_digit(*b) {
             return CEILING;
         }
-        value = grown(value, b);
-        i += 1;
+        value = grown(value, *b);
     }
     hold(value)
 }
 
 // So many minutes, if 16 bits hold them.
-fn up_to_16_bits(n: u64) -> Minutes
+#[tactic(auto, unfolding(crate::specs::Clock::up_to16_bits))]
+fn up_to_16_bits(n: u64) -> Option<u16>
     ensures { result ≡ up_to16_bits n }
 {
-    if n <= MOST_MINUTES {
-        return Minutes::Number(n as u16);
-    }
-    Minutes::Nothing
+    u16::try_from(n).ok()
 }
 
 // The minute of a date, in a month of so many days.
-fn date_of(days: u32, day: u64, hour: u64, minute: u64) -> Minutes
+#[tactic(auto, unfolding(crate::specs::Clock::date_of))]
+fn date_of(days: u32, day: u64, hour: u64, minute: u64) -> Option<u16>
     ensures { result ≡ date_of days day hour minute }
 {
-    let there = (1 <= day) & (day <= days as u64) & (hour < 24) & (minute < 60);
+    let there = (1 <= day) & (day <= u64::from(days)) & (hour < 24) & (minute < 60);
     if !there {
-        return Minutes::Nothing;
+        return None;
     }
     up_to_16_bits((day - 1) * 1440 + hour * 60 + minute)
 }
 
 // A start as an argument has it, in a month of so many days.
-pub fn start_of(days: u32, text: &[u8]) -> Minutes
+#[tactic(auto, unfolding(crate::specs::Clock::start_of))]
+pub fn start_of(days: u32, text: &[u8]) -> Option<u16>
     ensures { result ≡ start_of days text.now }
 {
     if !has(text, b'/') {
@@ -116,30 +95,33 @@ pub fn start_of(days: u32, text: &[u8]) -> Minutes
 }
 
 // Minutes with `m` behind them or without.
+#[tactic(auto, unfolding(crate::specs::Clock::minutes_in))]
 fn minutes_in(text: &[u8]) -> u64
     ensures { result ≡ minutes_in text.now }
 {
     if !has(text, b'm') {
         return number_in(text);
     }
-    if behind(text, b'm').len() != 0 {
+    if !behind(text, b'm').is_empty() {
         return CEILING;
     }
     number_in(before(text, b'm'))
 }
 
 // The minutes behind the hours, if there are any.
+#[tactic(auto, unfolding(crate::specs::Clock::rest_in))]
 fn rest_in(text: &[u8]) -> u64
     ensures { result ≡ rest_in text.now }
 {
-    if text.len() == 0 {
+    if text.is_empty() {
         return 0;
     }
     minutes_in(text)
 }
 
 // A length as an argument has it.
-pub fn length_of(text: &[u8]) -> Minutes
+#[tactic(auto, using(crate::proofs::Dates::most_number_lem, crate::proofs::Dates::most_rest), unfolding(crate::specs::Clock::length_of))]
+pub fn length_of(text: &[u8]) -> Option<u16>
     ensures { result ≡ length_of text.now }
 {
     if !has(text, b'h') {
@@ -157,6 +139,7 @@ fn last_digit(n: u16) -> u8
     b'0' + (n % 10) as u8
 }
 
+#[tactic(auto, unfolding(crate::specs::Clock::two_digits))]
 fn put_two(out: &mut [u8], at: usize, n: u16) -> usize
     requires { at + 2 ≤ length out.old }
     ensures { Puts 2 out.old at (two_digits n) out.new result }
@@ -181,7 +164,7 @@ pub fn put_date(out: &mut [u8], at: usize, minutes: u16) -> usize
     ensures { Puts most_date out.old at (date_text minutes) out.new result }
 {
     let day = minutes / 1440 + 1;
-    let a = put_decimal(out, at, day as u64);
+    let a = put_decimal(out, at, u64::from(day));
     let b = put_word(out, a, b"/");
     put_clock(out, b, minutes)
 }
@@ -190,7 +173,7 @@ fn put_hours(out: &mut [u8], at: usize, n: u16) -> usize
     requires { at + 21 ≤ length out.old }
     ensures { Puts 21 out.old at (hours_text n) out.new result }
 {
-    let next = put_decimal(out, at, n as u64);
+    let next = put_decimal(out, at, u64::from(n));
     put_word(out, next, b"h")
 }
 
@@ -198,7 +181,7 @@ fn put_minutes(out: &mut [u8], at: usize, n: u16) -> usize
     requires { at + 21 ≤ length out.old }
     ensures { Puts 21 out.old at (minutes_text n) out.new result }
 {
-    let next = put_decimal(out, at, n as u64);
+    let next = put_decimal(out, at, u64::from(n));
     put_word(out, next, b"m")
 }
 

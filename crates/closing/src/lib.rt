@@ -5,12 +5,11 @@ ghost use Rattle.std.specs.Prelude.{◌≡◌, ◌≤◌};
 ghost use Rattle.closing.specs.Closing.{is_settled};
 
 use book::header_of;
-use clerk::args::{Held, argument, first, number_at};
+use clerk::args::{argument, first, number_at};
 use clerk::load::load_or;
 use clerk::print;
 use clerk::shelf::{note_at, tell_failed};
-use faults::{Table, Walk, is_sound};
-use grid::alone::Told;
+use faults::{Table, Walk};
 use month::Fault;
 use month_files::places::{books_at, register_at};
 use month_files::ramps::{Ramps, month_hours, read_ramps};
@@ -23,7 +22,9 @@ use share::array::seen;
 use share::limits::{MOST_PART, PART_PLACE};
 use tables::roll::{Register, read_register};
 use tally::wrong::tell_register;
-use tray::books::{is_unchanged, join_named, lost_at, more, note_refused, note_refused_at};
+use tray::books::{
+    Mark, all_stay, is_unchanged, join_named, lost_at, note_refused, note_refused_at,
+};
 use tray::spare::tell_spare;
 
 pub mod calls;
@@ -42,16 +43,7 @@ const PART: usize = 2;
 fn is_settled(fault: Fault) -> bool
     ensures { result ≡ is_settled fault }
 {
-    match fault {
-        Fault::NoFault => true,
-        Fault::InPart => false,
-        Fault::InRegister(_) => false,
-        Fault::InBook(_, _) => false,
-        Fault::Unlisted(_) => false,
-        Fault::OfMember(_, _, _) => false,
-        Fault::OfRamping(_, _, _) => false,
-        Fault::InSharing(_, _) => false,
-    }
+    matches!(fault, Fault::NoFault)
 }
 
 // Nothing is listed yet.
@@ -72,33 +64,39 @@ fn none_listed() -> Counted {
     }
 }
 
-// Two counts together, as far as anybody counts.
-fn sum(a: usize, b: usize) -> usize {
-    if a < 0x1000_0000_0000 {
-        if b < 0x1000_0000_0000 {
-            return a + b;
-        }
-    }
-    a
-}
-
 // How much of what is listed is in the way of the month: all but records that do not stand, and books that add nothing.
 fn in_the_way(c: Counted) -> usize {
-    let calls = sum(sum(c.contested, c.closed), sum(c.against, c.unlisted));
-    let files = sum(sum(c.register, c.series), sum(c.ramping, c.books));
-    sum(sum(calls, files), sum(c.part, c.sharing))
+    [
+        c.contested,
+        c.closed,
+        c.against,
+        c.unlisted,
+        c.register,
+        c.series,
+        c.ramping,
+        c.books,
+        c.part,
+        c.sharing,
+    ]
+    .iter()
+    .fold(0, |all: usize, n| all.saturating_add(*n))
 }
 
-// The part. Where it is none, that is told, and it is one more than the most.
-fn list_part(terminal: &Terminal) -> u32 {
-    if let Told::Number(n) = number_at(terminal, PART) {
-        if n <= MOST_PART as u64 {
-            return n as u32;
+// The part. Where it is none, that is told.
+fn list_part(terminal: &Terminal) -> Option<u32> {
+    if let Some(n) = number_at(terminal, PART) {
+        if n <= u64::from(MOST_PART) {
+            return Some(n as u32);
         }
     }
     print::note(terminal, b"part", b"is no number from 0 to 10000");
     note_refused(terminal, b"part", 10, PART_PLACE);
-    MOST_PART + 1
+    None
+}
+
+// The lines of a register that was read.
+pub fn lines_of(register: &Register) -> &[Entry] {
+    &register.entries[..seen(register.count)]
 }
 
 // The register, and how many of its lines are bad: where there are any, or it could not be read, its number is not 0, and remarks have said why; its entries
@@ -118,21 +116,15 @@ fn no_register() -> Roll {
 
 // How many faults a register's text has: no more than bytes.
 fn count_faults(text: &[u8]) -> usize {
-    let mut n: usize = 0;
     let mut walk = Walk::start(Table::Register, text);
-    let mut left = text.len();
-    while 0 < left {
+    for n in 0..text.len() {
         let told = walk.next_fault(text);
-        let found = told.found;
-        let wrong = found.wrong;
-        if is_sound(wrong) {
+        if told.found.is_none() {
             return n;
         }
-        n = more(n);
         walk = told.walk;
-        left -= 1;
     }
-    n
+    text.len()
 }
 
 // What a register's text says; where it is refused, every fault of it is told, and its sound lines are its entries.
@@ -145,23 +137,16 @@ fn list_lines(terminal: &Terminal, name: &[u8], text: &[u8]) -> Roll {
     note_refused(terminal, name, register.number, register.place);
     let mut sound = sound_register(text);
     sound.number = register.number;
-    let bad = count_faults(text);
-    if bad == 0 {
-        return Roll {
-            register: sound,
-            bad: 1,
-        };
-    }
     Roll {
         register: sound,
-        bad,
+        bad: count_faults(text).max(1),
     }
 }
 
 // The register's file.
 fn list_register(terminal: &Terminal) -> Roll {
     let mut name = io::buffer();
-    let Held::Bytes(n) = argument(terminal, register_at(terminal), &mut name) else {
+    let Some(n) = argument(terminal, register_at(terminal), &mut name) else {
         note_at(
             terminal,
             register_at(terminal),
@@ -170,7 +155,7 @@ fn list_register(terminal: &Terminal) -> Roll {
         return no_register();
     };
     let mut text = io::large_buffer();
-    let Held::Bytes(size) = load_or(terminal, first(&name, n), true, &mut text) else {
+    let Some(size) = load_or(terminal, first(&name, n), true, &mut text) else {
         return no_register();
     };
     list_lines(terminal, first(&name, n), first(&text, size))
@@ -217,17 +202,17 @@ fn list_sharing(terminal: &Terminal, before: Counted, fault: Fault) -> usize {
 }
 
 // That a sound register has no member, so that the month would be settled of nobody.
-fn list_nobody(terminal: &Terminal, register: Register) {
+fn list_nobody(terminal: &Terminal, register: &Register) {
     if register.number == 0 {
         tell_nobody(terminal, register.count);
     }
 }
 
-// The month is settled as `month` settles it, and what sharing refuses is told. Whether it is settled, and everything was read, decides the last line.
+// The month is settled as `month` settles it, a part that is none with it, and what sharing refuses is told. Whether it is settled, and everything was read, decides the last line.
 fn list_month(
     terminal: &Terminal,
-    part: u32,
-    register: Register,
+    part: Option<u32>,
+    register: &Register,
     joined: &[u8],
     series: &[u32],
     lengths: Lengths,
@@ -235,16 +220,20 @@ fn list_month(
     before: Counted,
 ) {
     let mut c = before;
-    let entries = register.entries;
     c.sharing = list_above(terminal, register, joined, series, lengths, ramps);
-    let each = lengths.each;
-    let ramped = ramps.each;
-    let s = month::settle(part, entries, register.count, joined, series, each, ramped);
-    let fault = s.fault;
-    c.sharing = sum(c.sharing, list_sharing(terminal, c, fault));
+    let s = month::settle(
+        part.unwrap_or(MOST_PART + 1),
+        register.entries,
+        register.count,
+        joined,
+        series,
+        lengths.each,
+        ramps.each,
+    );
+    c.sharing = c.sharing.saturating_add(list_sharing(terminal, c, s.fault));
     list_nobody(terminal, register);
     let read = (c.register == 0) & (c.books == 0) & (lengths.bad == 0) & (ramps.bad == 0);
-    tell_end(terminal, c, is_settled(fault) & read);
+    tell_end(terminal, c, is_settled(s.fault) & read);
 }
 
 // Of how many members the files are read: of none, where their folder has no name, and that is told.
@@ -272,43 +261,10 @@ fn ramps_of(terminal: &Terminal, entries: [Entry; MOST_ENTRIES], count: usize, h
     read_ramps(terminal, entries, count, hours, true)
 }
 
-// The members' files, then the joined book's calls, then books that add nothing.
-fn list_joined(
-    terminal: &Terminal,
-    part: u32,
-    register: Register,
-    joined: &[u8],
-    left: &mut [u8],
-    before: Counted,
-) {
-    let mut c = before;
-    let entries = register.entries;
-    let count = seen(register.count);
-    let files = files_of(terminal, count);
-    if files < count {
-        c.series = 1;
-    }
-    let mut series = room();
-    let lengths = read_all(terminal, entries, files, true, &mut series);
-    let bad = list_series(terminal, entries, files, joined, &series, lengths);
-    c.series = sum(c.series, sum(lengths.bad, bad));
-    let hours = month_hours(joined);
-    let ramps = ramps_of(terminal, entries, files, hours);
-    c.ramping = sum(
-        ramps.bad,
-        list_ramping(terminal, entries, files, ramps, hours),
-    );
-    let d = list_calls(terminal, books_at(terminal), left, joined, register, c);
-    list_rest(
-        terminal, part, register, joined, &series, lengths, ramps, left, d,
-    );
-}
-
 // Whether the books could be read again and are still what they were; else that is told in the last line.
-fn is_current(terminal: &Terminal, left: &mut [u8], joined: &[u8]) -> bool {
+fn is_current(terminal: &Terminal, left: &mut [Mark], joined: &[u8]) -> bool {
     let same = is_unchanged(terminal, books_at(terminal), left, joined);
-    let lost = lost_at(terminal, books_at(terminal), left);
-    if lost != 0 {
+    if let Some(lost) = lost_at(terminal, books_at(terminal), left) {
         tell_failed(terminal, lost, b"cannot be read again: make the list again");
         return false;
     }
@@ -322,22 +278,35 @@ fn is_current(terminal: &Terminal, left: &mut [u8], joined: &[u8]) -> bool {
     same
 }
 
-// Books that add nothing; then the month, unless a book has changed since it was joined, or could not be read again.
-fn list_rest(
+// The members' files, then the joined book's calls, then books that add nothing; then the month, unless a book has changed since it was joined, or could not be read again.
+fn list_joined(
     terminal: &Terminal,
-    part: u32,
-    register: Register,
+    part: Option<u32>,
+    register: &Register,
     joined: &[u8],
-    series: &[u32],
-    lengths: Lengths,
-    ramps: Ramps,
-    left: &mut [u8],
+    left: &mut [Mark],
     before: Counted,
 ) {
     let mut c = before;
+    let count = seen(register.count);
+    let files = files_of(terminal, count);
+    if files < count {
+        c.series = 1;
+    }
+    let entries = &register.entries[..files];
+    let mut series = room();
+    let lengths = read_all(terminal, register.entries, files, true, &mut series);
+    let bad = list_series(terminal, entries, joined, &series, lengths);
+    c.series = c.series.saturating_add(lengths.bad).saturating_add(bad);
+    let hours = month_hours(joined);
+    let ramps = ramps_of(terminal, register.entries, files, hours);
+    c.ramping = ramps
+        .bad
+        .saturating_add(list_ramping(terminal, entries, ramps, hours));
+    list_calls(terminal, books_at(terminal), left, joined, register, &mut c);
     c.spare = tell_spare(terminal, books_at(terminal), left);
     if is_current(terminal, left, joined) {
-        list_month(terminal, part, register, joined, series, lengths, ramps, c);
+        list_month(terminal, part, register, joined, &series, lengths, ramps, c);
     }
 }
 
@@ -345,17 +314,16 @@ fn list_rest(
 pub fn list_drawer(terminal: &Terminal) {
     let mut c = none_listed();
     let part = list_part(terminal);
-    if MOST_PART < part {
+    if part.is_none() {
         c.part = 1;
     }
     let roll = list_register(terminal);
-    let register = roll.register;
     c.register = roll.bad;
     let mut all = io::large_buffer();
-    let mut left = io::large_buffer();
+    let mut left = all_stay();
     let taken = join_named(terminal, books_at(terminal), &mut all, &mut left);
     c.books = taken.bad;
     let joined = first(&all, taken.size);
     tell_header(terminal, joined);
-    list_joined(terminal, part, register, joined, &mut left, c);
+    list_joined(terminal, part, &roll.register, joined, &mut left, c);
 }

@@ -10,24 +10,23 @@ use Rattle.units.specs.Month.{minutes_per_quarter}
 use Rattle.call.specs.declared.Call.{Call}
 use Rattle.call.specs.Revising.{live}
 use Rattle.rule.specs.Standing.{is_contested, is_withdrawn}
-use Rattle.wish.specs.declared.Old.{Old}
-use Rattle.wish.specs.declared.Old.TheVariants.{Missing, Stands}
+use Rattle.std.specs.Prelude.{Option, Some, None, Ok, Err}
 use Rattle.wish.specs.Wish.{old_in}
-use Rattle.cutting.specs.declared.Cut.TheVariants.{InTwo, NoCall, Withdrawn, Contested, NoWindow, Highest, NotInside, InUse}
+use Rattle.cutting.specs.declared.NotCut.TheVariants.{NoCall, Withdrawn, Contested, NoWindow, Highest, NotInside, InUse}
 use Rattle.cutting.specs.Parts.{first_part_of, second_part_of}
 use Rattle.cutting.specs.Outcomes.{Inside}
 use Rattle.cutting.specs.Cutting.{highest, is_window, is_inside, cut_new, cut_window, cut_call, cut_old, cutting}
 
-module _ (x : Call) (at new : ℕ) (taken : Old) where
-  pub of_withdrawn : is_withdrawn x ≡ true → cut_call x at new taken ≡ Withdrawn x
+module _ (x : Call) (at new : ℕ) (taken : Option Call) where
+  pub of_withdrawn : is_withdrawn x ≡ true → cut_call x at new taken ≡ Err (Withdrawn x)
   unfolding cut_call
   of_withdrawn p = rw p refl
 
-  pub of_contested : is_withdrawn x ≡ false → is_contested x ≡ true → cut_call x at new taken ≡ Contested x
+  pub of_contested : is_withdrawn x ≡ false → is_contested x ≡ true → cut_call x at new taken ≡ Err (Contested x)
   unfolding cut_call
   of_contested p q = rw (p, q) refl
 
-  pub of_other : is_withdrawn x ≡ false → is_contested x ≡ false → is_window x ≡ false → cut_call x at new taken ≡ NoWindow x
+  pub of_other : is_withdrawn x ≡ false → is_contested x ≡ false → is_window x ≡ false → cut_call x at new taken ≡ Err (NoWindow x)
   unfolding cut_call
   of_other p q w = rw (p, q, w) refl
 
@@ -35,11 +34,11 @@ module _ (x : Call) (at new : ℕ) (taken : Old) where
   unfolding cut_call
   of_window p q w = rw (p, q, w) refl
 
-  pub of_highest : highest ≤ x.revision → cut_window x at new taken ≡ Highest x
+  pub of_highest : highest ≤ x.revision → cut_window x at new taken ≡ Err (Highest x)
   unfolding cut_window
   of_highest h = rw (le-leb highest x.revision h) refl
 
-  pub of_outside : x.revision < highest → is_inside x at ≡ false → cut_window x at new taken ≡ NotInside x
+  pub of_outside : x.revision < highest → is_inside x at ≡ false → cut_window x at new taken ≡ Err (NotInside x)
   unfolding cut_window
   of_outside h i = rw (lt-leb highest x.revision h, i) refl
 
@@ -47,22 +46,22 @@ module _ (x : Call) (at new : ℕ) (taken : Old) where
   unfolding cut_window
   of_inside h i = rw (lt-leb highest x.revision h, i) refl
 
-pub of_free : (x : Call) (at new : ℕ) → cut_new x at new Missing ≡ InTwo (first_part_of x at) (second_part_of x at new)
+pub of_free : (x : Call) (at new : ℕ) → cut_new x at new None ≡ Ok (first_part_of x at, second_part_of x at new)
 unfolding cut_new
 of_free x at new = refl
 
-pub of_used : (x : Call) (at new : ℕ) (y : Call) → cut_new x at new (Stands y) ≡ InUse y
+pub of_used : (x : Call) (at new : ℕ) (y : Call) → cut_new x at new (Some y) ≡ Err (InUse y)
 unfolding cut_new
 of_used x at new y = refl
 
 module _ (b : List ℕ) (member number at new : ℕ) where
-  pub of_none : old_in b member number ≡ Missing → cutting b member number at new ≡ NoCall
+  pub of_none : old_in b member number ≡ None → cutting b member number at new ≡ Err NoCall
   unfolding cutting cut_old
   of_none e = rw e refl
 
-  pub of_call_lem : (x : Call) → old_in b member number ≡ Stands x → cutting b member number at new ≡ cut_call x at new (old_in b member new)
+  pub of_call_lem : (x : Call) → old_in b member number ≡ Some x → cutting b member number at new ≡ cut_call x at new (old_in b member new)
   unfolding cutting cut_old
-  of_call_lem x e = ap (λ (o : Old). cut_old o at new (old_in b member new)) e
+  of_call_lem x e = ap (λ (o : Option Call). cut_old o at new (old_in b member new)) e
 
 -- the second part with so many minutes
 abbrev pub second_of : Call → ℕ → ℕ → ℕ → Call

@@ -21,13 +21,11 @@ use Rattle.book.specs.Cut.{NewNumber, Cut as IsCut}
 use Rattle.book.proofs.Parts.{call_within}
 use Rattle.rule.specs.Standing.{is_contested, is_withdrawn}
 use Rattle.join.proofs.Cutting.{Room, BothAccepted, both_joined}
-use Rattle.wish.specs.declared.Old.TheVariants.{Missing, Stands}
+use Rattle.std.specs.Prelude.{Some, None, Ok}
 use Rattle.wish.specs.Wish.{old_in}
 use Rattle.wish.proofs.Olds.{OldIs, has_none, has_one, in_old, old_is}
-use Rattle.cutting.specs.declared.Cut.{Cut}
-use Rattle.cutting.specs.declared.Cut.TheVariants.{InTwo}
 use Rattle.cutting.specs.Parts.{first_part_of, second_part_of}
-use Rattle.cutting.specs.Cutting.{highest, is_window, is_inside, cut_new, cut_window, cut_call, cutting}
+use Rattle.cutting.specs.Cutting.{Cut, highest, is_window, is_inside, cut_new, cut_window, cut_call, cutting}
 use Rattle.cutting.specs.Outcomes.{Has, LiveWindow, Inside, CutOutcome, no_such_call, is_withdrawn_lem, is_contested_lem, is_no_window, is_at_highest, is_not_inside, is_in_use, is_cut}
 use Rattle.cutting.proofs.Cases.{of_withdrawn, of_contested, of_other, of_window, of_highest, of_outside, of_inside, of_free, of_used, of_none, of_call_lem, inside_is}
 use Rattle.cutting.proofs.Desk.{desk_cuts}
@@ -81,13 +79,13 @@ module _ (b : List ℕ) (s : Sound b) (member number at new : ℕ) (small : numb
   key_of_lem : (n : ℕ) (x : Call) → Has b member n x → call_key x ≡ key_of member n
   key_of_lem n x h = let p = h.whose in let q = h.under in omega (arith, p, q)
 
-  old_of : (n : ℕ) (x : Call) → Has b member n x → old_in b member n ≡ Stands x
+  old_of : (n : ℕ) (x : Call) → Has b member n x → old_in b member n ≡ Some x
   old_of n x h = in_old b s member n x h.there (key_of_lem n x h)
 
-  no_old : (n : ℕ) → n < 4294967296 → ((x : Call) → Has b member n x → ⊥) → old_in b member n ≡ Missing
+  no_old : (n : ℕ) → n < 4294967296 → ((x : Call) → Has b member n x → ⊥) → old_in b member n ≡ None
   no_old n l h = go (old_is b s member n)
     where
-      go : OldIs b member n → old_in b member n ≡ Missing
+      go : OldIs b member n → old_in b member n ≡ None
       go (has_none e z) = e
       go (has_one x e i k) = absurd (h x (has_of n l x i k))
 
@@ -199,19 +197,20 @@ module _ (b : List ℕ) (s : Sound b) (member number at new : ℕ) (small : numb
       × IsCut b (both_joined b x y page out page' out') whole x y
 
   -- THE TWO PARTS THAT ARE FOUND CUT THE BOOK, where there is room.
-  pub found_cuts : (x y : Call) → cutting b member number at new ≡ InTwo x y → (page out page' out' : List ℕ) → Room b page out page' out' → CutInTurn x y page out page' out'
+  pub found_cuts : (x y : Call) → cutting b member number at new ≡ Ok (x, y) → (page out page' out' : List ℕ) → Room b page out page' out' → CutInTurn x y page out page' out'
   found_cuts x y e page out page' out' room = go told
     where
       go : Outcome (cutting b member number at new) → CutInTurn x y page out page' out'
-      go (no_such_call f z) = absurd (let n : ◌≡◌ {A = ℕ} 0 1 = cc in omega arith)
-      go (is_withdrawn_lem w f h p) = absurd (let n : ◌≡◌ {A = ℕ} 0 1 = cc in omega arith)
-      go (is_contested_lem w f h p) = absurd (let n : ◌≡◌ {A = ℕ} 0 1 = cc in omega arith)
-      go (is_no_window w f h l z) = absurd (let n : ◌≡◌ {A = ℕ} 0 1 = cc in omega arith)
-      go (is_at_highest w f h v l) = absurd (let n : ◌≡◌ {A = ℕ} 0 1 = cc in omega arith)
-      go (is_not_inside w f h v l z) = absurd (let n : ◌≡◌ {A = ℕ} 0 1 = cc in omega arith)
-      go (is_in_use w z f h v l i k) = absurd (let n : ◌≡◌ {A = ℕ} 0 1 = cc in omega arith)
+      go (no_such_call f z) = absurd cc
+      go (is_withdrawn_lem w f h p) = absurd cc
+      go (is_contested_lem w f h p) = absurd cc
+      go (is_no_window w f h l z) = absurd cc
+      go (is_at_highest w f h v l) = absurd cc
+      go (is_not_inside w f h v l z) = absurd cc
+      go (is_in_use w z f h v l i k) = absurd cc
       go (is_cut w f h m) =
-          let p : x ≡ first_part_of w at = cc in
-          let q : y ≡ second_part_of w at new = cc in
+          let both : ◌≡◌ {A = Call × Call} (x, y) (first_part_of w at, second_part_of w at new) = cc in
+          let p : x ≡ first_part_of w at = ap (λ (t : Call × Call). t.0) both in
+          let q : y ≡ second_part_of w at new = ap (λ (t : Call × Call). t.1) both in
           let d = desk_cuts b s w at new m page out page' out' room in
           (w, h, rw (p, q) d.0, rw (p, q) d.1, rw (p, q) d.2)

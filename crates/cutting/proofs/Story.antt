@@ -20,10 +20,10 @@ use Rattle.book.proofs.Cutting.{count_of_calls, cut_count, cut_one}
 use Rattle.book.proofs.Samples.{march, good_from, Sample, sample, sample_count, is_new, new_in, window}
 use Rattle.book.proofs.CutStory.{windows}
 use Rattle.score.specs.Scoring.{scoring}
-use Rattle.cutting.specs.declared.Cut.{Cut as CutIs}
-use Rattle.cutting.specs.declared.Cut.TheVariants.{InTwo, NotInside, InUse}
+use Rattle.std.specs.Prelude.{Ok, Err}
+use Rattle.cutting.specs.declared.NotCut.TheVariants.{NotInside, InUse}
 use Rattle.cutting.specs.Parts.{first_part_of, second_part_of, MayCut}
-use Rattle.cutting.specs.Cutting.{cutting}
+use Rattle.cutting.specs.Cutting.{Cut as CutIs, cutting}
 use Rattle.cutting.specs.Outcomes.{Has, LiveWindow, CutOutcome, is_not_inside, is_in_use, is_cut}
 use Rattle.score.proofs.CutStory.{outputs, plant, scores, rising, called, whole, before, above, second_kept, before_scored, still_scores}
 use Rattle.join.proofs.Cutting.{Room, both_joined, forward, backward, KeptHigher, cut_entered, cut_accepted}
@@ -137,16 +137,16 @@ module _ (at new : ℕ) (small : new < 4294967296) where
   found_of : (r : CutIs) → CutOutcome before.book member 5 at new r → cutting before.book member 5 at new ≡ r
   found_of r o = sym ((cut_exact before.book before.sound member 5 at new (lit< tt) small r).1 o)
 
-pub desk_found : cutting before.book member 5 45 9 ≡ InTwo (called 5 2 0 45) (called 9 1 45 75)
-desk_found = found_of 45 9 (lit< tt) (InTwo (called 5 2 0 45) (called 9 1 45 75)) (is_cut whole refl has_whole may)
+pub desk_found : cutting before.book member 5 45 9 ≡ Ok (called 5 2 0 45, called 9 1 45 75)
+desk_found = found_of 45 9 (lit< tt) (Ok (called 5 2 0 45, called 9 1 45 75)) (is_cut whole refl has_whole may)
 
-pub own_number : cutting before.book member 5 45 5 ≡ InUse whole
+pub own_number : cutting before.book member 5 45 5 ≡ Err (InUse whole)
 own_number =
-    found_of 45 5 (lit< tt) (InUse whole)
+    found_of 45 5 (lit< tt) (Err (InUse whole))
     (is_in_use whole whole refl has_whole live_whole (lit< tt) (record { quarter = refl; behind = lit< tt; before = lit< tt }) has_whole)
 
-pub own_end : cutting before.book member 5 120 9 ≡ NotInside whole
-own_end = found_of 120 9 (lit< tt) (NotInside whole) (is_not_inside whole refl has_whole live_whole (lit< tt) (λ i. let h = i.before in omega arith))
+pub own_end : cutting before.book member 5 120 9 ≡ Err (NotInside whole)
+own_end = found_of 120 9 (lit< tt) (Err (NotInside whole)) (is_not_inside whole refl has_whole live_whole (lit< tt) (λ i. let h = i.before in omega arith))
 
 pub desk_cut_found : CutInTurn before.book before.sound member 5 45 9 (lit< tt) (lit< tt) (called 5 2 0 45) (called 9 1 45 75) page output page output
 desk_cut_found = found_cuts before.book before.sound member 5 45 9 (lit< tt) (lit< tt) (called 5 2 0 45) (called 9 1 45 75) desk_found page output page output room

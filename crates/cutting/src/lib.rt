@@ -2,19 +2,17 @@
 #![tactic(auto)]
 
 ghost use Rattle.std.specs.Prelude.{◌≡◌, ◌+◌, ◌<◌};
-ghost use Rattle.cutting.specs.declared.Cut.TheVariants.{InTwo};
 ghost use Rattle.cutting.specs.Parts.{first_part_of, second_part_of};
 ghost use Rattle.cutting.specs.Cutting.{is_window, is_inside, cut_window, cut_call, cutting};
 
 use call::service::{DEEP_PEAK, RESERVE};
 use call::{CONTESTED, Call, Content, LIVE, WITHDRAWN};
 use units::calendar::MINUTES_PER_QUARTER;
-use wish::{Old, old_in};
+use wish::old_in;
 
-// The two parts; or what stands in the way, with the call that was to be cut, or, of a number in use, the call that has it.
+// What stands in the way of a cut, with the call that was to be cut, or, of a number in use, the call that has it.
 #[derive(Clone, Copy)]
-pub enum Cut {
-    InTwo(Call, Call),
+pub enum NotCut {
     NoCall,
     Withdrawn(Call),
     Contested(Call),
@@ -38,15 +36,15 @@ fn is_window(x: Call) -> bool
 fn is_inside(x: Call, at: u16) -> bool
     ensures { result ≡ is_inside x at }
 {
-    let end = x.start as u32 + x.length as u32;
-    (at % MINUTES_PER_QUARTER == 0) & (x.start < at) & ((at as u32) < end)
+    let end = u32::from(x.start) + u32::from(x.length);
+    (at % MINUTES_PER_QUARTER == 0) & (x.start < at) & (u32::from(at) < end)
 }
 
 // The part up to the minute, which keeps the number, and the part from there on, which is new.
-fn in_two(x: Call, at: u16, new: u32) -> Cut
+fn in_two(x: Call, at: u16, new: u32) -> (Call, Call)
     requires revision_bound { x.revision + 1 < 4294967296 }
     requires start_lt_at { (x.start < at) × (at < x.start + x.length) }
-    ensures { result ≡ InTwo (first_part_of x at) (second_part_of x at new) }
+    ensures { result ≡ (first_part_of x at, second_part_of x at new) }
 {
     let before = at - x.start;
     let behind = x.length - before;
@@ -74,47 +72,53 @@ fn in_two(x: Call, at: u16, new: u32) -> Cut
         b: 0,
         c: 0,
     };
-    Cut::InTwo(first, second)
+    (first, second)
 }
 
 // Of a live window: its revision, the minute, and what the book has of the new number.
-fn cut_window(x: Call, at: u16, new: u32, taken: Old) -> Cut
+fn cut_window(x: Call, at: u16, new: u32, taken: Option<Call>) -> Result<(Call, Call), NotCut>
     ensures { result ≡ cut_window x at new taken }
 {
     if HIGHEST <= x.revision {
-        return Cut::Highest(x);
+        return Err(NotCut::Highest(x));
     }
     if !is_inside(x, at) {
-        return Cut::NotInside(x);
+        return Err(NotCut::NotInside(x));
     }
     match taken {
-        Old::Missing => in_two(x, at, new),
-        Old::Stands(y) => Cut::InUse(y),
+        None => Ok(in_two(x, at, new)),
+        Some(y) => Err(NotCut::InUse(y)),
     }
 }
 
 // Of any call: first whether it is a live window.
-fn cut_call(x: Call, at: u16, new: u32, taken: Old) -> Cut
+fn cut_call(x: Call, at: u16, new: u32, taken: Option<Call>) -> Result<(Call, Call), NotCut>
     ensures { result ≡ cut_call x at new taken }
 {
     if x.state == WITHDRAWN {
-        return Cut::Withdrawn(x);
+        return Err(NotCut::Withdrawn(x));
     }
     if x.state == CONTESTED {
-        return Cut::Contested(x);
+        return Err(NotCut::Contested(x));
     }
     if !is_window(x) {
-        return Cut::NoWindow(x);
+        return Err(NotCut::NoWindow(x));
     }
     cut_window(x, at, new, taken)
 }
 
 // What becomes of a member's call that is to be cut at a minute, the part from there on with a new number.
-pub fn cut_of(book: &[u8], member: u16, number: u32, at: u16, new: u32) -> Cut
+pub fn cut_of(
+    book: &[u8],
+    member: u16,
+    number: u32,
+    at: u16,
+    new: u32,
+) -> Result<(Call, Call), NotCut>
     ensures { result ≡ cutting book.now member number at new }
 {
     match old_in(book, member, number) {
-        Old::Missing => Cut::NoCall,
-        Old::Stands(x) => cut_call(x, at, new, old_in(book, member, new)),
+        None => Err(NotCut::NoCall),
+        Some(x) => cut_call(x, at, new, old_in(book, member, new)),
     }
 }

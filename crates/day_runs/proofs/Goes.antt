@@ -1,4 +1,4 @@
--- A minute by the window that covers it, and how passes over the windows find it. Assumes nothing.
+-- A minute by the window that covers it, and how a pass over the windows finds it. Assumes nothing.
 use mathlib.Core.Path.{◌≡◌, refl, sym, ◌∙◌}
 use mathlib.Core.Bool.{Bool, true, false, cond, not, ◌&&◌, ◌||◌}
 use mathlib.Core.List.{List, [], ◌∷◌}
@@ -9,12 +9,13 @@ use lib.Dec.{eqb}
 use lib.ListN.{get_or, length, drop, drop_of_length-le, length-map}
 use lib.Seq.{drop-cons}
 use borrow.Author.Tests.{eq-eqb, ne_eqb, eqb-true, lt-ltb, le-ltb, ltb-false}
+use Rattle.std.specs.Prelude.{None, Some}
 use Rattle.le.proofs.Tests.{each}
 use Rattle.call.specs.declared.Call.{Call}
 use Rattle.book.specs.Book.{record_at}
 use Rattle.pay.specs.declared.Member.{Member}
 use Rattle.reckon.specs.Reckoning.{covers, output_at, window_minute, minute_at}
-use Rattle.reckon.specs.Inner.{calls_at}
+use Rattle.reckon.specs.Inner.{calls_at, first_over}
 use Rattle.day_runs.specs.DayRuns.{covered_by, is_covered, call_over, goes_on, run_begins, run_length}
 
 -- A minute's pay by its window's index and its output
@@ -100,15 +101,12 @@ length_most series windows (suc left) minute = go (goes_on series windows minute
     go true h = omega arith
     go false h = omega arith
 
--- Passes over the windows
+-- A pass over the windows
 
 module _ (b places : List ℕ) (minute : ℕ) where
   -- what is left from place k on
   abbrev pub covered_left : ℕ → ℕ
   covered_left k = covered_by (calls_at b (drop k places)) minute
-
-  abbrev pub call_left : ℕ → ℕ
-  call_left k = call_over (calls_at b (drop k places)) minute
 
   module _ (k : ℕ) (l : k < length places) where
     pub covered_hit : covers (record_at b (get_or places k 0)) minute ≡ true → covered_left k ≡ 0
@@ -119,21 +117,31 @@ module _ (b places : List ℕ) (minute : ℕ) where
     unfolding covered_by
     covered_miss h = rw (add-one k, drop-cons places k 0 l, h) refl
 
-    pub call_hit : covers (record_at b (get_or places k 0)) minute ≡ true → call_left k ≡ (record_at b (get_or places k 0)).number
-    unfolding call_over
-    call_hit h = rw (drop-cons places k 0 l, h) refl
-
-    pub call_miss : covers (record_at b (get_or places k 0)) minute ≡ false → call_left k ≡ call_left (k + 1)
-    unfolding call_over
-    call_miss h = rw (add-one k, drop-cons places k 0 l, h) refl
-
   pub covered_none : (k : ℕ) → length places ≤ k → covered_left k ≡ 0
   unfolding covered_by
   covered_none k l = rw (drop_of_length-le places {i = k} l) refl
 
-  pub call_none : (k : ℕ) → length places ≤ k → call_left k ≡ 0
+module _ (minute : ℕ) where
+  -- the number of the call whose window is the first that covers the minute
+  pub call_some : (windows : List Call) (x : Call) → Some x ≡ first_over windows minute → x.number ≡ call_over windows minute
   unfolding call_over
-  call_none k l = rw (drop_of_length-le places {i = k} l) refl
+  call_some [] x h = cc
+  call_some (y ∷ windows) x h = go (covers y minute) h (call_some windows x)
+    where
+      go : (t : Bool) → Some x ≡ cond t (Some y) (first_over windows minute) → (Some x ≡ first_over windows minute → x.number ≡ call_over windows minute)
+          → x.number ≡ cond t y.number (call_over windows minute)
+      go true h ih = cc
+      go false h ih = ih h
+
+  pub call_none : (windows : List Call) → None ≡ first_over windows minute → 0 ≡ call_over windows minute
+  unfolding call_over
+  call_none [] h = refl
+  call_none (y ∷ windows) h = go (covers y minute) h (call_none windows)
+    where
+      go : (t : Bool) → None ≡ cond t (Some y) (first_over windows minute) → (None ≡ first_over windows minute → 0 ≡ call_over windows minute)
+          → 0 ≡ cond t y.number (call_over windows minute)
+      go true h ih = cc
+      go false h ih = ih h
 
 -- Whether a run begins, as it is asked
 

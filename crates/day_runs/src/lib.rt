@@ -44,6 +44,7 @@ pub struct RunList {
     pub list: [DayRun; MOST_RUNS],
 }
 
+#[tactic(auto, unfolding(crate::specs::DayRuns::blank_run))]
 fn blank_run() -> DayRun
     ensures { result ≡ blank_run }
 {
@@ -59,11 +60,11 @@ fn blank_run() -> DayRun
 }
 
 // Room without a run.
+#[tactic(auto, unfolding(crate::specs::DayRuns::filled_up))]
 fn blank_runs() -> [DayRun; MOST_RUNS]
     ensures { result ≡ filled_up [] }
 {
-    let none = blank_run();
-    [none; MOST_RUNS]
+    [blank_run(); MOST_RUNS]
 }
 
 // The runs of the day that begins with minute `first`, in turn.
@@ -86,6 +87,7 @@ fn runs_found(
     let mut count: usize = 0;
     let mut sum = Grains(0);
     let mut place = next_begin(b, deep, reserves, series, first, 0);
+    // Stays a while: each step goes on to the next place at which a run begins.
     while place < PLACES_PER_DAY {
         let run = run_at(member, b, deep, reserves, series, first, place, sum);
         list[count] = run;
@@ -107,11 +109,14 @@ fn day_runs(member: Member, b: &[u8], series: &[u32], day: u32) -> RunList
     let first = (day - 1) * MINUTES_PER_DAY;
     let deep = windows_of(member, DEEP_PEAK, b, n);
     let reserves = windows_of(member, RESERVE, b, n);
-    let at = deep.at;
-    let of = deep.count;
-    let upon = reserves.at;
-    let many = reserves.count;
-    runs_found(member, b, &at[..of], &upon[..many], series, first)
+    runs_found(
+        member,
+        b,
+        &deep.at[..deep.count],
+        &reserves.at[..reserves.count],
+        series,
+        first,
+    )
 }
 
 fn no_runs() -> RunList
@@ -138,19 +143,18 @@ fn runs_told(r: Score, member: Member, b: &[u8], series: &[u32], day: u32) -> Ru
 }
 
 // The score of one member, minute by minute, and the runs of one day, counted from 1.
+#[tactic(auto, unfolding(crate::specs::DayRuns::day_reckoning, crate::specs::DayRuns::day_reckoned))]
 pub fn reckon_day(member: Member, b: &[u8], series: &[u32], day: u32) -> DayReckoned
     ensures { result ≡ day_reckoning member b.now series.now day }
 {
     let r = reckon(member, b, series);
     let told = runs_told(r, member, b, series, day);
     let runs = told.list;
-    let grains = r.grains;
-    let fen = r.fen;
     DayReckoned {
         number: r.number,
         place: r.place,
-        grains,
-        fen,
+        grains: r.grains,
+        fen: r.fen,
         count: told.count,
         runs,
     }

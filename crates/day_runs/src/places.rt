@@ -53,14 +53,12 @@ pub fn next_begin(
     requires place_le_places_per_day { place ≤ places_per_day }
     ensures { (m : MemberOf) → Next (day_at m b.now deep.now reserves.now series.now first) place result }
 {
-    let mut at = place;
-    while at < PLACES_PER_DAY {
+    for at in place..PLACES_PER_DAY {
         if begins_at(b, deep, reserves, series, first, at) {
             return at;
         }
-        at += 1;
     }
-    at
+    PLACES_PER_DAY
 }
 
 // The run of a service that begins at minute `from` of the day; `before` is the day's sum so far.

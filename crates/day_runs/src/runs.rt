@@ -6,7 +6,7 @@ ghost use Rattle.day_runs.specs.DayRuns.{covered_by, call_over, goes_on, run_beg
 
 use book::record_at;
 use reckon::walk::output_at;
-use reckon::windows::covers;
+use reckon::windows::{covers, first_over};
 use units::{Grains, Kw};
 
 // A run: its service, from and up to as minutes of the day, the end not included; its call, the output, what a minute pays, and the day's
@@ -27,16 +27,13 @@ fn covered_by(b: &[u8], places: &[usize], minute: u32) -> usize
     requires { Placed b.now places.now }
     ensures { result ≡ covered_by (calls_at b.now places.now) minute }
 {
-    let mut k: usize = 0;
-    while k < places.len() {
-        let place = places[k];
-        let x = record_at(b, place);
+    for (k, place) in places.iter().enumerate() {
+        let x = record_at(b, *place);
         if covers(x, minute) {
             return k;
         }
-        k += 1;
     }
-    k
+    places.len()
 }
 
 // The number of that window's call, or 0.
@@ -44,19 +41,14 @@ pub fn call_over(b: &[u8], places: &[usize], minute: u32) -> u32
     requires { Placed b.now places.now }
     ensures { result ≡ call_over (calls_at b.now places.now) minute }
 {
-    let mut k: usize = 0;
-    while k < places.len() {
-        let place = places[k];
-        let x = record_at(b, place);
-        if covers(x, minute) {
-            return x.number;
-        }
-        k += 1;
+    match first_over(b, places, minute) {
+        Some(x) => x.number,
+        None => 0,
     }
-    0
 }
 
 // Whether the next minute goes on with this one.
+#[tactic(auto, unfolding(crate::specs::DayRuns::goes_on))]
 fn goes_on(b: &[u8], places: &[usize], series: &[u32], minute: u32) -> bool
     requires placed { Placed b.now places.now }
     requires minute_bound { minute ≤ 100000 }
@@ -94,12 +86,10 @@ pub fn run_length(b: &[u8], places: &[usize], series: &[u32], minute: u32, left:
     requires left_nonzero { (0 < left) × (left ≤ 1440) }
     ensures { (result ≡ run_length series.now (calls_at b.now places.now) minute left) × (result ≤ left) }
 {
-    let mut gone: u32 = 0;
-    while gone + 1 < left {
+    for gone in 0..left - 1 {
         if !goes_on(b, places, series, minute + gone) {
             return gone + 1;
         }
-        gone += 1;
     }
-    gone + 1
+    left
 }

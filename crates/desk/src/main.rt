@@ -1,7 +1,7 @@
 // The desk's day, on files: `desk help` says how.
 #![tactic(auto)]
 
-use clerk::args::{Held, argument, first, is_word};
+use clerk::args::{argument, first, is_word};
 use clerk::print;
 use clerk::usage::{Command, command_of, is_called, tell_usage, tell_usages};
 use closing::list_drawer;
@@ -25,7 +25,7 @@ fn main(rt: HostRuntime) {
         help(&terminal);
         return;
     }
-    let Held::Bytes(n) = argument(&terminal, 1, &mut word) else {
+    let Some(n) = argument(&terminal, 1, &mut word) else {
         unknown(&terminal, b"");
         return;
     };
@@ -75,14 +75,16 @@ fn run(terminal: &Terminal, word: &[u8]) {
             return;
         }
     }
-    let command = command_of(word);
+    let Some(command) = command_of(word) else {
+        unknown(terminal, word);
+        return;
+    };
     if !is_called(terminal, command) {
         return;
     }
     match command {
         Command::Month => settle_month(terminal),
         Command::Drawer => list_drawer(terminal),
-        Command::Unknown => unknown(terminal, word),
         _ => {
             on_books(terminal, command);
             on_members(terminal, command);
@@ -120,15 +122,14 @@ fn help_with(terminal: &Terminal) {
         return;
     }
     let mut word = io::buffer();
-    let Held::Bytes(n) = argument(terminal, 2, &mut word) else {
+    let Some(n) = argument(terminal, 2, &mut word) else {
         unknown(terminal, b"");
         return;
     };
-    let command = command_of(first(&word, n));
-    if let Command::Unknown = command {
+    let Some(command) = command_of(first(&word, n)) else {
         unknown(terminal, first(&word, n));
         return;
-    }
+    };
     tell_usage(terminal, command);
     print::done(terminal);
 }

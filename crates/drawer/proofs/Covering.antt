@@ -18,8 +18,7 @@ use Rattle.rule.specs.Standing.{same_call, is_contested, is_withdrawn, decide, g
 use Rattle.rule.specs.Whole.{all}
 use Rattle.rule.proofs.Equality.{same_eq, eq_same}
 use Rattle.pair.specs.Screening.{screen}
-use Rattle.lookup.specs.declared.Index.{Index}
-use Rattle.lookup.specs.declared.Index.TheVariants.{Missing, At}
+use Rattle.std.specs.Prelude.{Option, Some, None}
 use Rattle.lookup.specs.Lookup.{index_of}
 use Rattle.drawer.specs.Nothing.{stands_against, is_covered, adds_nothing}
 use Rattle.drawer.specs.Inner.{is_first}
@@ -71,15 +70,15 @@ first_stands r c d e = go d e ∙ ap (λ (z : Decision). same_call (given z r c)
     go Struck e = sym (not_same (call_contested r) r (λ h. eqb-false _ _ (struck_first r c (sym e)) (sym (ap (λ (z : Call). z.state) h))))
 
 -- Record i's turn, by the index that the others have
-module _ (others : List ℕ) (x c : Call) (is : x ≡ c) (k : ℕ) (key : k ≡ call_key x) (r : Index) (at : r ≡ index_of k others) where
+module _ (others : List ℕ) (x c : Call) (is : x ≡ c) (k : ℕ) (key : k ≡ call_key x) (r : Option ℕ) (at : r ≡ index_of k others) where
   its : r ≡ index_of (call_key c) others
   its = at ∙ ap (λ (n : ℕ). index_of n others) (key ∙ ap call_key is)
 
-  pub covered_missing : r ≡ Missing → false ≡ is_covered (calls_of others) c
+  pub covered_missing : r ≡ None → false ≡ is_covered (calls_of others) c
   unfolding is_covered stands_against
   covered_missing e = rw (none_of others (call_key c) (sym its ∙ e)) refl
 
-  pub covered_found : (j : ℕ) → r ≡ At j → (d : Decision) → d ≡ decide (record_at others j) c → is_first d ≡ is_covered (calls_of others) c
+  pub covered_found : (j : ℕ) → r ≡ Some j → (d : Decision) → d ≡ decide (record_at others j) c → is_first d ≡ is_covered (calls_of others) c
   unfolding is_covered stands_against
   covered_found j e d f = rw (some_of others (call_key c) j (sym its ∙ e)) (first_stands (record_at others j) c d f)
 

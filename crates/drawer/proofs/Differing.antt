@@ -4,7 +4,6 @@ use mathlib.Core.Bool.{Bool, true, false, cond, not, ◌&&◌}
 use mathlib.Core.Logic.{◌↔◌}
 use mathlib.Core.List.{List, [], ◌∷◌}
 use Prim.Native.Nat.{ℕ}
-use native.Mathlib.Omega.{arith}
 use lib.Dec.{eqb}
 use lib.IntN.{ℤ, pos}
 use lib.Signed.{le_z}
@@ -13,7 +12,8 @@ use Rattle.le.proofs.Tests.{each, all}
 use Rattle.call.specs.declared.Call.{Call}
 use Rattle.rule.specs.Standing.{same_call}
 use Rattle.rule.proofs.Equality.{same_eq, eq_same}
-use Rattle.drawer.specs.declared.apart.Field.TheVariants.{Service, Start, Length, A, B, C, Nothing}
+use Rattle.std.specs.Prelude.{Some, None}
+use Rattle.drawer.specs.declared.apart.Field.TheVariants.{Service, Start, Length, A, B, C}
 use Rattle.drawer.specs.Apart.{apart_in}
 
 -- of one call, in one state and at one revision
@@ -24,15 +24,15 @@ pub record Alike (x y : Call) : Type 0 where
   pub revision : x.revision ≡ y.revision
 
 apart_none : (s t l a b c : Bool)
-    → cond (not s) Service (cond (not t) Start (cond (not l) Length (cond (not a) A (cond (not b) B (cond (not c) C Nothing))))) ≡ Nothing
+    → cond (not s) (Some Service) (cond (not t) (Some Start) (cond (not l) (Some Length) (cond (not a) (Some A) (cond (not b) (Some B) (cond (not c) (Some C) None))))) ≡ None
     → (s ≡ true) × (t ≡ true) × (l ≡ true) × (a ≡ true) × (b ≡ true) × (c ≡ true)
 apart_none true true true true true true e = (refl, refl, refl, refl, refl, refl)
-apart_none false t l a b c e = absurd (let z : ◌≡◌ {A = ℕ} 0 1 = cc in omega arith)
-apart_none true false l a b c e = absurd (let z : ◌≡◌ {A = ℕ} 0 1 = cc in omega arith)
-apart_none true true false a b c e = absurd (let z : ◌≡◌ {A = ℕ} 0 1 = cc in omega arith)
-apart_none true true true false b c e = absurd (let z : ◌≡◌ {A = ℕ} 0 1 = cc in omega arith)
-apart_none true true true true false c e = absurd (let z : ◌≡◌ {A = ℕ} 0 1 = cc in omega arith)
-apart_none true true true true true false e = absurd (let z : ◌≡◌ {A = ℕ} 0 1 = cc in omega arith)
+apart_none false t l a b c e = absurd cc
+apart_none true false l a b c e = absurd cc
+apart_none true true false a b c e = absurd cc
+apart_none true true true false b c e = absurd cc
+apart_none true true true true false c e = absurd cc
+apart_none true true true true true false e = absurd cc
 
 -- all that is compared of two records
 rest : Call → Call → List Bool
@@ -49,11 +49,11 @@ rest x y =
     ∷ eqb x.c y.c
     ∷ []
 
-pub apart_exactly : (x y : Call) → Alike x y → (apart_in x y ≡ Nothing) ↔ (x ≡ y)
+pub apart_exactly : (x y : Call) → Alike x y → (apart_in x y ≡ None) ↔ (x ≡ y)
 unfolding apart_in same_call rest
 apart_exactly x y k = (from, to)
   where
-    from : apart_in x y ≡ Nothing → x ≡ y
+    from : apart_in x y ≡ None → x ≡ y
     from e =
         let h =
         apart_none (eqb x.service y.service) (eqb x.start y.start) (eqb x.length y.length) (le_z x.a y.a && le_z y.a x.a)
@@ -64,7 +64,7 @@ apart_exactly x y k = (from, to)
           (h.0, (eq-eqb _ _ k.state, (eq-eqb _ _ k.number, (eq-eqb _ _ k.revision, (h.1, (h.2, (a.0, (a.1.0, (h.4, (h.5, tt)))))))))),
         ))
 
-    to : x ≡ y → apart_in x y ≡ Nothing
+    to : x ≡ y → apart_in x y ≡ None
     to e =
         let t = each (eqb x.participant y.participant) (rest x y) (eq_same x y e) in
         let u = t.1.1.1.1.1.1.1 in
@@ -79,12 +79,12 @@ call service start length a b c =
 
 -- Two records that differ in a field and in every one behind it: that field is told, and where they differ in none, nothing.
 pub first_told :
-    (apart_in (call 8 0 15 (pos 1) 1 0) (call 2 15 30 (pos 2) 2 1) ≡ Service)
-    × (apart_in (call 8 0 15 (pos 1) 1 0) (call 8 15 30 (pos 2) 2 1) ≡ Start)
-    × (apart_in (call 8 0 15 (pos 1) 1 0) (call 8 0 30 (pos 2) 2 1) ≡ Length)
-    × (apart_in (call 8 0 15 (pos 1) 1 0) (call 8 0 15 (pos 2) 2 1) ≡ A)
-    × (apart_in (call 8 0 15 (pos 1) 1 0) (call 8 0 15 (pos 1) 2 1) ≡ B)
-    × (apart_in (call 8 0 15 (pos 1) 1 0) (call 8 0 15 (pos 1) 1 1) ≡ C)
-    × (apart_in (call 8 0 15 (pos 1) 1 0) (call 8 0 15 (pos 1) 1 0) ≡ Nothing)
+    (apart_in (call 8 0 15 (pos 1) 1 0) (call 2 15 30 (pos 2) 2 1) ≡ Some Service)
+    × (apart_in (call 8 0 15 (pos 1) 1 0) (call 8 15 30 (pos 2) 2 1) ≡ Some Start)
+    × (apart_in (call 8 0 15 (pos 1) 1 0) (call 8 0 30 (pos 2) 2 1) ≡ Some Length)
+    × (apart_in (call 8 0 15 (pos 1) 1 0) (call 8 0 15 (pos 2) 2 1) ≡ Some A)
+    × (apart_in (call 8 0 15 (pos 1) 1 0) (call 8 0 15 (pos 1) 2 1) ≡ Some B)
+    × (apart_in (call 8 0 15 (pos 1) 1 0) (call 8 0 15 (pos 1) 1 1) ≡ Some C)
+    × (apart_in (call 8 0 15 (pos 1) 1 0) (call 8 0 15 (pos 1) 1 0) ≡ None)
 unfolding apart_in
 first_told = (refl, refl, refl, refl, refl, refl, refl)

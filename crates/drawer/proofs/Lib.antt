@@ -1,5 +1,6 @@
 pub mod Telling
 pub mod Listing
+pub mod Signs
 pub mod Refusals
 pub mod Covering
 pub mod Agreeing

@@ -33,7 +33,7 @@ use Rattle.join.proofs.Story.{march, stop, entered, early, withdrawal, entered_w
 use Rattle.join.proofs.Trees.{keys_of}
 use Rattle.join.proofs.OneVersion.{stays_first_lem}
 use Rattle.join.proofs.Story.{one_month, each_first, few_in_first, three_first, left, left_room, left_covers, few}
-use Rattle.lookup.specs.declared.Index.TheVariants.{At}
+use Rattle.std.specs.Prelude.{Some}
 use Rattle.lookup.specs.Lookup.{index_from, index_of}
 use Rattle.pay.specs.declared.Member.{Member}
 use Rattle.pay.specs.Kinds.{coal}
@@ -83,11 +83,11 @@ module _ (c : Call) (w : CallWithin (header_minutes march) c) where
       go e = cc
 
 -- Of the plant's book its entry is listed, as the call is withdrawn; of the spare terminal's the early one; of head office's nothing.
-pub plant_told : stale_of plant joined 0 ≡ record { place = 0; stands = At 0; why = Withdrawn } ∷ []
+pub plant_told : stale_of plant joined 0 ≡ record { place = 0; stands = Some 0; why = Withdrawn } ∷ []
 unfolding stale_of told_from is_stale_at is_stale is_this stale_at why_of why_not index_of index_from record_of same_call plant entered withdrawal stop
 plant_told = rw (count_one entered entered_within, at_one entered entered_within, joined_stop) refl
 
-pub spare_told : stale_of spare joined 0 ≡ record { place = 0; stands = At 0; why = Withdrawn } ∷ []
+pub spare_told : stale_of spare joined 0 ≡ record { place = 0; stands = Some 0; why = Withdrawn } ∷ []
 unfolding stale_of told_from is_stale_at is_stale is_this stale_at why_of why_not index_of index_from record_of same_call spare early withdrawal stop
 spare_told = rw (count_one early early_within, at_one early early_within, joined_stop) refl
 

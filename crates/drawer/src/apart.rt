@@ -4,7 +4,7 @@ ghost use Rattle.drawer.specs.Apart.{apart_in};
 
 use call::Call;
 
-// What a call asks for, by the fields of its record; or none of them.
+// What a call asks for, by the fields of its record.
 #[derive(Clone, Copy)]
 pub enum Field {
     Service,
@@ -13,31 +13,29 @@ pub enum Field {
     A,
     B,
     C,
-    Nothing,
 }
 
-// The first field, in the record's order, in which they differ.
-pub fn apart_in(x: Call, y: Call) -> Field
+// The first field, in the record's order, in which they differ; none where they do not.
+pub fn apart_in(x: Call, y: Call) -> Option<Field>
     ensures { result ≡ apart_in x y }
 {
-    let level = (x.a <= y.a) & (y.a <= x.a);
     if x.service != y.service {
-        return Field::Service;
+        return Some(Field::Service);
     }
     if x.start != y.start {
-        return Field::Start;
+        return Some(Field::Start);
     }
     if x.length != y.length {
-        return Field::Length;
+        return Some(Field::Length);
     }
-    if !level {
-        return Field::A;
+    if x.a != y.a {
+        return Some(Field::A);
     }
     if x.b != y.b {
-        return Field::B;
+        return Some(Field::B);
     }
     if x.c != y.c {
-        return Field::C;
+        return Some(Field::C);
     }
-    Field::Nothing
+    None
 }

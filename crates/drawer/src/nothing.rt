@@ -7,10 +7,11 @@ ghost use Rattle.drawer.specs.Nothing.{is_covered, adds_nothing};
 ghost use Rattle.drawer.specs.Inner.{is_first};
 
 use book::{count_at, place_of, record_at};
-use lookup::{Index, index_of};
+use lookup::index_of;
 use pair::screen;
 use rule::{Decision, decide_at};
 
+// Stays by hand: each decision has its arm, and must-fail/contesting_book_left_out turns the third about.
 fn is_first(decision: Decision) -> bool
     ensures { result ≡ is_first decision }
 {
@@ -29,10 +30,9 @@ fn covered_at(others: &[u8], book: &[u8], i: usize) -> bool
     ensures { result ≡ is_covered (calls_of others.now) (record_at book.now i) }
 {
     let x = record_at(book, i);
-    let index = index_of(x.key(), others);
-    match index {
-        Index::Missing => false,
-        Index::At(j) => is_first(decide_at(others, place_of(j), book, place_of(i))),
+    match index_of(x.key(), others) {
+        None => false,
+        Some(j) => is_first(decide_at(others, place_of(j), book, place_of(i))),
     }
 }
 
@@ -42,13 +42,10 @@ fn all_covered(others: &[u8], book: &[u8]) -> bool
     requires accepted_2 { IsAccepted book.now }
     ensures { result ≡ all (is_covered (calls_of others.now)) (calls_of book.now) }
 {
-    let n = count_at(book);
-    let mut i = 0;
-    while i < n {
+    for i in 0..count_at(book) {
         if !covered_at(others, book, i) {
             return false;
         }
-        i += 1;
     }
     true
 }

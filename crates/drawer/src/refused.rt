@@ -32,18 +32,17 @@ pub enum NextRefused {
 }
 
 // The first record before record i that stands against x, or i.
+// Stays two functions: `against::clash_place` is asked of any bytes and of the record's own member, this one of a sound book and a member that is given.
 fn first_against(b: &[u8], i: usize, number: u16, x: Call) -> usize
     requires { size_of i ≤ length b.now }
     ensures { result ≡ first_against number x (record_at b.now) i }
 {
-    let mut j = 0;
-    while j < i {
+    for j in 0..i {
         if clashes(number, x, record_at(b, j)) {
             return j;
         }
-        j += 1;
     }
-    j
+    i
 }
 
 // The refusal of record i, or 0; no record before `first` is the member's.
@@ -87,14 +86,12 @@ fn refused_from(member: Member, b: &[u8], i: usize) -> NextRefused
     };
     let n = count_at(b);
     let first = first_own(b, n, member.number);
-    let mut at = i;
-    while at < n {
+    for at in i..n {
         let number = refusal_of(month, member, b, first, at);
         if number != 0 {
             let told = refused_at(member, b, at, number);
             return NextRefused::Next(told);
         }
-        at += 1;
     }
     NextRefused::NoneLeft
 }

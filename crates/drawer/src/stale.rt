@@ -3,11 +3,12 @@ ghost use Rattle.std.specs.Prelude.{◌≡◌, ◌<◌};
 ghost use Rattle.book.specs.Book.{count_at};
 ghost use Rattle.rule.specs.Standing.{same_call};
 ghost use Rattle.pair.specs.Screening.{IsAccepted};
-ghost use Rattle.drawer.specs.Stale.{why_not, is_stale_at, stale_at, stale_of, first_stale, next_stale};
+ghost use Rattle.drawer.specs.Stale.{why_not, stale_of, first_stale, next_stale};
+ghost use Rattle.drawer.specs.Inner.{turn_of};
 
 use book::{count_at, record_at};
 use call::{CONTESTED, Call, WITHDRAWN};
-use lookup::{Index, index_of};
+use lookup::index_of;
 use pair::screen;
 
 // Why a record does not stand: the call is withdrawn, there is a higher revision, it is contested at this revision; for none of these where
@@ -20,11 +21,11 @@ pub enum Why {
     Other,
 }
 
-// A record that is not the one that stands for its key: its index, that of the record that stands, and why.
+// A record that is not the one that stands for its key: its index, that of the record that stands, where there is one, and why.
 #[derive(Clone, Copy)]
 pub struct StaleRecord {
     pub place: usize,
-    pub stands: Index,
+    pub stands: Option<usize>,
     pub why: Why,
 }
 
@@ -36,27 +37,10 @@ pub enum NextStale {
     Next(StaleRecord),
 }
 
-// What a record's turn gives: whether it is listed, and what is told of it.
-#[derive(Clone, Copy)]
-pub struct StaleTurn {
-    pub listed: bool,
-    pub told: StaleRecord,
-}
-
 fn same_call(x: Call, y: Call) -> bool
     ensures { result ≡ same_call x y }
 {
-    (x.participant == y.participant)
-        & (x.service == y.service)
-        & (x.state == y.state)
-        & (x.number == y.number)
-        & (x.revision == y.revision)
-        & (x.start == y.start)
-        & (x.length == y.length)
-        & (x.a <= y.a)
-        & (y.a <= x.a)
-        & (x.b == y.b)
-        & (x.c == y.c)
+    x == y
 }
 
 // Why x does not stand where y does.
@@ -75,38 +59,32 @@ fn why_not(y: Call, x: Call) -> Why
     Why::Other
 }
 
-// Record i's turn.
-fn stale_turn(book: &[u8], joined: &[u8], i: usize) -> StaleTurn
+// What is told of record i, where it is not the one that stands for its key.
+fn stale_turn(book: &[u8], joined: &[u8], i: usize) -> Option<StaleRecord>
     requires accepted { IsAccepted book.now }
     requires accepted_2 { IsAccepted joined.now }
     requires i_bound { i < count_at book.now }
-    ensures listed_value { result.listed ≡ is_stale_at book.now joined.now i }
-    ensures told_value { result.told ≡ stale_at book.now joined.now i }
+    ensures { result ≡ turn_of book.now joined.now i }
 {
     let x = record_at(book, i);
-    let index = index_of(x.key(), joined);
-    match index {
-        Index::Missing => {
-            let told = StaleRecord {
-                place: i,
-                stands: index,
-                why: Why::Other,
-            };
-            StaleTurn { listed: true, told }
-        }
-        Index::At(j) => {
+    let stands = index_of(x.key(), joined);
+    match stands {
+        None => Some(StaleRecord {
+            place: i,
+            stands,
+            why: Why::Other,
+        }),
+        Some(j) => {
             let y = record_at(joined, j);
-            let same = same_call(y, x);
-            let why = why_not(y, x);
-            let told = StaleRecord {
-                place: i,
-                stands: index,
-                why,
-            };
-            StaleTurn {
-                listed: !same,
-                told,
+            if same_call(y, x) {
+                return None;
             }
+            let why = why_not(y, x);
+            Some(StaleRecord {
+                place: i,
+                stands,
+                why,
+            })
         }
     }
 }
@@ -117,15 +95,10 @@ fn stale_from(book: &[u8], joined: &[u8], i: usize) -> NextStale
     requires accepted_2 { IsAccepted joined.now }
     ensures { result ≡ first_stale (stale_of book.now joined.now i) }
 {
-    let n = count_at(book);
-    let mut at = i;
-    while at < n {
-        let turn = stale_turn(book, joined, at);
-        if turn.listed {
-            let told = turn.told;
+    for at in i..count_at(book) {
+        if let Some(told) = stale_turn(book, joined, at) {
             return NextStale::Next(told);
         }
-        at += 1;
     }
     NextStale::NoneLeft
 }

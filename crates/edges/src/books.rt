@@ -15,36 +15,23 @@ fn is(v: Verdict, number: u64, place: u64) -> bool {
 }
 
 // Whether the check says of the first n bytes what the line does, its number and place from one of the line's numbers on.
+// Stays by hand: n may be more than there are bytes, which counts as wrong.
 fn first_is(b: &[u8], n: usize, numbers: Numbers, from: usize) -> bool
     requires { from ≤ 16 }
 {
-    if b.len() < n {
-        return false;
+    match b.get(..n) {
+        Some(front) => is(
+            book::check(front),
+            numbers.value(from),
+            numbers.value(from + 1),
+        ),
+        None => false,
     }
-    let v = book::check(&b[0..n]);
-    is(v, numbers.value(from), numbers.value(from + 1))
 }
 
 // What a writer says: a refusal's number and no bytes, or 0 and so many.
 fn wrote(w: Written, number: u64, length: usize) -> bool {
     (w.number as u64 == number) & (w.place == 0) & (w.length == length)
-}
-
-fn same(x: Call, y: Call) -> bool {
-    (x.participant == y.participant)
-        & (x.service == y.service)
-        & (x.state == y.state)
-        & (x.number == y.number)
-        & (x.revision == y.revision)
-        & (x.start == y.start)
-        & (x.length == y.length)
-        & (x.a == y.a)
-        & (x.b == y.b)
-        & (x.c == y.c)
-}
-
-fn same_header(x: Header, y: Header) -> bool {
-    (x.area == y.area) & (x.year == y.year) & (x.month == y.month)
 }
 
 fn no_header() -> Header {
@@ -57,11 +44,10 @@ fn no_header() -> Header {
 
 // What is told of a book: a refusal's number, otherwise zeros; or its header and how many calls it has.
 fn is_told(o: Opened, number: u64, h: Header, calls: usize) -> bool {
-    let told = o.header;
     if number == 0 {
-        return (o.number == 0) & (o.place == 0) & same_header(told, h) & (o.calls == calls);
+        return (o.number == 0) & (o.place == 0) & (o.header == h) & (o.calls == calls);
     }
-    (o.number as u64 == number) & (o.place == 0) & same_header(told, no_header()) & (o.calls == 0)
+    (o.number as u64 == number) & (o.place == 0) & (o.header == no_header()) & (o.calls == 0)
 }
 
 fn none_written(h: Header, number: u64) -> bool {
@@ -131,7 +117,7 @@ fn first_call_is(b: &[u8], x: Call) -> bool {
     if o.calls == 0 {
         return false;
     }
-    same(call_of(b, 0), x)
+    call_of(b, 0) == x
 }
 
 fn one_checked(h: Header, x: Call, number: u64) -> bool {
@@ -188,10 +174,8 @@ fn put_stop(b: &mut [u8], i: u16) {
 
 // Calls 1, 2, 3 and on of member 9.
 fn fill(b: &mut [u8], n: u16) {
-    let mut i: u16 = 0;
-    while i < n {
+    for i in 0..n {
         put_stop(b, i);
-        i += 1;
     }
 }
 
@@ -222,14 +206,12 @@ fn spoilt(numbers: Numbers) -> [u8; 128] {
 
 // 3 at byte, at byte, at byte | number place: the sample with up to three bytes replaced; at 112 and above nothing is.
 fn byte(numbers: Numbers) -> bool {
-    let b = spoilt(numbers);
-    first_is(&b, 112, numbers, 7)
+    first_is(&spoilt(numbers), 112, numbers, 7)
 }
 
 // 4 length | number: the sample cut short, or with zeros behind it.
 fn length(numbers: Numbers) -> bool {
-    let b = stops(3);
-    first_is(&b, numbers.half(1) as usize, numbers, 2)
+    first_is(&stops(3), usize::from(numbers.half(1)), numbers, 2)
 }
 
 // 5 participant number participant number | number place: a book of two records with these keys.
@@ -275,38 +257,20 @@ fn many(numbers: Numbers) -> bool {
     first_is(&b, size_of(n as usize), numbers, 3)
 }
 
-// How many numbers a case of each kind has.
-fn how_many(kind: u64) -> usize {
-    match kind {
-        1 => 5,
-        2 => 14,
-        3 => 9,
-        4 => 3,
-        5 => 7,
-        6 => 4,
-        7 => 4,
-        8 => 4,
-        _ => 0,
-    }
-}
-
 // A line with a number too few or too many counts as wrong, and so does a kind that no case has.
 fn is_right(numbers: Numbers) -> bool {
-    let kind = numbers.value(0);
-    if numbers.count != how_many(kind) {
-        return false;
-    }
-    match kind {
-        1 => header(numbers),
-        2 => record(numbers),
-        3 => byte(numbers),
-        4 => length(numbers),
-        5 => keys(numbers),
-        6 => month(numbers),
-        7 => room(numbers),
-        8 => many(numbers),
-        _ => false,
-    }
+    let (count, case): (usize, fn(Numbers) -> bool) = match numbers.value(0) {
+        1 => (5, header),
+        2 => (14, record),
+        3 => (9, byte),
+        4 => (3, length),
+        5 => (7, keys),
+        6 => (4, month),
+        7 => (4, room),
+        8 => (4, many),
+        _ => return false,
+    };
+    (numbers.count == count) && case(numbers)
 }
 
 pub fn with(terminal: &Terminal, tally: Tally, line: &[u8]) -> Tally {

@@ -13,7 +13,7 @@ mod texts;
 
 ghost use Rattle.std.specs.Prelude.{◌≡◌, ◌≤◌, length};
 
-use numbers::{Numbers, before};
+use numbers::Numbers;
 use say::Terminal;
 use std::io::Read;
 use std::rt::HostRuntime;
@@ -21,10 +21,7 @@ use tally::Tally;
 
 // A heading starts with `=`, and its first number says whose cases follow.
 fn is_heading(line: &[u8]) -> bool {
-    if line.len() == 0 {
-        return false;
-    }
-    line[0] == b'='
+    line.starts_with(b"=")
 }
 
 // A line of numbers that stands in no table is wrong.
@@ -51,11 +48,8 @@ fn with(terminal: &Terminal, tally: Tally, line: &[u8]) -> Tally {
 
 fn run(terminal: &Terminal, text: &[u8]) -> Tally {
     let mut tally = Tally::start();
-    let mut at = 0;
-    while at < text.len() {
-        let end = at + before(&text[at..], b'\n');
-        tally = with(terminal, tally, &text[at..end]);
-        at = end + 1;
+    for line in text.split(|b| *b == b'\n') {
+        tally = with(terminal, tally, line);
     }
     tally
 }
@@ -72,6 +66,7 @@ fn read_full(rt: HostRuntime, text: &mut [u8]) -> usize
     ensures { result ≤ length text.new }
 {
     let mut done = 0;
+    // Stays a while: each read takes as many bytes as there are.
     while done < text.len() {
         let Ok(n) = rt.stdin().read(&mut text[done..]) else {
             return done;

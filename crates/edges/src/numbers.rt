@@ -1,38 +1,26 @@
 // A line of a table, read as its numbers. What follows a `#` is a remark, and every other byte only parts numbers.
 ghost use Rattle.std.specs.Prelude.{◌≤◌, length};
 
-// Its numbers, 32 at the most; and the one that is read but has not ended.
+// Its numbers, 32 at the most; and the digits that are read of one that has not ended, with a minus or without.
+// Stays a flag: the minus stands in front of the first digit, where no number is read yet.
 #[derive(Clone, Copy)]
 pub struct Numbers {
     pub count: usize,
     values: [u64; 32],
-    digits: bool,
     minus: bool,
-    value: u64,
+    digits: Option<u64>,
 }
 
 // How many bytes stand in front of the first b, or how many there are.
 pub fn before(text: &[u8], b: u8) -> usize
     ensures { result ≤ length text.now }
 {
-    let mut i = 0;
-    while i < text.len() {
-        if text[i] == b {
-            return i;
-        }
-        i += 1;
-    }
-    i
+    text.iter().position(|x| *x == b).unwrap_or(text.len())
 }
 
 // A number below zero is its 64 bits, and the lowest 32 of them are those that spell it in a record.
 fn signed(minus: bool, value: u64) -> u64 {
-    if minus {
-        if 0 < value {
-            return !(value - 1);
-        }
-    }
-    value
+    if minus { value.wrapping_neg() } else { value }
 }
 
 impl Numbers {
@@ -40,40 +28,38 @@ impl Numbers {
         Numbers {
             count: 0,
             values: [0; 32],
-            digits: false,
             minus: false,
-            value: 0,
+            digits: None,
         }
     }
 
     // Digits past the nineteenth are left out.
-    fn with_digit(mut self, b: u8) -> Numbers {
-        if self.value < 1_000_000_000_000_000_000 {
-            self.value = self.value * 10 + (b % 16) as u64;
-        }
-        self.digits = true;
+    fn with_digit(mut self, digit: u8) -> Numbers {
+        let value = self.digits.unwrap_or(0);
+        let most = 1_000_000_000_000_000_000;
+        self.digits = Some(if value < most {
+            value * 10 + u64::from(digit)
+        } else {
+            value
+        });
         self
     }
 
     // With the number that has just ended among its numbers.
     fn ended(mut self) -> Numbers {
-        let count = self.count;
-        if self.digits {
-            if count < 32 {
-                let mut values = self.values;
-                values[count] = signed(self.minus, self.value);
-                self.values = values;
-                self.count = count + 1;
+        if let Some(value) = self.digits {
+            if self.count < 32 {
+                self.values[self.count] = signed(self.minus, value);
+                self.count += 1;
             }
         }
-        self.digits = false;
-        self.value = 0;
+        self.digits = None;
         self
     }
 
     fn step(self, b: u8) -> Numbers {
-        if (b'0' <= b) & (b <= b'9') {
-            return self.with_digit(b);
+        if b.is_ascii_digit() {
+            return self.with_digit(b - b'0');
         }
         let mut parted = self.ended();
         parted.minus = b == b'-';
@@ -82,20 +68,16 @@ impl Numbers {
 
     // A line without its line feed.
     pub fn read(line: &[u8]) -> Numbers {
-        let end = before(line, b'#');
         let mut numbers = Numbers::start();
-        let mut i = 0;
-        while i < end {
-            numbers = numbers.step(line[i]);
-            i += 1;
+        for b in &line[..before(line, b'#')] {
+            numbers = numbers.step(*b);
         }
         numbers.ended()
     }
 
     // The number at a place, from 0 on, and 0 where the line has none.
     pub fn value(self, i: usize) -> u64 {
-        let values = self.values;
-        if i < 32 { values[i] } else { 0 }
+        self.values.get(i).copied().unwrap_or(0)
     }
 
     pub fn byte(self, i: usize) -> u8 {
@@ -114,10 +96,6 @@ impl Numbers {
     pub fn size(self, i: usize, most: usize) -> usize
         ensures { result ≤ most }
     {
-        let value = self.value(i);
-        if value < most as u64 {
-            return value as usize;
-        }
-        most
+        most.min(self.value(i) as usize)
     }
 }

@@ -13,21 +13,13 @@ fn byte_at(numbers: Numbers, at: usize) -> u8 {
     if own == 0 {
         return 0;
     }
-    let word = numbers.word(4 + at / 4 % own % 28);
-    let place = at % 4;
-    match place {
-        0 => (word % 256) as u8,
-        1 => (word / 256 % 256) as u8,
-        2 => (word / 65_536 % 256) as u8,
-        _ => (word / 16_777_216) as u8,
-    }
+    let bytes = numbers.word(4 + at / 4 % own % 28).to_le_bytes();
+    bytes[at % 4]
 }
 
 fn fill(b: &mut [u8], numbers: Numbers) {
-    let mut i: usize = 0;
-    while i < b.len() {
-        b[i] = byte_at(numbers, i);
-        i += 1;
+    for (i, byte) in b.iter_mut().enumerate() {
+        *byte = byte_at(numbers, i);
     }
 }
 

@@ -40,17 +40,12 @@ fn scored(numbers: Numbers) -> Score {
     score(member_in(numbers), &b[0..end], &series[0..quarters])
 }
 
-fn tell_part(terminal: &Terminal, n: u64) {
-    say::text(terminal, b" ");
-    say::number(terminal, n);
-}
-
 fn tell(terminal: &Terminal, r: Score) {
     say::text(terminal, b"  came out:");
-    tell_part(terminal, r.number as u64);
-    tell_part(terminal, r.place as u64);
-    tell_part(terminal, r.grains.0);
-    tell_part(terminal, r.fen.0);
+    for n in [r.number as u64, r.place as u64, r.grains.0, r.fen.0] {
+        say::text(terminal, b" ");
+        say::number(terminal, n);
+    }
     say::text(terminal, b"\n");
 }
 

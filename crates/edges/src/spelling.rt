@@ -12,11 +12,10 @@ pub struct Spelled {
 fn worth(text: &[u8], at: usize) -> u8
     ensures { result < 16 }
 {
-    if text.len() <= at {
-        return 0;
+    match text.get(at).copied() {
+        Some(b) => if b < b'a' { b % 16 } else { (b % 16 + 9) % 16 },
+        None => 0,
     }
-    let b = text[at];
-    if b < b'a' { b % 16 } else { (b % 16 + 9) % 16 }
 }
 
 fn byte_at(text: &[u8], at: usize) -> Spelled
@@ -36,26 +35,19 @@ fn byte_at(text: &[u8], at: usize) -> Spelled
     }
 }
 
-fn put(out: &mut [u8], at: usize, b: u8)
-    ensures { length out.new ≡ length out.old }
-{
-    if at < out.len() {
-        out[at] = b;
-    }
-}
-
 // The text that a case spells from a place on, as far as there is room: how many bytes.
 pub fn spell(text: &[u8], from: usize, out: &mut [u8]) -> usize
     ensures { (result ≤ length out.new) × (length out.new ≡ length out.old) }
 {
     let mut i = from;
     let mut n = 0;
+    // Stays a while: one byte of the text is spelled by one or by three.
     while i < text.len() {
         if n == out.len() {
             return n;
         }
         let s = byte_at(text, i);
-        put(out, n, s.byte);
+        out[n] = s.byte;
         n += 1;
         i = s.next;
     }

@@ -20,11 +20,6 @@ pub struct Tally {
     line: u64,
 }
 
-// A count stops at a million, which no table's lines reach.
-fn more(x: u64) -> u64 {
-    if x < 1_000_000 { x + 1 } else { x }
-}
-
 // A number and the words behind it.
 fn told(terminal: &Terminal, n: u64, words: &[u8]) {
     say::number(terminal, n);
@@ -58,15 +53,15 @@ impl Tally {
 
     // With a line that has no case.
     pub fn past(mut self) -> Tally {
-        self.line = more(self.line);
+        self.line = self.line.saturating_add(1);
         self
     }
 
     // With the case of the next line; one that came out otherwise is told.
     pub fn with(mut self, terminal: &Terminal, right: bool) -> Tally {
-        self.run = more(self.run);
+        self.run = self.run.saturating_add(1);
         if !right {
-            self.wrong = more(self.wrong);
+            self.wrong = self.wrong.saturating_add(1);
             tell_wrong(terminal, self.line);
         }
         self.past()

@@ -9,58 +9,18 @@ use say::Terminal;
 use share::lent::share_front;
 use share::{Line, Shared, share};
 
-fn same_line(x: Line, y: Line) -> bool {
-    (x.number == y.number)
-        & (x.status == y.status)
-        & (x.energy.0 == y.energy.0)
-        & (x.compensation.0 == y.compensation.0)
-        & (x.assessment.0 == y.assessment.0)
-        & (x.share.0 == y.share.0)
-        & (x.amount.0 == y.amount.0)
-}
-
-fn same_at(x: [Line; 64], y: [Line; 64], i: usize) -> bool {
-    if i < 64 {
-        let a = x[i];
-        let b = y[i];
-        return same_line(a, b);
-    }
-    false
-}
-
-fn same_lines(x: [Line; 64], y: [Line; 64]) -> bool {
-    let mut all = true;
-    let mut i: usize = 0;
-    while i < 64 {
-        all = all & same_at(x, y, i);
-        i += 1;
-    }
-    all
-}
-
 fn same(x: Taken, y: Taken) -> bool {
-    let told = (x.number == y.number)
+    (x.number == y.number)
         & (x.place == y.place)
         & (x.part == y.part)
-        & (x.count == y.count);
-    let a = x.lines;
-    let b = y.lines;
-    told & same_lines(a, b)
-}
-
-fn same_shared(x: Shared, y: Shared) -> bool {
-    let told = (x.number == y.number)
-        & (x.place == y.place)
-        & (x.gap.0 == y.gap.0)
-        & (x.user.0 == y.user.0);
-    let a = x.lines;
-    let b = y.lines;
-    told & same_lines(a, b)
+        & (x.count == y.count)
+        & (x.lines == y.lines)
 }
 
 // Whether the array form and the lent form share the first `count` lines alike.
+// Stays by hand: the count may be one more than there are lines, which both forms refuse.
 fn forms_agree(part: u32, lines: [Line; 64], count: usize) -> bool {
-    same_shared(share(part, lines, count), share_front(part, lines, count))
+    share(part, lines, count) == share_front(part, lines, count)
 }
 
 // The same of the lines read, of all 64, and of one more than there can be: where fewer were read, both refuse. So do they with a part above
@@ -76,28 +36,15 @@ fn both_forms(t: Taken) -> bool {
 
 // The text read a byte at a time.
 fn by_bytes(text: &[u8]) -> Taken {
-    let mut reader = Reader::start();
-    let mut i: usize = 0;
-    while i < text.len() {
-        reader = reader.step(text[i]);
-        i += 1;
-    }
-    reader.finish()
-}
-
-fn half_of(n: usize) -> usize
-    ensures { result ≤ n }
-{
-    n / 2
+    text.iter()
+        .fold(Reader::start(), |reader, b| reader.step(*b))
+        .finish()
 }
 
 // The text read in two parts.
 fn in_halves(text: &[u8]) -> Taken {
-    let half = half_of(text.len());
-    let first = Reader::start();
-    let second = first.feed(&text[0..half]);
-    let third = second.feed(&text[half..]);
-    third.finish()
+    let (front, back) = text.split_at(text.len() / 2);
+    Reader::start().feed(front).feed(back).finish()
 }
 
 // Whether a refusal's number and place, or zeros, are those that the case says.
@@ -114,24 +61,12 @@ fn reading(numbers: Numbers, text: &[u8]) -> bool {
     right & same(t, by_bytes(text)) & same(t, in_halves(text))
 }
 
-// Whether the line at a place has the share and the amount that the case says, or zeros where it says none.
-fn part_is(s: Shared, numbers: Numbers, i: usize) -> bool {
-    if i < 64 {
-        let lines = s.lines;
-        let l = lines[i];
-        let share = le::bits64(l.share.0);
-        let amount = le::bits64(l.amount.0);
-        return (share == numbers.value(5 + 2 * i)) & (amount == numbers.value(6 + 2 * i));
-    }
-    false
-}
-
+// Whether each line has the share and the amount that the case says, or zeros where it says none.
 fn parts_are(s: Shared, numbers: Numbers) -> bool {
     let mut all = true;
-    let mut i: usize = 0;
-    while i < 64 {
-        all = all & part_is(s, numbers, i);
-        i += 1;
+    for (i, l) in s.lines.iter().enumerate() {
+        all &= le::bits64(l.share.0) == numbers.value(5 + 2 * i);
+        all &= le::bits64(l.amount.0) == numbers.value(6 + 2 * i);
     }
     all
 }
@@ -153,10 +88,8 @@ fn sharing(numbers: Numbers, text: &[u8]) -> bool {
 
 // 3 settled | text: whether the answer is known, whatever follows.
 fn settling(numbers: Numbers, text: &[u8]) -> bool {
-    let first = Reader::start();
-    let reader = first.feed(text);
-    let settled: u64 = if reader.is_settled() { 1 } else { 0 };
-    (numbers.count == 2) & (settled == numbers.value(1))
+    let settled = Reader::start().feed(text).is_settled();
+    (numbers.count == 2) & (u64::from(settled) == numbers.value(1))
 }
 
 // A kind of case that no line should have counts as wrong.

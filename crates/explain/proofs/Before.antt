@@ -1,19 +1,22 @@
 -- The parts of the records before one, and one more: what a turn of the pass does. Assumes nothing.
 use mathlib.Core.Path.{◌≡◌, refl, sym, ◌∙◌, ap}
-use mathlib.Core.Bool.{Bool, true, false}
+use mathlib.Core.Bool.{Bool, true, false, cond}
+use Rattle.std.specs.Prelude.{None, Some}
 use mathlib.Core.List.{List, [], ◌∷◌, ◌++◌}
 use Prim.Native.Nat.{ℕ, zero, suc, ◌+◌, ◌-◌, ◌≤◌, ◌<◌}
 use native.Mathlib.Nat.{zero-add, add-zero}
 use native.Mathlib.Numerals.{add-one}
 use native.Mathlib.Omega.{arith}
+use lib.IntN.{ℤ, pos, +ℤ_idr}
 use lib.ListN.{length, set, replicate, length-append}
 use lib.Seq.{append_snoc, set-append_seam}
 use Rattle.call.specs.declared.Call.{Call}
 use Rattle.book.specs.Book.{most_keys, count_at, record_at, calls_from, calls_of}
 use Rattle.pay.specs.declared.Member.{Member}
+use Rattle.pay.specs.Sum.{total_z}
+use Rattle.pay.proofs.Sums.{total_z_step}
 use Rattle.score.specs.Scoring.{is_own_live, wh_of, wh_at}
 use Rattle.explain.specs.declared.CallPart.{CallPart}
-use Rattle.explain.specs.declared.parts.PartTurn.{PartTurn}
 use Rattle.explain.specs.Explaining.{call_part, own_part, parts_from, parts_of, blank_part, filled_up}
 use Rattle.explain.specs.Inner.{parts_before, part_turn}
 
@@ -25,11 +28,6 @@ module _ {A : Type 0} (N : ℕ) (ps : List A) (d : A) where
       let e : N - length ps ≡ suc (N - suc (length ps)) = omega arith in
       let f : N - length (ps ++ p ∷ []) ≡ N - suc (length ps) = omega (arith, length-append ps (p ∷ [])) in
       rw (e, f) (set-append_seam ps d (replicate (N - suc (length ps)) d) p ∙ sym (append_snoc ps p (replicate (N - suc (length ps)) d)))
-
-  pub put_same : length ps < N → set (ps ++ replicate (N - length ps) d) (length ps) d ≡ ps ++ replicate (N - length ps) d
-  put_same l =
-      let e : N - length ps ≡ suc (N - suc (length ps)) = omega arith in
-      rw e (set-append_seam ps d (replicate (N - suc (length ps)) d) d)
 
 append_none : (ps : List CallPart) → ps ++ [] ≡ ps
 append_none [] = refl
@@ -79,44 +77,46 @@ module _ (m : Member) (b series : List ℕ) where
 
   -- A turn
 
-  pub turn_yes : (i : ℕ) → is_own_live m (record_at b i) ≡ true → part_turn m b series i ≡ record { count = 1; part = call_part m series i (record_at b i) }
+  turn_own : (i : ℕ) (p : CallPart) → Some p ≡ part_turn m b series i → (is_own_live m (record_at b i) ≡ true) × (p ≡ call_part m series i (record_at b i))
   unfolding part_turn
-  turn_yes i h = rw h refl
+  turn_own i p e = go (is_own_live m (record_at b i)) refl e
+    where
+      go : (o : Bool) → is_own_live m (record_at b i) ≡ o → Some p ≡ cond o (Some (call_part m series i (record_at b i))) None
+          → (is_own_live m (record_at b i) ≡ true) × (p ≡ call_part m series i (record_at b i))
+      go true h e = (h, cc)
+      go false h e = (cc, cc)
 
-  pub turn_no : (i : ℕ) → is_own_live m (record_at b i) ≡ false → part_turn m b series i ≡ record { count = 0; part = blank_part }
+  turn_other : (i : ℕ) → None ≡ part_turn m b series i → is_own_live m (record_at b i) ≡ false
   unfolding part_turn
-  turn_no i h = rw h refl
+  turn_other i e = go (is_own_live m (record_at b i)) refl e
+    where
+      go : (o : Bool) → is_own_live m (record_at b i) ≡ o → None ≡ cond o (Some (call_part m series i (record_at b i))) None → is_own_live m (record_at b i) ≡ false
+      go true h e = cc
+      go false h e = h
 
-  module _ (i : ℕ) (t : PartTurn) (e : t ≡ part_turn m b series i) where
-    pub turn_parts : (parts : List CallPart) (count : ℕ) → parts ≡ filled_up (before i) → count ≡ length (before i) → i < most_keys → set parts count t.part ≡ filled_up (before (i + 1))
+  -- a record that has a part
+  module _ (i : ℕ) (p : CallPart) (e : Some p ≡ part_turn m b series i) where
+    turn_before : before (i + 1) ≡ before i ++ p ∷ []
+    turn_before = rw (add-one i, (turn_own i p e).1) (before_own i (turn_own i p e).0)
+
+    pub turn_parts : (parts : List CallPart) (count : ℕ) → parts ≡ filled_up (before i) → count ≡ length (before i) → i < most_keys → set parts count p ≡ filled_up (before (i + 1))
     unfolding filled_up
-    turn_parts parts count p c l = rw (p, c, add-one) (go (is_own_live m (record_at b i)) refl)
-      where
-        go : (o : Bool) → is_own_live m (record_at b i) ≡ o → set (filled_up (before i)) (length (before i)) t.part ≡ filled_up (before (suc i))
-        go true h = rw (e, turn_yes i h, before_own i h) (put_next most_keys (before i) blank_part (call_part m series i (record_at b i)) (omega (arith, before_few i)))
-        go false h = rw (e, turn_no i h, before_other i h) (put_same most_keys (before i) blank_part (omega (arith, before_few i)))
+    turn_parts parts count f c l = rw (f, c, turn_before) (put_next most_keys (before i) blank_part p (omega (arith, before_few i)))
 
-    pub turn_count : (count : ℕ) → count ≡ length (before i) → count + t.count ≡ length (before (i + 1))
-    turn_count count c = rw (c, add-one) (go (is_own_live m (record_at b i)) refl)
-      where
-        go : (o : Bool) → is_own_live m (record_at b i) ≡ o → length (before i) + t.count ≡ length (before (suc i))
-        go true h = rw (e, turn_yes i h, before_own i h) (sym (length-append (before i) (call_part m series i (record_at b i) ∷ [])))
-        go false h = rw (e, turn_no i h, before_other i h) (add-zero (length (before i)))
+    pub turn_count : (count : ℕ) → count ≡ length (before i) → count + 1 ≡ length (before (i + 1))
+    turn_count count c = rw (c, turn_before) (sym (length-append (before i) (p ∷ [])))
 
-    pub turn_one : t.count ≤ 1
-    turn_one = go (is_own_live m (record_at b i)) refl
-      where
-        go : (o : Bool) → is_own_live m (record_at b i) ≡ o → t.count ≤ 1
-        go true h = rw (e, turn_yes i h) (omega arith)
-        go false h = rw (e, turn_no i h) (omega arith)
+    pub turn_wh : p.wh.0 ≡ wh_at m (record_at b) i
+    unfolding wh_at wh_of call_part
+    turn_wh = rw ((turn_own i p e).1, (turn_own i p e).0) refl
 
-    pub turn_wh : t.part.wh.0 ≡ wh_at m (record_at b) i
-    unfolding wh_at wh_of call_part blank_part
-    turn_wh = go (is_own_live m (record_at b i)) refl
-      where
-        go : (o : Bool) → is_own_live m (record_at b i) ≡ o → t.part.wh.0 ≡ wh_at m (record_at b) i
-        go true h = rw (e, turn_yes i h, h) refl
-        go false h = rw (e, turn_no i h, h) refl
+  -- and one that has none
+  pub turn_same : (i : ℕ) → None ≡ part_turn m b series i → before (i + 1) ≡ before i
+  turn_same i e = rw (add-one i) (before_other i (turn_other i e))
+
+  pub turn_still : (i : ℕ) → None ≡ part_turn m b series i → (wh : ℤ) → wh ≡ total_z (wh_at m (record_at b)) i → wh ≡ total_z (wh_at m (record_at b)) (i + 1)
+  unfolding wh_at wh_of
+  turn_still i e wh t = sym (+ℤ_idr wh) ∙ total_z_step (wh_at m (record_at b)) i wh (pos 0) t (rw (turn_other i e) refl)
 
   -- the parts before a record and those from it on are the parts of all
   from_on : (i k : ℕ) → before i ++ parts_from m series i (calls_from b i k) ≡ before (i + k)

@@ -57,18 +57,15 @@ fn explain_accepted(
 {
     let n = count_at(book);
     let found = parts_before(member, book, n, series);
-    let wh = found.wh;
-    let energy = month_pay(Grains(0), wh);
-    let all = grains.plus(added);
     let parts = found.parts;
     Explained {
         number: 0,
         place: 0,
         count: found.count,
-        wh,
-        energy,
+        wh: found.wh,
+        energy: month_pay(Grains(0), found.wh),
         added,
-        grains: all,
+        grains: grains.plus(added),
         parts,
     }
 }
@@ -101,16 +98,14 @@ fn hours_sum(hours: [Grains; MOST_HOURS]) -> Grains
     ensures { result.0 ≡ hours_sum hours }
 {
     let mut sum = Grains(0);
-    let mut i: usize = 0;
-    while i < MOST_HOURS {
-        let hour = hours[i];
-        sum = sum.plus(hour);
-        i += 1;
+    for hour in &hours {
+        sum = sum.plus(*hour);
     }
     sum
 }
 
 // The member's score, explained part by part, and its ramping hours, 0 where one pays nothing.
+#[tactic(auto, unfolding(crate::specs::Explaining::explaining))]
 pub fn explain(
     member: Member,
     book: &[u8],

@@ -1,23 +1,24 @@
 // The parts of a member's live calls.
-ghost use Rattle.std.specs.Prelude.{◌≡◌, true, [], ℕ, ◌*◌, ◌<◌, ◌≤◌, length};
+ghost use Rattle.std.specs.Prelude.{◌≡◌, true, [], ℕ, ◌*◌, ◌<◌, ◌≤◌, ⊤, length, MatchOption};
 ghost use Rattle.std.specs.Int.Signed.{mag};
 ghost use Rattle.call.specs.Limits.{call_is_sound};
 ghost use Rattle.book.specs.Book.{most_keys, HasRecord, size_of};
 ghost use Rattle.pay.specs.Live.{live_wh};
 ghost use Rattle.pay.specs.Inner.{most_wh};
-ghost use Rattle.score.specs.Scoring.{is_own_live};
 ghost use Rattle.score.specs.Inner.{Small, RecordIsSound};
 ghost use Rattle.explain.specs.Explaining.{call_part, blank_part, filled_up};
 ghost use Rattle.explain.specs.Inner.{part_turn, Finds};
 
 use crate::CallPart;
 use book::{MOST_RECORDS, record_at};
-use call::{Call, LIVE};
+use call::Call;
 use pay::Member;
 use pay::event::{added, event_wh};
 use pay::live::{is_by_energy, live_pay, live_rate, quarters_paid};
+use score::is_own_live;
 use units::{Grains, Wh};
 
+#[tactic(auto, unfolding(crate::specs::Explaining::blank_part))]
 fn blank_part() -> CallPart
     ensures { result ≡ blank_part }
 {
@@ -34,14 +35,7 @@ fn blank_part() -> CallPart
 pub fn blank_parts() -> [CallPart; MOST_RECORDS]
     ensures { result ≡ filled_up [] }
 {
-    let none = blank_part();
-    [none; MOST_RECORDS]
-}
-
-fn is_own_live(member: Member, x: Call) -> bool
-    ensures { result ≡ is_own_live member x }
-{
-    (x.participant == member.number) & (x.state == LIVE)
+    [blank_part(); MOST_RECORDS]
 }
 
 // The Wh of a live call: of an event that is paid by energy.
@@ -73,27 +67,20 @@ fn call_part(member: Member, series: &[u32], i: usize, x: Call) -> CallPart
     }
 }
 
-// What a record's turn gives: 1 and its part, or 0 and a blank one.
-#[derive(Clone, Copy)]
-pub struct PartTurn {
-    pub count: usize,
-    pub part: CallPart,
-}
-
-// Record i's turn.
-fn part_turn(member: Member, b: &[u8], i: usize, series: &[u32]) -> PartTurn
+// The part of record i, where it is a live call of the member.
+#[tactic(auto, unfolding(crate::specs::Inner::part_turn))]
+fn part_turn(member: Member, b: &[u8], i: usize, series: &[u32]) -> Option<CallPart>
     requires small { Small member series.now }
     requires has_record { HasRecord b.now i }
     requires record_is_sound { RecordIsSound b.now series.now i }
-    ensures { (result ≡ part_turn member b.now series.now i) × (mag result.part.wh.0 ≤ most_wh) }
+    ensures turn { result ≡ part_turn member b.now series.now i }
+    ensures span { MatchOption result ⊤ (λ part. mag part.wh.0 ≤ most_wh) }
 {
     let x = record_at(b, i);
     if is_own_live(member, x) {
-        let part = call_part(member, series, i, x);
-        return PartTurn { count: 1, part };
+        return Some(call_part(member, series, i, x));
     }
-    let part = blank_part();
-    PartTurn { count: 0, part }
+    None
 }
 
 // How many parts there are, the sum of their Wh, and the parts.
@@ -104,7 +91,9 @@ pub struct PartsFound {
     pub parts: [CallPart; MOST_RECORDS],
 }
 
-// One pass over so many records. Where a record has no part, the place of the next part is filled with a blank one, as it was.
+// One pass over so many records.
+// Stays by hand: n is a number of records, no length of the bytes, which begin with the header.
+#[tactic(auto, using(crate::proofs::Before::before_few))]
 pub fn parts_before(member: Member, b: &[u8], n: usize, series: &[u32]) -> PartsFound
     requires small { Small member series.now }
     requires n_in_bounds { size_of n ≤ length b.now }
@@ -115,14 +104,12 @@ pub fn parts_before(member: Member, b: &[u8], n: usize, series: &[u32]) -> Parts
     let mut parts = blank_parts();
     let mut count: usize = 0;
     let mut wh = Wh(0);
-    let mut i: usize = 0;
-    while i < n {
-        let turn = part_turn(member, b, i, series);
-        let part = turn.part;
-        parts[count] = part;
-        count += turn.count;
-        wh = added(wh, part.wh);
-        i += 1;
+    for i in 0..n {
+        if let Some(part) = part_turn(member, b, i, series) {
+            parts[count] = part;
+            count += 1;
+            wh = added(wh, part.wh);
+        }
     }
     PartsFound { count, wh, parts }
 }

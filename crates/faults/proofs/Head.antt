@@ -1,12 +1,15 @@
 -- Where a text's rows begin: its first line has a digit, or it is a heading. Assumes nothing.
-use Rattle.std.proofs.Common.{◌≡◌, ℕ, ◌+◌, ◌<◌, ◌≤◌, Bool, true, false, cond, ◌&&◌, ◌||◌, eqb, List, [], ◌∷◌, map, length, get_or, drop, sym, refl, ap, ◌∙◌, arith, drop_of_length-le, eq-eqb, ne_eqb}
+use Rattle.std.proofs.Common.{◌≡◌, ℕ, ◌+◌, ◌<◌, ◌≤◌, Bool, true, false, cond, ◌&&◌, ◌||◌, eqb, List, [], ◌∷◌, ◌++◌, map, length, get_or, drop, sym, refl, ap, ◌∙◌, arith, drop_of_length-le}
+use Rattle.std.proofs.Common.{eq-eqb, ne_eqb}
 use native.Mathlib.Decide.{ℕ_discrete}
 use Rattle.le.proofs.Tests.{holds_or_fails}
 use Rattle.row.specs.Numbers.{line_feed, onto, lines_of, is_digit}
 use Rattle.row.proofs.Left.{next_byte}
 use Rattle.grid.specs.Grid.{mark, begins_with, unmarked, is_separator, separator_of, as_comma, commas, has_digit}
 use Rattle.grid.proofs.Texts.{separator_is, stays}
+use Rattle.std.specs.Prelude.{Some, None, unwrap_or}
 use Rattle.faults.specs.Faults.{first_in, first_line}
+use Rattle.faults.specs.Inner.{first_row}
 
 -- a digit stands before the first line feed
 abbrev pub digit_first : List ℕ → Bool
@@ -95,25 +98,53 @@ unfolding first_line
 first_is text = ap (λ (t : Bool). cond t 1 2)
     (lines_first (commas (unmarked text)) ∙ commas_first (separator_of (unmarked text)) (separator_is (unmarked text)) (unmarked text) ∙ mark_first text)
 
--- The walk over it
+-- as its bytes tell it
+row_first : (text : List ℕ) → unwrap_or (first_row text) 2 ≡ cond (digit_first text) 1 2
+unfolding first_row
+row_first [] = refl
+row_first (b ∷ bs) = go (eqb b line_feed) (is_digit b) (row_first bs)
+  where
+    go : (t u : Bool) → unwrap_or (first_row bs) 2 ≡ cond (digit_first bs) 1 2 → unwrap_or (cond t (Some 2) (cond u (Some 1) (first_row bs))) 2 ≡ cond (cond t false (u || digit_first bs)) 1 2
+    go true u h = refl
+    go false true h = refl
+    go false false h = h
 
-module _ (text : List ℕ) (i : ℕ) (so : digit_first (drop i text) ≡ digit_first text) where
-  here : i < length text → digit_first text ≡ cond (eqb (get_or text i 0) line_feed) false (is_digit (get_or text i 0) || digit_first (drop (i + 1) text))
-  here h = sym so ∙ ap (λ (bs : List ℕ). digit_first bs) (next_byte text i h)
+pub row_is : (text : List ℕ) → unwrap_or (first_row text) 2 ≡ first_line text
+row_is text = row_first text ∙ sym (first_is text)
 
-  pub by_feed : i < length text → get_or text i 0 ≡ 10 → 2 ≡ first_line text
-  by_feed h e = let f : digit_first text ≡ false = here h ∙ rw (eq-eqb (get_or text i 0) 10 e) in
-      sym (first_is text ∙ ap (λ (t : Bool). cond t 1 2) f)
+-- and as the bytes of a part tell it, with those behind
+pub row_parts : (bytes rest : List ℕ) → unwrap_or (first_row bytes) (first_line rest) ≡ first_line (bytes ++ rest)
+unfolding first_row
+row_parts bytes rest = ap (unwrap_or (first_row bytes)) (first_is rest) ∙ parts bytes ∙ sym (first_is (bytes ++ rest))
+  where
+    parts : (bytes : List ℕ) → unwrap_or (first_row bytes) (cond (digit_first rest) 1 2) ≡ cond (digit_first (bytes ++ rest)) 1 2
+    parts [] = refl
+    parts (b ∷ bs) = go (eqb b line_feed) (is_digit b) (parts bs)
+      where
+        go : (t u : Bool) → unwrap_or (first_row bs) (cond (digit_first rest) 1 2) ≡ cond (digit_first (bs ++ rest)) 1 2
+            → unwrap_or (cond t (Some 2) (cond u (Some 1) (first_row bs))) (cond (digit_first rest) 1 2) ≡ cond (cond t false (u || digit_first (bs ++ rest))) 1 2
+        go true u h = refl
+        go false true h = refl
+        go false false h = h
 
-  pub by_digit : i < length text → (get_or text i 0 ≡ 10 → ⊥) → is_digit (get_or text i 0) ≡ true → 1 ≡ first_line text
-  by_digit h n d = let f : digit_first text ≡ true = here h ∙ rw (ne_eqb (get_or text i 0) 10 n, d) in
-      sym (first_is text ∙ ap (λ (t : Bool). cond t 1 2) f)
+-- a byte more
+module _ (text : List ℕ) (i : ℕ) (so : first_row (drop i text) ≡ first_row text) (h : i < length text) where
+  here : first_row text ≡ cond (eqb (get_or text i 0) line_feed) (Some 2) (cond (is_digit (get_or text i 0)) (Some 1) (first_row (drop (i + 1) text)))
+  unfolding first_row
+  here = sym so ∙ ap (λ (bs : List ℕ). first_row bs) (next_byte text i h)
 
-  pub by_other : i < length text → (get_or text i 0 ≡ 10 → ⊥) → is_digit (get_or text i 0) ≡ false → digit_first (drop (i + 1) text) ≡ digit_first text
-  by_other h n d = sym (here h ∙ rw (ne_eqb (get_or text i 0) 10 n, d))
+  pub at_feed : get_or text i 0 ≡ 10 → Some 2 ≡ first_row text
+  at_feed e = sym (here ∙ rw (eq-eqb (get_or text i 0) 10 e))
 
-  pub by_end : length text ≤ i → 2 ≡ first_line text
-  by_end h = sym (first_is text ∙ ap (λ (t : Bool). cond t 1 2) (sym so ∙ ap (λ (bs : List ℕ). digit_first bs) (drop_of_length-le text h)))
+  pub at_digit : (get_or text i 0 ≡ 10 → ⊥) → is_digit (get_or text i 0) ≡ true → Some 1 ≡ first_row text
+  at_digit n d = sym (here ∙ rw (ne_eqb (get_or text i 0) 10 n, d))
+
+  pub at_other : (get_or text i 0 ≡ 10 → ⊥) → is_digit (get_or text i 0) ≡ false → first_row (drop (i + 1) text) ≡ first_row text
+  at_other n d = sym (here ∙ rw (ne_eqb (get_or text i 0) 10 n, d))
+
+pub at_end : (text : List ℕ) (i : ℕ) → first_row (drop i text) ≡ first_row text → length text ≤ i → None ≡ first_row text
+unfolding first_row
+at_end text i so h = sym (ap (λ (bs : List ℕ). first_row bs) (drop_of_length-le text h)) ∙ so
 
 -- it is the first or the second
 pub first_small : (text : List ℕ) → first_line text ≤ 2

@@ -37,6 +37,7 @@ use Rattle.grid.proofs.Ends.{cells_here, cells_end}
 use Rattle.faults.specs.declared.Table.{Table}
 use Rattle.faults.specs.declared.Table.TheVariants.{Register, Series}
 use Rattle.faults.specs.declared.Wrong.TheVariants.{Blank, Columns}
+use Rattle.std.specs.Prelude.{Option, Some}
 use Rattle.faults.specs.declared.Wrong.{Wrong}
 use Rattle.faults.specs.Faults.{or_else, entry_fault, columns_of, cells_fault, line_fault, number_of}
 use Rattle.faults.specs.Inner.{as_told}
@@ -76,7 +77,7 @@ module _ (table : Table) (before : ℕ) (cells : List ℕ) (count : ℕ) (few : 
   long : length (take count cells) ≡ count
   long = omega (arith, length-take count cells)
 
-  pub line_blank : count ≡ 0 → Blank ≡ line_fault table before (take count cells)
+  pub line_blank : count ≡ 0 → Some Blank ≡ line_fault table before (take count cells)
   unfolding line_fault
   line_blank e = rw (eq-eqb (length (take count cells)) 0 (long ∙ e))
 
@@ -84,10 +85,10 @@ module _ (table : Table) (before : ℕ) (cells : List ℕ) (count : ℕ) (few : 
   unfolding line_fault
   line_cells n e = rw (ne_eqb (length (take count cells)) 0 (λ z. n (sym long ∙ z)), eq-eqb (length (take count cells)) (columns_of table) (long ∙ e)) (cells_part table before cells count e)
 
-  pub line_columns_lem : (count ≡ 0 → ⊥) → (count ≡ columns_of table → ⊥) → Columns count (columns_of table) ≡ line_fault table before (take count cells)
+  pub line_columns_lem : (count ≡ 0 → ⊥) → (count ≡ columns_of table → ⊥) → Some (Columns count (columns_of table)) ≡ line_fault table before (take count cells)
   unfolding line_fault
   line_columns_lem n m = rw (ne_eqb (length (take count cells)) 0 (λ z. n (sym long ∙ z)), ne_eqb (length (take count cells)) (columns_of table) (λ z. m (sym long ∙ z)))
-      (ap (λ (k : ℕ). Columns k (columns_of table)) (sym long))
+      (ap (λ (k : ℕ). Some (Columns k (columns_of table))) (sym long))
 
 -- the first cell of a line that has one
 pub first_cell : (cells : List ℕ) (count : ℕ) → 1 ≤ count → get_or cells 0 0 ≡ get_or (take count cells) 0 0
@@ -103,5 +104,5 @@ unfolding number_of
 number_no n row e h = rw (← e, h)
 
 -- two faults and two that are the same
-pub or_is : {x y a b : Wrong} → x ≡ a → y ≡ b → or_else x y ≡ or_else a b
+pub or_is : {x y a b : Option Wrong} → x ≡ a → y ≡ b → or_else x y ≡ or_else a b
 or_is e f = λ i. or_else (e i) (f i)

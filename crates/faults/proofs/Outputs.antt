@@ -49,9 +49,10 @@ use Rattle.score.specs.Outcomes.{LineAndBook, Spans, ValuesWithin, Ready, bad_va
 use Rattle.score.proofs.Exact.{outcome_exact}
 use Rattle.tables.specs.Series.{series_columns, output_of, series_of}
 use Rattle.faults.specs.declared.Table.TheVariants.{Series}
+use Rattle.std.specs.Prelude.{Option, Some, None}
 use Rattle.faults.specs.declared.Wrong.{Wrong}
 use Rattle.faults.specs.declared.Found.{Found}
-use Rattle.faults.specs.Faults.{column_fault, is_sound, columns_of, cells_fault, line_fault, number_of, faults_from, first_line, table_faults}
+use Rattle.faults.specs.Faults.{column_fault, is_sound, columns_of, cells_fault, line_fault, number_of, adding, faults_from, first_line, table_faults}
 
 -- the output that a row is read as
 abbrev output_by : List ℕ → ℕ
@@ -59,11 +60,11 @@ output_by row = output_of (row_by series_columns row)
 
 -- a cell
 one_alike : (n : ℕ) → is_sound (column_fault 1 0 5000000 n) ≡ leb (output_of (cond (leb n 1000000000000 && true) (n ∷ []) [])) 5000000
-unfolding column_fault is_sound output_of
+unfolding column_fault output_of
 one_alike n = go (dec_lt 1000000000000 n) (dec_lt 5000000 n)
   where
     go : Dec (1000000000000 < n) → Dec (5000000 < n)
-        → is_sound (cond (ltb 1000000000000 n) (Wrong.NoNumber 1 0 5000000) (cond (leb 0 n && leb n 5000000) Wrong.Sound (Wrong.Outside 1 n 0 5000000)))
+        → is_sound (cond (ltb 1000000000000 n) (Some (Wrong.NoNumber 1 0 5000000)) (cond (leb 0 n && leb n 5000000) None (Some (Wrong.Outside 1 n 0 5000000))))
         ≡ leb (output_of (cond (leb n 1000000000000 && true) (n ∷ []) [])) 5000000
     go (yes h) d = rw (lt-ltb 1000000000000 n h, lt-leb n 1000000000000 h)
     go (no h) (yes k) =
@@ -72,7 +73,7 @@ one_alike n = go (dec_lt 1000000000000 n) (dec_lt 5000000 n)
         rw (le-ltb 1000000000000 n (omega arith), le-leb n 1000000000000 (omega arith), leb-zero n, le-leb n 5000000 (omega arith), le-leb (min n 4294967295) 5000000 (omega arith))
 
 out_alike : (before : ℕ) (row : List ℕ) → is_sound (line_fault Series before row) ≡ leb (output_by row) most_output
-unfolding line_fault columns_of cells_fault is_sound output_of
+unfolding line_fault columns_of cells_fault output_of
 out_alike before [] = refl
 out_alike before (n ∷ []) = one_alike n
 out_alike before (n ∷ m ∷ row) = rw (ne_eqb (suc (suc (length row))) 1 (omega arith), ne_eqb (suc (suc (length row))) 0 (omega arith))
@@ -102,38 +103,38 @@ within_more v vs i h w (suc j) k = w j (omega arith)
 none_above : (line before : ℕ) (rows : List (List ℕ)) → faults_from Series line before rows ≡ [] → ValuesWithin (outputs rows) (length (outputs rows))
 unfolding faults_from
 none_above line before [] e = λ j k. absurd (omega arith)
-none_above line before (row ∷ rows) e = go (none_above (suc line) (number_of row) rows) (is_sound (line_fault Series before row)) refl e
+none_above line before (row ∷ rows) e = go (none_above (suc line) (number_of row) rows) (line_fault Series before row) refl e
   where
-    go : (faults_from Series (suc line) (number_of row) rows ≡ [] → ValuesWithin (outputs rows) (length (outputs rows))) → (t : Bool) → is_sound (line_fault Series before row) ≡ t
-        → cond t (faults_from Series (suc line) (number_of row) rows) (record { line = line; wrong = line_fault Series before row } ∷ faults_from Series (suc line) (number_of row) rows) ≡ []
+    go : (faults_from Series (suc line) (number_of row) rows ≡ [] → ValuesWithin (outputs rows) (length (outputs rows))) → (w : Option Wrong) → line_fault Series before row ≡ w
+        → adding line w (faults_from Series (suc line) (number_of row) rows) ≡ []
         → ValuesWithin (output_by row ∷ outputs rows) (suc (length (outputs rows)))
-    go more true s k = within_more (output_by row) (outputs rows) (length (outputs rows)) (leb-true (output_by row) most_output (sym (out_alike before row) ∙ s)) (more k)
-    go more false s k = absurd (cons_not_nil k)
+    go more None s k = within_more (output_by row) (outputs rows) (length (outputs rows)) (leb-true (output_by row) most_output (sym (out_alike before row) ∙ ap is_sound s)) (more k)
+    go more (Some wrong) s k = absurd (cons_not_nil k)
 
 some_above : (line before : ℕ) (rows : List (List ℕ)) (f : Found) (fs : List Found) → faults_from Series line before rows ≡ f ∷ fs
     → (i : ℕ) × (f.line ≡ line + i) × FirstAbove (outputs rows) i
 unfolding faults_from first_line_of
 some_above line before [] f fs e = absurd (cons_not_nil (sym e))
-some_above line before (row ∷ rows) f fs e = go (some_above (suc line) (number_of row) rows f fs) (is_sound (line_fault Series before row)) refl e
+some_above line before (row ∷ rows) f fs e = go (some_above (suc line) (number_of row) rows f fs) (line_fault Series before row) refl e
   where
     go : (faults_from Series (suc line) (number_of row) rows ≡ f ∷ fs → (i : ℕ) × (f.line ≡ suc line + i) × FirstAbove (outputs rows) i)
-        → (t : Bool) → is_sound (line_fault Series before row) ≡ t
-        → cond t (faults_from Series (suc line) (number_of row) rows) (record { line = line; wrong = line_fault Series before row } ∷ faults_from Series (suc line) (number_of row) rows) ≡ f ∷ fs
+        → (w : Option Wrong) → line_fault Series before row ≡ w
+        → adding line w (faults_from Series (suc line) (number_of row) rows) ≡ f ∷ fs
         → (i : ℕ) × (f.line ≡ line + i) × FirstAbove (output_by row ∷ outputs rows) i
-    go more true s k =
+    go more None s k =
         let m = more k in
         let a = m.2 in (
           suc m.0,
           omega (arith, m.1),
           record {
             there = omega (arith, a.there);
-            before = within_more (output_by row) (outputs rows) m.0 (leb-true (output_by row) most_output (sym (out_alike before row) ∙ s)) a.before;
+            before = within_more (output_by row) (outputs rows) m.0 (leb-true (output_by row) most_output (sym (out_alike before row) ∙ ap is_sound s)) a.before;
             above = a.above;
           },
         )
-    go more false s k =
+    go more (Some wrong) s k =
         let at : f.line ≡ line = sym (ap (λ (x : List Found). first_line_of x) k) in
-        (0, omega (arith, at), record { there = omega arith; before = λ j h. absurd (omega arith); above = leb-false (output_by row) most_output (sym (out_alike before row) ∙ s) })
+        (0, omega (arith, at), record { there = omega arith; before = λ j h. absurd (omega arith); above = leb-false (output_by row) most_output (sym (out_alike before row) ∙ ap is_sound s) })
 
 outputs_are : (text : List ℕ) → series_of text ≡ outputs (rows_by (λ row. row) text)
 unfolding series_of rows_by row_in

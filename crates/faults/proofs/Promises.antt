@@ -46,9 +46,10 @@ use Rattle.register.specs.Register.{entry_is_sound}
 use Rattle.tables.specs.Register.{register_columns, register_row, limit_told, as_entry, entries_of, register_entries, read_register}
 use Rattle.tables.proofs.Entries.{bounds, within, sound_is, lawful}
 use Rattle.faults.specs.declared.Table.TheVariants.{Register}
+use Rattle.std.specs.Prelude.{Option, Some, None}
 use Rattle.faults.specs.declared.Wrong.{Wrong}
 use Rattle.faults.specs.declared.Found.{Found}
-use Rattle.faults.specs.Faults.{column_fault, limit_fault, is_sound, or_else, rising_fault, entry_fault, columns_of, cells_fault, line_fault, number_of, faults_from, first_line, table_faults}
+use Rattle.faults.specs.Faults.{column_fault, limit_fault, is_sound, or_else, rising_fault, entry_fault, columns_of, cells_fault, line_fault, number_of, adding, faults_from, first_line, table_faults}
 
 -- Tests that say the same
 
@@ -57,37 +58,35 @@ alike true y to from = sym (to refl)
 alike false true to from = from refl
 alike false false to from = refl
 
-or_split : (x y : Wrong) → is_sound (or_else x y) ≡ true → (is_sound x ≡ true) × (is_sound y ≡ true)
-or_split x y h = go (is_sound x) refl h
-  where
-    go : (t : Bool) → is_sound x ≡ t → is_sound (cond t y x) ≡ true → (is_sound x ≡ true) × (is_sound y ≡ true)
-    go true e k = (e, k)
-    go false e k = absurd (holds_or_fails k e)
+or_split : (x y : Option Wrong) → is_sound (or_else x y) ≡ true → (is_sound x ≡ true) × (is_sound y ≡ true)
+or_split None y h = (refl, h)
+or_split (Some wrong) y h = absurd (holds_or_fails h refl)
 
-or_make : (x y : Wrong) → is_sound x ≡ true → is_sound y ≡ true → is_sound (or_else x y) ≡ true
-or_make x y h k = rw h k
+or_make : (x y : Option Wrong) → is_sound x ≡ true → is_sound y ≡ true → is_sound (or_else x y) ≡ true
+or_make None y h k = k
+or_make (Some wrong) y h k = h
 
 column_split : (column least most n : ℕ) → is_sound (column_fault column least most n) ≡ true → (leb least n ≡ true) × (leb n most ≡ true)
-unfolding column_fault is_sound
+unfolding column_fault
 column_split column least most n h = go (ltb ceiling n) (leb least n) refl (leb n most) refl h
   where
     go : (t u : Bool) → leb least n ≡ u → (v : Bool) → leb n most ≡ v
-        → is_sound (cond t (Wrong.NoNumber column least most) (cond (u && v) Wrong.Sound (Wrong.Outside column n least most))) ≡ true → (leb least n ≡ true) × (leb n most ≡ true)
+        → is_sound (cond t (Some (Wrong.NoNumber column least most)) (cond (u && v) None (Some (Wrong.Outside column n least most)))) ≡ true → (leb least n ≡ true) × (leb n most ≡ true)
     go true u e v f k = absurd (holds_or_fails k refl)
     go false true e true f k = (e, f)
     go false true e false f k = absurd (holds_or_fails k refl)
     go false false e v f k = absurd (holds_or_fails k refl)
 
 column_make : (column least most n : ℕ) → most ≤ ceiling → leb least n ≡ true → leb n most ≡ true → is_sound (column_fault column least most n) ≡ true
-unfolding column_fault is_sound
+unfolding column_fault
 column_make column least most n c h k = rw (le-ltb ceiling n (omega (arith, leb-true n most k)), h, k)
 
 -- none, or a number within limits, is a sound limit
 limit_alike : (n : ℕ) → is_sound (limit_fault n) ≡ limit_is_sound (limit_told n)
-unfolding limit_fault limit_told limit_is_sound is_sound
+unfolding limit_fault limit_told limit_is_sound
 limit_alike n = go (eqb n none_told)
   where
-    go : (t : Bool) → is_sound (cond t Wrong.Sound (column_fault 7 0 most_limit n))
+    go : (t : Bool) → is_sound (cond t None (column_fault 7 0 most_limit n))
         ≡ limit_is_sound (cond t (record { none = true; fen = record { 0 = 0 } }) (record { none = false; fen = record { 0 = n } }))
     go true = refl
     go false = alike _ _ (λ h. (column_split 7 0 most_limit n h).1) (λ h. column_make 7 0 most_limit n (omega arith) (leb-zero n) h)
@@ -130,19 +129,16 @@ entry_alike row = alike (is_sound (entry_fault row)) (within (as_entry row)) to 
         (limit_alike (get_or row 6 0) ∙ q4.1.1.1.0))))))
 
 rising_alike : (before n : ℕ) → is_sound (rising_fault before n) ≡ ltb before n
-unfolding rising_fault is_sound
+unfolding rising_fault
 rising_alike before n = go (ltb before n)
   where
-    go : (t : Bool) → is_sound (cond t Wrong.Sound (Wrong.NotAbove n before)) ≡ t
+    go : (t : Bool) → is_sound (cond t None (Some (Wrong.NotAbove n before))) ≡ t
     go true = refl
     go false = refl
 
-or_alike : (x y : Wrong) → is_sound (or_else x y) ≡ (is_sound x && is_sound y)
-or_alike x y = go (is_sound x) refl
-  where
-    go : (t : Bool) → is_sound x ≡ t → is_sound (cond t y x) ≡ (t && is_sound y)
-    go true e = refl
-    go false e = e
+or_alike : (x y : Option Wrong) → is_sound (or_else x y) ≡ (is_sound x && is_sound y)
+or_alike None y = refl
+or_alike (Some wrong) y = refl
 
 -- the entry that a row is read as
 abbrev entry_by : List ℕ → Entry
@@ -153,10 +149,10 @@ unfolding as_entry
 none_sound before = sound_is before (as_entry [])
 
 line_alike : (before : ℕ) (row : List ℕ) → is_sound (line_fault Register before row) ≡ entry_is_sound before (entry_by row)
-unfolding line_fault columns_of cells_fault is_sound register_row as_entry entry_is_sound
+unfolding line_fault columns_of cells_fault register_row as_entry entry_is_sound
 line_alike before row = go (ℕ_discrete (length row) 7)
   where
-    other : (t : Bool) → is_sound (cond t Wrong.Blank (Wrong.Columns (length row) 7)) ≡ false
+    other : (t : Bool) → is_sound (cond t (Some Wrong.Blank) (Some (Wrong.Columns (length row) 7))) ≡ false
     other true = refl
     other false = refl
 
@@ -194,42 +190,40 @@ cons_not_nil e = let z : ◌≡◌ {A = ℕ} 0 1 = cc in omega arith
 none_bad : (line before : ℕ) (rows : List (List ℕ)) → faults_from Register line before rows ≡ [] → length (entries_by rows) ≤ bad_in before rows
 unfolding faults_from
 none_bad line before [] e = omega arith
-none_bad line before (row ∷ rows) e = go (none_bad (suc line) (number_of row) rows) (is_sound (line_fault Register before row)) refl e
+none_bad line before (row ∷ rows) e = go (none_bad (suc line) (number_of row) rows) (line_fault Register before row) refl e
   where
-    go : (faults_from Register (suc line) (number_of row) rows ≡ [] → length (entries_by rows) ≤ bad_in (number_of row) rows) → (t : Bool) → is_sound (line_fault Register before row) ≡ t
-        → cond t (faults_from Register (suc line) (number_of row) rows) (record { line = line; wrong = line_fault Register before row } ∷ faults_from Register (suc line)
-        (number_of row) rows) ≡ []
+    go : (faults_from Register (suc line) (number_of row) rows ≡ [] → length (entries_by rows) ≤ bad_in (number_of row) rows) → (w : Option Wrong) → line_fault Register before row ≡ w
+        → adding line w (faults_from Register (suc line) (number_of row) rows) ≡ []
         → suc (length (entries_by rows)) ≤ cond (entry_is_sound before (entry_by row)) (suc (bad_in (entry_by row).member.number rows)) 0
-    go more true s k =
-        let sound : entry_is_sound before (entry_by row) ≡ true = sym (line_alike before row) ∙ s in
+    go more None s k =
+        let sound : entry_is_sound before (entry_by row) ≡ true = sym (line_alike before row) ∙ ap is_sound s in
         let h : length (entries_by rows) ≤ bad_in (entry_by row).member.number rows = rw (number_alike before row sound) at (more k) in
         rw sound (omega (arith, h))
-    go more false s k = absurd (cons_not_nil k)
+    go more (Some wrong) s k = absurd (cons_not_nil k)
 
 some_bad : (line before : ℕ) (rows : List (List ℕ)) (f : Found) (fs : List Found) → faults_from Register line before rows ≡ f ∷ fs
     → (bad_in before rows < length (entries_by rows)) × (f.line ≡ line + bad_in before rows)
 unfolding faults_from
 some_bad line before [] f fs e = absurd (cons_not_nil (sym e))
-some_bad line before (row ∷ rows) f fs e = go (some_bad (suc line) (number_of row) rows f fs) (is_sound (line_fault Register before row)) refl e
+some_bad line before (row ∷ rows) f fs e = go (some_bad (suc line) (number_of row) rows f fs) (line_fault Register before row) refl e
   where
     first_line_of : List Found → ℕ
     first_line_of [] = 0
     first_line_of (g ∷ gs) = g.line
 
     go : (faults_from Register (suc line) (number_of row) rows ≡ f ∷ fs → (bad_in (number_of row) rows < length (entries_by rows)) × (f.line ≡ suc line + bad_in (number_of row) rows))
-        → (t : Bool) → is_sound (line_fault Register before row) ≡ t
-        → cond t (faults_from Register (suc line) (number_of row) rows) (record { line = line; wrong = line_fault Register before row } ∷ faults_from Register (suc line)
-        (number_of row) rows) ≡ f ∷ fs
+        → (w : Option Wrong) → line_fault Register before row ≡ w
+        → adding line w (faults_from Register (suc line) (number_of row) rows) ≡ f ∷ fs
         → (cond (entry_is_sound before (entry_by row)) (suc (bad_in (entry_by row).member.number rows)) 0 < suc (length (entries_by rows)))
         × (f.line ≡ line + cond (entry_is_sound before (entry_by row)) (suc (bad_in (entry_by row).member.number rows)) 0)
-    go more true s k =
-        let sound : entry_is_sound before (entry_by row) ≡ true = sym (line_alike before row) ∙ s in
+    go more None s k =
+        let sound : entry_is_sound before (entry_by row) ≡ true = sym (line_alike before row) ∙ ap is_sound s in
         let n = number_alike before row sound in
         let low : bad_in (entry_by row).member.number rows < length (entries_by rows) = rw n at (more k).0 in
         let at : f.line ≡ suc line + bad_in (entry_by row).member.number rows = rw n at (more k).1 in
         rw sound (omega (arith, low), omega (arith, at))
-    go more false s k =
-        let bad : entry_is_sound before (entry_by row) ≡ false = sym (line_alike before row) ∙ s in
+    go more (Some wrong) s k =
+        let bad : entry_is_sound before (entry_by row) ≡ false = sym (line_alike before row) ∙ ap is_sound s in
         let at : f.line ≡ line = sym (ap (λ (x : List Found). first_line_of x) k) in
         rw bad (omega arith, omega (arith, at))
 

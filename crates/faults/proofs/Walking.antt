@@ -8,12 +8,13 @@ use Rattle.grid.specs.declared.Step.{Step}
 use Rattle.grid.specs.Meaning.{head_left, blank_left, row_left, blanks_then, line_then, lines_by, rows_left, rows_after, StepFrom, Starts, Next}
 use Rattle.grid.proofs.Rows.{blanks_none, feed, ends}
 use Rattle.faults.specs.declared.Table.{Table}
+use Rattle.std.specs.Prelude.{Option, Some, None, is_some, is_none}
 use Rattle.faults.specs.declared.Wrong.{Wrong}
 use Rattle.faults.specs.declared.Wrong.TheVariants.{Blank}
 use Rattle.faults.specs.declared.Found.{Found}
 use Rattle.faults.specs.declared.Walk.{Walk}
 use Rattle.faults.specs.declared.Faulted.{Faulted}
-use Rattle.faults.specs.Faults.{is_sound, line_fault, number_of, faults_from, first_line, table_faults}
+use Rattle.faults.specs.Faults.{line_fault, number_of, faults_from, first_line, table_faults}
 use Rattle.faults.specs.Inner.{first_of, as_told, most_size, Walks, AtEnd, ToEnd, Ended, Passes, IsLine, IsHeld}
 use Rattle.faults.proofs.Head.{first_small}
 
@@ -58,24 +59,24 @@ cons_not_nil : {f : Found} {fs : List Found} → f ∷ fs ≡ [] → ⊥
 cons_not_nil e = let z : ◌≡◌ {A = ℕ} 0 1 = cc in omega arith
 
 blank_told : (table : Table) (line before : ℕ) (rows : List (List ℕ)) → faults_from table line before ([] ∷ rows) ≡ record { line = line; wrong = Blank } ∷ faults_from table (suc line) 0 rows
-unfolding faults_from line_fault is_sound number_of
+unfolding faults_from line_fault number_of
 blank_told table line before rows = refl
 
-row_sound : (table : Table) (line before : ℕ) (row : List ℕ) (rows : List (List ℕ)) → is_sound (line_fault table before row) ≡ true
+row_sound : (table : Table) (line before : ℕ) (row : List ℕ) (rows : List (List ℕ)) → line_fault table before row ≡ None
     → faults_from table line before (row ∷ rows) ≡ faults_from table (suc line) (number_of row) rows
 unfolding faults_from
 row_sound table line before row rows h = rw h
 
-row_bad : (table : Table) (line before : ℕ) (row : List ℕ) (rows : List (List ℕ)) → is_sound (line_fault table before row) ≡ false
-    → faults_from table line before (row ∷ rows) ≡ record { line = line; wrong = line_fault table before row } ∷ faults_from table (suc line) (number_of row) rows
+row_bad : (table : Table) (line before : ℕ) (row : List ℕ) (rows : List (List ℕ)) (wrong : Wrong) → line_fault table before row ≡ Some wrong
+    → faults_from table line before (row ∷ rows) ≡ record { line = line; wrong = wrong } ∷ faults_from table (suc line) (number_of row) rows
 unfolding faults_from
-row_bad table line before row rows h = rw h
+row_bad table line before row rows wrong h = rw h
 
 no_rows : (table : Table) (line before k : ℕ) → faults_from table line before (blanks_then k []) ≡ []
 unfolding faults_from blanks_then
 no_rows table line before k = refl
 
-first_is : (f : Found) (fs left : List Found) → f ∷ fs ≡ left → (f ≡ first_of left) × (fs ≡ drop 1 left)
+first_is : (f : Found) (fs left : List Found) → f ∷ fs ≡ left → (Some f ≡ first_of left) × (fs ≡ drop 1 left)
 first_is f fs left e = (ap (λ (x : List Found). first_of x) e, ap (λ (x : List Found). drop 1 x) e)
 
 -- A line that is passed
@@ -105,9 +106,8 @@ module _ (text : List ℕ) (walk : Walk) (end : AtEnd text walk) where
               ∙ ap (faults_from walk.table line before) (E.behind r.walk.grid p.next blanks) ∙ says;
         }
 
-  sound_found : (r : Faulted) → r.found ≡ first_of [] → is_sound r.found.wrong ≡ true
-  unfolding is_sound
-  sound_found r e = ap (λ (f : Found). is_sound f.wrong) e
+  sound_found : (r : Faulted) → r.found ≡ None → is_none r.found ≡ true
+  sound_found r e = ap (λ (f : Option Found). is_none f) e
 
   -- where rows are left as they are behind a line, nothing is told
   quiet : (r : Faulted) (line before blanks : ℕ) → Passes walk line before blanks r
@@ -141,8 +141,8 @@ module _ (text : List ℕ) (walk : Walk) (end : AtEnd text walk) where
   held_walk line blanks = record { table = walk.table; at = walk.at; grid = walk.grid; ended = walk.ended; line = line; before = 0; blanks = blanks }
 
   pub by_held : IsHeld walk → (line blanks : ℕ) → line ≡ (walk.line + 1) % 2 ^ 64 → blanks ≡ walk.blanks - 1
-      → Ended text walk (record { found = record { line = walk.line; wrong = Blank }; walk = held_walk line blanks })
-  unfolding is_sound line_then
+      → Ended text walk (record { found = Some (record { line = walk.line; wrong = Blank }); walk = held_walk line blanks })
+  unfolding line_then
   by_held h line blanks e f =
       record {
         none = λ s. absurd (holds_or_fails s refl);
@@ -173,53 +173,54 @@ module _ (text : List ℕ) (walk : Walk) (end : AtEnd text walk) where
 
   -- A line
 
-  module _ (is : IsLine walk) (line n : ℕ) (wrong : Wrong) (e : line ≡ (walk.line + 1) % 2 ^ 64) (next : Faulted) (p : Passes walk line n 0 next)
-      (w-is : wrong ≡ line_fault walk.table walk.before (row_left as_told walk.grid walk.ended [])) (n_is : n ≡ number_of (row_left as_told walk.grid walk.ended [])) where
-    abbrev row : List ℕ
-    row = row_left as_told walk.grid walk.ended []
+  module _
+      (is : IsLine walk) (line n : ℕ) (e : line ≡ (walk.line + 1) % 2 ^ 64) (next : Faulted)
+      (p : Passes walk line n 0 next) (n_is : n ≡ number_of (row_left as_told walk.grid walk.ended []))
+    where
+      abbrev row : List ℕ
+      row = row_left as_told walk.grid walk.ended []
 
-    row_here : (left : List Found) → Walks text walk left → faults_from walk.table walk.line walk.before (row ∷ E.rows) ≡ left
-    unfolding line_then
-    row_here left w =
-        let here : faults_from walk.table walk.line walk.before (replicate walk.blanks [] ++ row ∷ E.rows) ≡ left = rw (is.head, is.blank) at (says_here left w) in
-        ap (λ (k : ℕ). faults_from walk.table walk.line walk.before (replicate k [] ++ row ∷ E.rows)) (sym is.none) ∙ here
+      row_here : (left : List Found) → Walks text walk left → faults_from walk.table walk.line walk.before (row ∷ E.rows) ≡ left
+      unfolding line_then
+      row_here left w =
+          let here : faults_from walk.table walk.line walk.before (replicate walk.blanks [] ++ row ∷ E.rows) ≡ left = rw (is.head, is.blank) at (says_here left w) in
+          ap (λ (k : ℕ). faults_from walk.table walk.line walk.before (replicate k [] ++ row ∷ E.rows)) (sym is.none) ∙ here
 
-    line_is : (left : List Found) → Walks text walk left → line ≡ suc walk.line
-    line_is left w = e ∙ mod-eq_of_lt (omega (arith, w.few, w.within, w.small)) ∙ omega arith
+      line_is : (left : List Found) → Walks text walk left → line ≡ suc walk.line
+      line_is left w = e ∙ mod-eq_of_lt (omega (arith, w.few, w.within, w.small)) ∙ omega arith
 
-    behind_is : (left : List Found) → Walks text walk left → faults_from walk.table line n (blanks_then 0 E.rows) ≡ faults_from walk.table (suc walk.line) (number_of row) E.rows
-    behind_is left w = λ i. faults_from walk.table (line_is left w i) (n_is i) (blanks_none E.rows i)
+      behind_is : (left : List Found) → Walks text walk left → faults_from walk.table line n (blanks_then 0 E.rows) ≡ faults_from walk.table (suc walk.line) (number_of row) E.rows
+      behind_is left w = λ i. faults_from walk.table (line_is left w i) (n_is i) (blanks_none E.rows i)
 
-    pub by_sound : is_sound wrong ≡ true → Ended text walk next
-    by_sound s =
-        quiet next line n 0 p
-        (λ left w. (
-          omega (arith, w.few, line_is left w),
-          behind_is left w ∙ sym (row_sound walk.table walk.line walk.before row E.rows (ap is_sound (sym w-is) ∙ s)) ∙ row_here left w,
-        ))
+      pub by_sound : None ≡ line_fault walk.table walk.before row → Ended text walk next
+      by_sound s =
+          quiet next line n 0 p
+          (λ left w. (
+            omega (arith, w.few, line_is left w),
+            behind_is left w ∙ sym (row_sound walk.table walk.line walk.before row E.rows (sym s)) ∙ row_here left w,
+          ))
 
-    pub by_bad : is_sound wrong ≡ false → Ended text walk (record { found = record { line = walk.line; wrong = wrong }; walk = next.walk })
-    by_bad s =
-        record {
-          none = λ t. absurd (holds_or_fails t s);
-          on = λ t left w at. absurd (holds_or_fails t s);
-          done = λ t left w late. absurd (holds_or_fails t s);
-          bad = λ t left w.
-              let all : record { line = walk.line; wrong = wrong } ∷ faults_from walk.table (suc walk.line) (number_of row) E.rows ≡ left =
-              ap (λ (x : Wrong). record { line = walk.line; wrong = x } ∷ faults_from walk.table (suc walk.line) (number_of row) E.rows) w-is
-              ∙ sym (row_bad walk.table walk.line walk.before row E.rows (ap is_sound (sym w-is) ∙ s)) ∙ row_here left w in
-              let told = first_is (record { line = walk.line; wrong = wrong }) (faults_from walk.table (suc walk.line) (number_of row) E.rows) left all in
-              let at : walk.at ≤ length text = within left w all in
-              (told.0, passed next line n 0 p (drop 1 left) w.small at (omega (arith, w.few, line_is left w)) w.room (behind_is left w ∙ told.1));
-        }
-      where
-        within : (left : List Found) → Walks text walk left → record { line = walk.line; wrong = wrong } ∷ faults_from walk.table (suc walk.line) (number_of row)
-            E.rows ≡ left → walk.at ≤ length text
-        within left w all = go (dec_lt (length text) walk.at)
-          where
-            go : Dec (length text < walk.at) → walk.at ≤ length text
-            go (no k) = omega arith
-            go (yes k) = absurd (cons_not_nil (all ∙ w.past k))
+      pub by_bad : (wrong : Wrong) → Some wrong ≡ line_fault walk.table walk.before row → Ended text walk (record { found = Some (record { line = walk.line; wrong = wrong }); walk = next.walk })
+      by_bad wrong s =
+          record {
+            none = λ t. absurd (holds_or_fails t refl);
+            on = λ t left w at. absurd (holds_or_fails t refl);
+            done = λ t left w late. absurd (holds_or_fails t refl);
+            bad = λ t left w.
+                let all : record { line = walk.line; wrong = wrong } ∷ faults_from walk.table (suc walk.line) (number_of row) E.rows ≡ left =
+                sym (row_bad walk.table walk.line walk.before row E.rows wrong (sym s)) ∙ row_here left w in
+                let told = first_is (record { line = walk.line; wrong = wrong }) (faults_from walk.table (suc walk.line) (number_of row) E.rows) left all in
+                let at : walk.at ≤ length text = within left w all in
+                (told.0, passed next line n 0 p (drop 1 left) w.small at (omega (arith, w.few, line_is left w)) w.room (behind_is left w ∙ told.1));
+          }
+        where
+          within : (left : List Found) → Walks text walk left → record { line = walk.line; wrong = wrong } ∷ faults_from walk.table (suc walk.line) (number_of row)
+              E.rows ≡ left → walk.at ≤ length text
+          within left w all = go (dec_lt (length text) walk.at)
+            where
+              go : Dec (length text < walk.at) → walk.at ≤ length text
+              go (no k) = omega arith
+              go (yes k) = absurd (cons_not_nil (all ∙ w.past k))
 
 -- The walk before any byte, and over some bytes of its line
 
@@ -236,20 +237,20 @@ starts_walk table text grid ended line s e room small =
       says = λ i. faults_from table (e i) 0 (s.rows as_told ended text i);
     }
 
--- the same walk at another byte, with another line
-abbrev pub walk_at : Walk → ℕ → Grid → List ℕ → Walk
-walk_at walk at grid ended = record { table = walk.table; at = at; grid = grid; ended = ended; line = walk.line; before = walk.before; blanks = walk.blanks }
+-- the same walk behind a step of its line
+abbrev pub stepped : Walk → Step → List ℕ → Walk
+stepped walk r after = record { table = walk.table; at = r.end; grid = r.grid; ended = after; line = walk.line; before = walk.before; blanks = walk.blanks }
 
-pub steps_walk : (text : List ℕ) (walk : Walk) (at : ℕ) (grid : Grid) (ended : List ℕ) (r : Step) (after : List ℕ) → StepFrom text at grid ended r after → length after ≡ 8
-    → (left : List Found) → Walks text (walk_at walk at grid ended) left → Walks text (walk_at walk r.end r.grid after) left
-steps_walk text walk at grid ended r after s room left w =
+pub steps_walk : (text : List ℕ) (walk : Walk) (r : Step) (after : List ℕ) → StepFrom text walk.at walk.grid walk.ended r after → length after ≡ 8
+    → (left : List Found) → Walks text walk left → Walks text (stepped walk r after) left
+steps_walk text walk r after s room left w =
     record {
       small = w.small;
       within = omega (arith, s.within);
       past = λ h. absurd (omega (arith, s.within));
       few = omega (arith, w.few, s.on);
       room = room;
-      says = ap (faults_from walk.table walk.line walk.before) (s.rows as_told walk.blanks (drop r.end text) ∙ ap (rows_left as_told walk.blanks grid ended) (sym s.stands))
+      says = ap (faults_from walk.table walk.line walk.before) (s.rows as_told walk.blanks (drop r.end text) ∙ ap (rows_left as_told walk.blanks walk.grid walk.ended) (sym s.stands))
           ∙ w.says;
     }
 
@@ -260,26 +261,30 @@ module _ (text : List ℕ) (self walk end : Walk) (from : (left : List Found) �
   on left w = to.same left (from left w)
 
   module _ (r : Faulted) (told : Ended text end r) where
-    pub found_first : is_sound r.found.wrong ≡ false → (left : List Found) → Walks text self left → r.found ≡ first_of left
+    pub found_first : is_none r.found ≡ false → (left : List Found) → Walks text self left → r.found ≡ first_of left
     found_first s left w = (told.bad s left (on left w)).0
 
-    pub found_rest : is_sound r.found.wrong ≡ false → (left : List Found) → Walks text self left → Walks text r.walk (drop 1 left)
+    pub found_rest : is_none r.found ≡ false → (left : List Found) → Walks text self left → Walks text r.walk (drop 1 left)
     found_rest s left w = (told.bad s left (on left w)).1
 
-    pub goes_on_lem : is_sound r.found.wrong ≡ true → end.at ≤ length text → (left : List Found) → Walks text self left → Walks text r.walk left
+    pub goes_on_lem : is_none r.found ≡ true → end.at ≤ length text → (left : List Found) → Walks text self left → Walks text r.walk left
     goes_on_lem s at left w = told.on s left (on left w) at
+
+pub some_found : (found : Option Found) → is_some found ≡ true → is_none found ≡ false
+some_found None h = sym h
+some_found (Some f) h = refl
 
 -- the last line
 pub last_first : (text : List ℕ) (self walk : Walk) → ((left : List Found) → Walks text self left → Walks text walk left) → length text ≤ walk.at → (r : Faulted) → Ended text walk r
     → (left : List Found) → Walks text self left → r.found ≡ first_of left
-last_first text self walk from late r told left w = go (is_sound r.found.wrong) refl
+last_first text self walk from late r told left w = go (is_none r.found) refl
   where
-    go : (t : Bool) → is_sound r.found.wrong ≡ t → r.found ≡ first_of left
+    go : (t : Bool) → is_none r.found ≡ t → r.found ≡ first_of left
     go true s = told.none s ∙ ap (λ (x : List Found). first_of x) (sym (told.done s left (from left w) late))
     go false s = (told.bad s left (from left w)).0
 
 pub last_rest : (text : List ℕ) (self walk : Walk) → ((left : List Found) → Walks text self left → Walks text walk left) → (r : Faulted) → Ended text walk r
-    → (left : List Found) → Walks text self left → is_sound r.found.wrong ≡ false → Walks text r.walk (drop 1 left)
+    → (left : List Found) → Walks text self left → is_none r.found ≡ false → Walks text r.walk (drop 1 left)
 last_rest text self walk from r told left w s = (told.bad s left (from left w)).1
 
 -- A walk that has the same faults still to tell tells the same one next.

@@ -1,6 +1,6 @@
 -- WHAT IS WRONG WITH A REGISTER, OR A SERIES: every line that counts is judged by itself; of a register its number against that of the line before, where that has one.
 -- Assumes nothing.
-use Rattle.std.specs.Prelude.{ℕ, suc, Bool, true, false, cond, ◌&&◌, List, [], ◌∷◌, length, ◌==◌, nat_le, nat_lt, slice_index}
+use Rattle.std.specs.Prelude.{ℕ, suc, Bool, true, false, cond, ◌&&◌, List, [], ◌∷◌, length, ◌==◌, nat_le, nat_lt, slice_index, Option, Some, None}
 use Rattle.row.specs.Numbers.{lines_of, ceiling}
 use Rattle.grid.specs.Grid.{has_digit, commas, unmarked}
 use Rattle.grid.specs.Told.{none_told, rows_by}
@@ -14,40 +14,37 @@ use Rattle.tables.specs.Series.{series_columns}
 use Rattle.faults.specs.declared.Table.{Table}
 use Rattle.faults.specs.declared.Table.TheVariants.{Register, Series}
 use Rattle.faults.specs.declared.Wrong.{Wrong}
-use Rattle.faults.specs.declared.Wrong.TheVariants.{Sound, Blank, Columns, NoNumber, Outside, NotAbove}
+use Rattle.faults.specs.declared.Wrong.TheVariants.{Blank, Columns, NoNumber, Outside, NotAbove}
 use Rattle.faults.specs.declared.Found.{Found}
 
 -- A column, counted from 1
 
 -- what its cell says is a number, and within limits
-unfoldable pub column_fault : ℕ → ℕ → ℕ → ℕ → Wrong
-column_fault column least most n = cond (nat_lt ceiling n) (NoNumber column least most) (cond (nat_le least n && nat_le n most) Sound (Outside column n least most))
+unfoldable pub column_fault : ℕ → ℕ → ℕ → ℕ → Option Wrong
+column_fault column least most n = cond (nat_lt ceiling n) (Some (NoNumber column least most)) (cond (nat_le least n && nat_le n most) None (Some (Outside column n least most)))
 
 -- what the limit's cell says is none, or a number within limits
-unfoldable pub limit_fault : ℕ → Wrong
-limit_fault n = cond (n == none_told) Sound (column_fault 7 0 most_limit n)
+unfoldable pub limit_fault : ℕ → Option Wrong
+limit_fault n = cond (n == none_told) None (column_fault 7 0 most_limit n)
 
 -- nothing is wrong
-unfoldable pub is_sound : Wrong → Bool
-is_sound Sound = true
-is_sound Blank = false
-is_sound (Columns n wanted) = false
-is_sound (NoNumber column least most) = false
-is_sound (Outside column n least most) = false
-is_sound (NotAbove n before) = false
+abbrev pub is_sound : Option Wrong → Bool
+is_sound None = true
+is_sound (Some wrong) = false
 
 -- a first fault, and only where there is none, a second one
-abbrev pub or_else : Wrong → Wrong → Wrong
-or_else first second = cond (is_sound first) second first
+abbrev pub or_else : Option Wrong → Option Wrong → Option Wrong
+or_else None second = second
+or_else (Some first) second = Some first
 
 -- the number of a line is above that of the line before
-unfoldable pub rising_fault : ℕ → ℕ → Wrong
-rising_fault before n = cond (nat_lt before n) Sound (NotAbove n before)
+unfoldable pub rising_fault : ℕ → ℕ → Option Wrong
+rising_fault before n = cond (nat_lt before n) None (Some (NotAbove n before))
 
 -- A line, by what its cells say
 
 -- the first of a register line's cells that is wrong: number, kind, rated kW, status, energy, assessment, limit
-unfoldable pub entry_fault : List ℕ → Wrong
+unfoldable pub entry_fault : List ℕ → Option Wrong
 entry_fault row =
     or_else (column_fault 1 1 most_member (slice_index row 0)) (or_else (column_fault 2 coal new_storage (slice_index row 1))
     (or_else (column_fault 3 1 most_rated (slice_index row 2)) (or_else (column_fault 4 0 most_status (slice_index row 3))
@@ -58,15 +55,15 @@ unfoldable pub columns_of : Table → ℕ
 columns_of Register = register_columns
 columns_of Series = series_columns
 
-unfoldable pub cells_fault : Table → ℕ → List ℕ → Wrong
+unfoldable pub cells_fault : Table → ℕ → List ℕ → Option Wrong
 cells_fault Register before row = or_else (entry_fault row) (rising_fault before (slice_index row 0))
 cells_fault Series before row = column_fault 1 0 most_output (slice_index row 0)
 
 -- what is wrong with a line behind the number before: it is blank, has more cells or fewer, or the first of them that is wrong
-unfoldable pub line_fault : Table → ℕ → List ℕ → Wrong
+unfoldable pub line_fault : Table → ℕ → List ℕ → Option Wrong
 line_fault table before row =
-    cond (length row == 0) Blank
-    (cond (length row == columns_of table) (cells_fault table before row) (Columns (length row) (columns_of table)))
+    cond (length row == 0) (Some Blank)
+    (cond (length row == columns_of table) (cells_fault table before row) (Some (Columns (length row) (columns_of table))))
 
 -- the number that the line behind is held against: its own where that is within its limits, otherwise none
 unfoldable pub number_of : List ℕ → ℕ
@@ -75,8 +72,9 @@ number_of row = cond (nat_le 1 (slice_index row 0) && nat_le (slice_index row 0)
 -- A table
 
 -- a fault at its line, with those behind it
-abbrev pub adding : ℕ → Wrong → List Found → List Found
-adding line wrong more = cond (is_sound wrong) more (record { line = line; wrong = wrong } ∷ more)
+abbrev pub adding : ℕ → Option Wrong → List Found → List Found
+adding line None more = more
+adding line (Some wrong) more = record { line = line; wrong = wrong } ∷ more
 
 -- the faults of rows, the first of them at a line and behind a number
 unfoldable pub faults_from : Table → ℕ → ℕ → List (List ℕ) → List Found

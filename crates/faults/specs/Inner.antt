@@ -1,19 +1,23 @@
 -- What a walk over a register has still to tell. It serves the contracts of the walk alone; what is wrong with a register is in Faults. Assumes nothing.
-use Rattle.std.specs.Prelude.{◌≡◌, ℕ, ◌+◌, ◌%◌, ◌^◌, ◌<◌, ◌≤◌, true, false, List, [], ◌∷◌, length, take, drop, slice_index}
-use Rattle.row.specs.Numbers.{line_feed}
+use Rattle.std.specs.Prelude.{◌≡◌, ℕ, ◌+◌, ◌%◌, ◌^◌, ◌<◌, ◌≤◌, true, false, List, [], ◌∷◌, length, take, drop, slice_index, cond, ◌==◌, Option, Some, None, is_none}
+use Rattle.row.specs.Numbers.{line_feed, is_digit}
 use Rattle.grid.specs.declared.Grid.{Grid}
 use Rattle.grid.specs.Meaning.{head_left, blank_left, row_left, rows_left, Next}
-use Rattle.faults.specs.declared.Wrong.TheVariants.{Sound}
 use Rattle.faults.specs.declared.Found.{Found}
 use Rattle.faults.specs.declared.Cells.{Cells}
 use Rattle.faults.specs.declared.Walk.{Walk}
 use Rattle.faults.specs.declared.Faulted.{Faulted}
-use Rattle.faults.specs.Faults.{is_sound, faults_from}
+use Rattle.faults.specs.Faults.{faults_from}
 
 -- the first of some faults, or that there is none
-abbrev pub first_of : List Found → Found
-first_of [] = record { line = 0; wrong = Sound }
-first_of (found ∷ more) = found
+abbrev pub first_of : List Found → Option Found
+first_of [] = None
+first_of (found ∷ more) = Some found
+
+-- the line of a text's first row, where these bytes tell it: at a digit its first, at the end of a line without one its second
+unfoldable pub first_row : List ℕ → Option ℕ
+first_row [] = None
+first_row (b ∷ bs) = cond (b == line_feed) (Some 2) (cond (is_digit b) (Some 1) (first_row bs))
 
 -- what its cells say, as they are
 abbrev pub as_told : List ℕ → List ℕ
@@ -45,10 +49,10 @@ pub record ToEnd (text : List ℕ) (walk r : Walk) : Type 0 where
 
 -- the line that ends there is told, or passed over; at the text's end there is no other
 pub record Ended (text : List ℕ) (walk : Walk) (r : Faulted) : Type 0 where
-  pub none : is_sound r.found.wrong ≡ true → r.found ≡ first_of []
-  pub on : is_sound r.found.wrong ≡ true → (left : List Found) → Walks text walk left → walk.at ≤ length text → Walks text r.walk left
-  pub done : is_sound r.found.wrong ≡ true → (left : List Found) → Walks text walk left → length text ≤ walk.at → left ≡ []
-  pub bad : is_sound r.found.wrong ≡ false → (left : List Found) → Walks text walk left → (r.found ≡ first_of left) × Walks text r.walk (drop 1 left)
+  pub none : is_none r.found ≡ true → r.found ≡ first_of []
+  pub on : is_none r.found ≡ true → (left : List Found) → Walks text walk left → walk.at ≤ length text → Walks text r.walk left
+  pub done : is_none r.found ≡ true → (left : List Found) → Walks text walk left → length text ≤ walk.at → left ≡ []
+  pub bad : is_none r.found ≡ false → (left : List Found) → Walks text walk left → (r.found ≡ first_of left) × Walks text r.walk (drop 1 left)
 
 -- what the cells of a line say that ends here: so many, in the first places of a list
 pub record CellsOf (grid : Grid) (ended : List ℕ) (r : Cells) : Type 0 where

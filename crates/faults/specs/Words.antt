@@ -8,7 +8,7 @@ use Rattle.names.specs.Names.{month_word, most_word}
 use Rattle.faults.specs.declared.Table.{Table}
 use Rattle.faults.specs.declared.Table.TheVariants.{Register, Series}
 use Rattle.faults.specs.declared.Wrong.{Wrong}
-use Rattle.faults.specs.declared.Wrong.TheVariants.{Sound, Blank, Columns, NoNumber, Outside, NotAbove}
+use Rattle.faults.specs.declared.Wrong.TheVariants.{Blank, Columns, NoNumber, Outside, NotAbove}
 use Rattle.faults.specs.declared.Found.{Found}
 
 -- A line
@@ -68,7 +68,6 @@ not_above_text n before = field "member " n ++ field " does not come after membe
 
 -- what is wrong, and what is wanted
 abbrev pub wrong_text : Table → Wrong → List ℕ
-wrong_text table Sound = []
 wrong_text table Blank = word "blank, and a line stands behind it"
 wrong_text table (Columns n wanted) = columns_text n wanted
 wrong_text table (NoNumber column least most) = no_number_text table column least most

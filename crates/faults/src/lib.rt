@@ -3,10 +3,10 @@
 
 pub mod words;
 
-ghost use Rattle.std.specs.Prelude.{◌≡◌, ℕ, ◌+◌, ◌%◌, ◌^◌, ◌<◌, ◌≤◌, true, false, List, [], length, take, drop, slice_index};
+ghost use Rattle.std.specs.Prelude.{◌≡◌, ℕ, ◌+◌, ◌%◌, ◌^◌, ◌<◌, ◌≤◌, true, false, List, [], length, take, drop, slice_index, is_none};
 ghost use Rattle.faults.specs.declared.Found.{Found};
-ghost use Rattle.faults.specs.Faults.{is_sound, column_fault, limit_fault, or_else, rising_fault, entry_fault, columns_of, cells_fault, line_fault, number_of, first_line, table_faults};
-ghost use Rattle.faults.specs.Inner.{first_of, Walks, AtEnd, ToEnd, Ended, CellsOf, Passes, IsLine, IsHeld};
+ghost use Rattle.faults.specs.Faults.{is_sound, column_fault, limit_fault, rising_fault, entry_fault, columns_of, cells_fault, line_fault, number_of, first_line, table_faults};
+ghost use Rattle.faults.specs.Inner.{first_row, first_of, Walks, AtEnd, ToEnd, Ended, CellsOf, Passes, IsLine, IsHeld};
 
 use ceiling::MOST_LIMIT;
 use grid::Grid;
@@ -20,11 +20,10 @@ pub enum Table {
     Series,
 }
 
-// What is wrong with a line: nothing; it is blank, with another behind it; so many cells, and so many that it should have; a column, counted from 1, that has no number,
+// What is wrong with a line: it is blank, with another behind it; so many cells, and so many that it should have; a column, counted from 1, that has no number,
 // or one outside its limits, with these; a member's number that is not above the one before it.
 #[derive(Clone, Copy)]
 pub enum Wrong {
-    Sound,
     Blank,
     Columns(usize, usize),
     NoNumber(usize, u64, u64),
@@ -55,80 +54,68 @@ pub struct Walk {
 // A fault, or none, and where the walk stands then.
 #[derive(Clone, Copy)]
 pub struct Faulted {
-    pub found: Found,
+    pub found: Option<Found>,
     pub walk: Walk,
 }
 
 const MOST_MEMBER: u64 = 64;
 
 // Whether nothing is wrong.
-pub fn is_sound(wrong: Wrong) -> bool
+pub fn is_sound(wrong: Option<Wrong>) -> bool
     ensures { result ≡ is_sound wrong }
 {
-    match wrong {
-        Wrong::Sound => true,
-        Wrong::Blank => false,
-        Wrong::Columns(_, _) => false,
-        Wrong::NoNumber(_, _, _) => false,
-        Wrong::Outside(_, _, _, _) => false,
-        Wrong::NotAbove(_, _) => false,
-    }
+    wrong.is_none()
 }
 
-fn column_fault(column: usize, least: u64, most: u64, n: u64) -> Wrong
+#[tactic(auto, unfolding(crate::specs::Faults::column_fault))]
+fn column_fault(column: usize, least: u64, most: u64, n: u64) -> Option<Wrong>
     ensures { result ≡ column_fault column least most n }
 {
     if CEILING < n {
-        return Wrong::NoNumber(column, least, most);
+        return Some(Wrong::NoNumber(column, least, most));
     }
     if (least <= n) & (n <= most) {
-        return Wrong::Sound;
+        return None;
     }
-    Wrong::Outside(column, n, least, most)
+    Some(Wrong::Outside(column, n, least, most))
 }
 
 // The limit's cell.
-fn limit_fault(n: u64) -> Wrong
+#[tactic(auto, unfolding(crate::specs::Faults::limit_fault))]
+fn limit_fault(n: u64) -> Option<Wrong>
     ensures { result ≡ limit_fault n }
 {
     if n == NONE_TOLD {
-        return Wrong::Sound;
+        return None;
     }
     column_fault(7, 0, MOST_LIMIT, n)
 }
 
-fn or_else(first: Wrong, second: Wrong) -> Wrong
-    ensures { result ≡ or_else first second }
-{
-    if is_sound(first) {
-        return second;
-    }
-    first
-}
-
-fn rising_fault(before: u64, n: u64) -> Wrong
+#[tactic(auto, unfolding(crate::specs::Faults::rising_fault))]
+fn rising_fault(before: u64, n: u64) -> Option<Wrong>
     ensures { result ≡ rising_fault before n }
 {
     if before < n {
-        return Wrong::Sound;
+        return None;
     }
-    Wrong::NotAbove(n, before)
+    Some(Wrong::NotAbove(n, before))
 }
 
 // The first of a register line's cells that is wrong.
-fn entry_fault(cells: [u64; MOST_COLUMNS]) -> Wrong
+#[tactic(auto, unfolding(crate::specs::Faults::entry_fault))]
+fn entry_fault(cells: [u64; MOST_COLUMNS]) -> Option<Wrong>
     ensures { result ≡ entry_fault cells }
 {
-    let l = limit_fault(cells[6]);
-    let a = or_else(column_fault(6, 0, 10_000_000, cells[5]), l);
-    let e = or_else(column_fault(5, 0, 5_000_000, cells[4]), a);
-    let s = or_else(column_fault(4, 0, 2, cells[3]), e);
-    let p = or_else(column_fault(3, 1, 4_000_000, cells[2]), s);
-    let k = or_else(column_fault(2, 1, 8, cells[1]), p);
-    or_else(column_fault(1, 1, MOST_MEMBER, cells[0]), k)
+    let a = column_fault(6, 0, 10_000_000, cells[5]).or(limit_fault(cells[6]));
+    let e = column_fault(5, 0, 5_000_000, cells[4]).or(a);
+    let s = column_fault(4, 0, 2, cells[3]).or(e);
+    let p = column_fault(3, 1, 4_000_000, cells[2]).or(s);
+    let k = column_fault(2, 1, 8, cells[1]).or(p);
+    column_fault(1, 1, MOST_MEMBER, cells[0]).or(k)
 }
 
 // How many cells a line has.
+#[tactic(auto, unfolding(crate::specs::Faults::columns_of))]
 pub fn columns_of(table: Table) -> usize
     ensures { result ≡ columns_of table }
 {
@@ -139,28 +126,29 @@ pub fn columns_of(table: Table) -> usize
 }
 
 // The first of them that is wrong.
-fn cells_fault(table: Table, before: u64, cells: [u64; MOST_COLUMNS]) -> Wrong
+#[tactic(auto, unfolding(crate::specs::Faults::cells_fault))]
+fn cells_fault(table: Table, before: u64, cells: [u64; MOST_COLUMNS]) -> Option<Wrong>
     ensures { result ≡ cells_fault table before cells }
 {
     match table {
-        Table::Register => or_else(entry_fault(cells), rising_fault(before, cells[0])),
+        Table::Register => entry_fault(cells).or(rising_fault(before, cells[0])),
         Table::Series => column_fault(1, 0, 5_000_000, cells[0]),
     }
 }
 
 // What is wrong with a line of so many cells.
-fn line_fault(table: Table, before: u64, cells: [u64; MOST_COLUMNS], count: usize) -> Wrong
+fn line_fault(table: Table, before: u64, cells: [u64; MOST_COLUMNS], count: usize) -> Option<Wrong>
     requires { count ≤ 8 }
     ensures { result ≡ line_fault table before (take count cells) }
 {
     if count == 0 {
-        return Wrong::Blank;
+        return Some(Wrong::Blank);
     }
     let wanted = columns_of(table);
     if count == wanted {
         return cells_fault(table, before, cells);
     }
-    Wrong::Columns(count, wanted)
+    Some(Wrong::Columns(count, wanted))
 }
 
 // The number that the line behind a line of one cell or more is held against.
@@ -173,30 +161,26 @@ fn number_of(n: u64) -> u64
     0
 }
 
-fn none() -> Found
-    ensures { result ≡ first_of [] }
+// The line of a text's first row, where these bytes tell it: at a digit its first, at the end of a line without one its second.
+pub fn first_row(bytes: &[u8]) -> Option<usize>
+    ensures { result ≡ first_row bytes.now }
 {
-    Found {
-        line: 0,
-        wrong: Wrong::Sound,
+    for b in bytes {
+        if *b == b'\n' {
+            return Some(2);
+        }
+        if is_digit(*b) {
+            return Some(1);
+        }
     }
+    None
 }
 
 // Where a text's rows begin: at its first line, or behind a heading at the second.
 fn first_line(text: &[u8]) -> usize
     ensures { result ≡ first_line text.now }
 {
-    let mut i: usize = 0;
-    while i < text.len() {
-        if text[i] == b'\n' {
-            return 2;
-        }
-        if is_digit(text[i]) {
-            return 1;
-        }
-        i += 1;
-    }
-    2
+    first_row(text).unwrap_or(2)
 }
 
 // What the cells of a line say: the first `count` of the list.
@@ -218,8 +202,7 @@ pub fn cells_of(grid: Grid, ended: [u64; MOST_COLUMNS]) -> Cells
             count: MOST_COLUMNS,
         };
     }
-    let cell = grid.cell;
-    cells[at] = cell.told();
+    cells[at] = grid.cell.told();
     Cells {
         cells,
         count: at + 1,
@@ -231,11 +214,10 @@ impl Walk {
     pub fn start(table: Table, text: &[u8]) -> Walk
         ensures { Walks text.now result (table_faults table text.now) }
     {
-        let grid = Grid::start();
         Walk {
             table,
             at: 0,
-            grid,
+            grid: Grid::start(),
             ended: [0; MOST_COLUMNS],
             line: first_line(text),
             before: 0,
@@ -244,129 +226,83 @@ impl Walk {
     }
 
     // The walk at the end of its line.
-    fn to_end(self, text: &[u8]) -> Walk
+    fn to_end(mut self, text: &[u8]) -> Walk
         ensures { ToEnd text.now self result }
     {
-        let table = self.table;
-        let mut grid = self.grid;
-        let mut ended = self.ended;
-        let mut at = self.at;
-        while at < text.len() {
-            if text[at] == b'\n' {
-                return Walk {
-                    table,
-                    at,
-                    grid,
-                    ended,
-                    line: self.line,
-                    before: self.before,
-                    blanks: self.blanks,
-                };
-            }
-            let step = grid.step(text, at, &mut ended);
-            grid = step.grid;
-            at = step.end;
+        // Stays a while: a step passes over a whole run of digits, so the place does not move by one.
+        while self.at < text.len() && text[self.at] != b'\n' {
+            let step = self.grid.step(text, self.at, &mut self.ended);
+            self.grid = step.grid;
+            self.at = step.end;
         }
-        Walk {
-            table,
-            at,
-            grid,
-            ended,
-            line: self.line,
-            before: self.before,
-            blanks: self.blanks,
-        }
+        self
     }
 
     // The walk behind the end of its line, which is not told.
-    fn passing(self, line: usize, before: u64, blanks: usize) -> Faulted
+    fn passing(mut self, line: usize, before: u64, blanks: usize) -> Faulted
         ensures { Passes self line before blanks result }
     {
-        let found = none();
-        let table = self.table;
-        let ended = self.ended;
-        let grid = self.grid;
-        let walk = Walk {
-            table,
-            at: std::num::wrapping_add_usize(self.at, 1),
-            grid: grid.next(),
-            ended,
-            line,
-            before,
-            blanks,
-        };
-        Faulted { found, walk }
+        self.at = self.at.wrapping_add(1);
+        self.grid = self.grid.next();
+        self.line = line;
+        self.before = before;
+        self.blanks = blanks;
+        Faulted {
+            found: None,
+            walk: self,
+        }
     }
 
     // A line that is no heading and not blank, with none held back before it.
     fn line(self) -> Faulted
         ensures by_index { (text : List ℕ) → AtEnd text self → IsLine self → Ended text self result }
-        ensures at_value { is_sound result.found.wrong ≡ true → result.walk.at ≡ (self.at + 1) % 2 ^ 64 }
+        ensures at_value { is_none result.found ≡ true → result.walk.at ≡ (self.at + 1) % 2 ^ 64 }
     {
-        let table = self.table;
-        let grid = self.grid;
         let ended = self.ended;
-        let row = cells_of(grid, ended);
+        let row = cells_of(self.grid, ended);
         let cells = row.cells;
-        let wrong = line_fault(table, self.before, cells, row.count);
-        let line = self.line;
-        let next = self.passing(
-            std::num::wrapping_add_usize(line, 1),
-            number_of(cells[0]),
-            0,
-        );
-        if is_sound(wrong) {
-            return next;
-        }
-        let walk = next.walk;
-        Faulted {
-            found: Found { line, wrong },
-            walk,
+        let next = self.passing(self.line.wrapping_add(1), number_of(cells[0]), 0);
+        match line_fault(self.table, self.before, cells, row.count) {
+            None => next,
+            Some(wrong) => Faulted {
+                found: Some(Found {
+                    line: self.line,
+                    wrong,
+                }),
+                walk: next.walk,
+            },
         }
     }
 
     // A blank line that was held back, where another line stands behind it.
-    fn blank(self) -> Faulted
+    fn blank(mut self) -> Faulted
         requires { 1 ≤ self.blanks }
         ensures by_index { (text : List ℕ) → AtEnd text self → IsHeld self → Ended text self result }
-        ensures wrong_value { is_sound result.found.wrong ≡ false }
+        ensures wrong_value { is_none result.found ≡ false }
     {
-        let table = self.table;
-        let grid = self.grid;
-        let ended = self.ended;
-        let walk = Walk {
-            table,
-            at: self.at,
-            grid,
-            ended,
-            line: std::num::wrapping_add_usize(self.line, 1),
-            before: 0,
-            blanks: self.blanks - 1,
-        };
+        let line = self.line;
+        self.line = line.wrapping_add(1);
+        self.before = 0;
+        self.blanks -= 1;
         Faulted {
-            found: Found {
-                line: self.line,
+            found: Some(Found {
+                line,
                 wrong: Wrong::Blank,
-            },
-            walk,
+            }),
+            walk: self,
         }
     }
 
     // The line that ends here, or the text's end: its fault, or none.
     fn ended(self) -> Faulted
         ensures by_index { (text : List ℕ) → AtEnd text self → Ended text self result }
-        ensures at_value { is_sound result.found.wrong ≡ true → result.walk.at ≡ (self.at + 1) % 2 ^ 64 }
+        ensures at_value { is_none result.found ≡ true → result.walk.at ≡ (self.at + 1) % 2 ^ 64 }
     {
-        let grid = self.grid;
-        if grid.is_heading() {
+        if self.grid.is_heading() {
             return self.passing(self.line, self.before, self.blanks);
         }
-        if grid.is_blank() {
-            return self.passing(
-                self.line,
-                self.before,
-                std::num::wrapping_add_usize(self.blanks, 1),
-            );
+        if self.grid.is_blank() {
+            return self.passing(self.line, self.before, self.blanks.wrapping_add(1));
         }
         if 0 < self.blanks {
             return self.blank();
@@ -377,15 +313,13 @@ impl Walk {
     // The next fault of a text, or that there is none.
     pub fn next_fault(self, text: &[u8]) -> Faulted
         ensures found_value { (left : List Found) → Walks text.now self left → result.found ≡ first_of left }
-        ensures walks { (left : List Found) → Walks text.now self left → is_sound result.found.wrong ≡ false → Walks text.now result.walk (drop 1 left) }
+        ensures walks { (left : List Found) → Walks text.now self left → is_none result.found ≡ false → Walks text.now result.walk (drop 1 left) }
     {
         let mut walk = self;
+        // Stays a while: a turn passes over a whole line, so the place does not move by one.
         while walk.at < text.len() {
-            let end = walk.to_end(text);
-            let told = end.ended();
-            let found = told.found;
-            let wrong = found.wrong;
-            if !is_sound(wrong) {
+            let told = walk.to_end(text).ended();
+            if told.found.is_some() {
                 return told;
             }
             walk = told.walk;

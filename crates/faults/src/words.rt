@@ -180,7 +180,6 @@ fn put_wrong(out: &mut [u8], at: usize, table: Table, wrong: Wrong) -> usize
     ensures { Puts most_wrong out.old at (wrong_text table wrong) out.new result }
 {
     match wrong {
-        Wrong::Sound => put_word(out, at, b""),
         Wrong::Blank => put_word(out, at, b"blank, and a line stands behind it"),
         Wrong::Columns(n, wanted) => put_columns(out, at, n, wanted),
         Wrong::NoNumber(column, least, most) => {
@@ -207,10 +206,9 @@ fn put_fault(out: &mut [u8], table: Table, name: &[u8], found: Found) -> usize
     requires { most_fault name.now ≤ length out.old }
     ensures { Puts (most_fault name.now) out.old 0 (fault_text table name.now found) out.new result }
 {
-    let wrong = found.wrong;
     let a = put_word(out, 0, name);
     let b = put_line(out, a, found.line);
-    let c = put_wrong(out, b, table, wrong);
+    let c = put_wrong(out, b, table, found.wrong);
     put_word(out, c, b"\n")
 }
 
@@ -257,7 +255,7 @@ fn put_whose(out: &mut [u8], at: usize, year: u16, month: u8) -> usize
     ensures { Puts most_whose out.old at (whose_text year month) out.new result }
 {
     let a = put_month(out, at, month);
-    put_field(out, a, b" ", year as u64)
+    put_field(out, a, b" ", u64::from(year))
 }
 
 // How many lines it has.

@@ -7,24 +7,25 @@ use borrow.Author.Tests.{le-leb, lt-leb}
 use Rattle.call.specs.declared.Call.{Call}
 use Rattle.call.specs.declared.service.Limits.{Limits}
 use Rattle.call.specs.Limits.{limits_of}
+use Rattle.std.specs.Prelude.{Some, None}
 use Rattle.field.specs.declared.Field.{Field}
-use Rattle.field.specs.declared.Field.TheVariants.{NoField, Participant, State, Service, Revision, Start, Length, A, B, C, Reserved}
+use Rattle.field.specs.declared.Field.TheVariants.{Participant, State, Service, Revision, Start, Length, A, B, C, Reserved}
 use Rattle.field.specs.Field.{start_fits, length_fits, a_fits, field_fits, terms, fields, first_bad}
 
 module _ (fits : Field → Bool) where
-  pub at_participant : fits Participant ≡ false → Participant ≡ first_bad fits fields
+  pub at_participant : fits Participant ≡ false → Some Participant ≡ first_bad fits fields
   unfolding first_bad
   at_participant h = rw h
 
-  pub at_state : fits Participant ≡ true → fits State ≡ false → State ≡ first_bad fits fields
+  pub at_state : fits Participant ≡ true → fits State ≡ false → Some State ≡ first_bad fits fields
   unfolding first_bad
   at_state p h = rw (p, h)
 
-  pub at_service : fits Participant ≡ true → fits State ≡ true → fits Service ≡ false → Service ≡ first_bad fits fields
+  pub at_service : fits Participant ≡ true → fits State ≡ true → fits Service ≡ false → Some Service ≡ first_bad fits fields
   unfolding first_bad
   at_service p q h = rw (p, q, h)
 
-  pub at_revision : fits Participant ≡ true → fits State ≡ true → fits Service ≡ true → fits Revision ≡ false → Revision ≡ first_bad fits fields
+  pub at_revision : fits Participant ≡ true → fits State ≡ true → fits Service ≡ true → fits Revision ≡ false → Some Revision ≡ first_bad fits fields
   unfolding first_bad
   at_revision p q r h = rw (p, q, r, h)
 
@@ -32,31 +33,31 @@ module _ (fits : Field → Bool) where
   unfolding first_bad
   at_terms p q r s = rw (p, q, r, s)
 
-  pub at_start : fits Start ≡ false → Start ≡ first_bad fits terms
+  pub at_start : fits Start ≡ false → Some Start ≡ first_bad fits terms
   unfolding first_bad
   at_start h = rw h
 
-  pub at_length : fits Start ≡ true → fits Length ≡ false → Length ≡ first_bad fits terms
+  pub at_length : fits Start ≡ true → fits Length ≡ false → Some Length ≡ first_bad fits terms
   unfolding first_bad
   at_length p h = rw (p, h)
 
-  pub at_a : fits Start ≡ true → fits Length ≡ true → fits A ≡ false → A ≡ first_bad fits terms
+  pub at_a : fits Start ≡ true → fits Length ≡ true → fits A ≡ false → Some A ≡ first_bad fits terms
   unfolding first_bad
   at_a p q h = rw (p, q, h)
 
-  pub at_b : fits Start ≡ true → fits Length ≡ true → fits A ≡ true → fits B ≡ false → B ≡ first_bad fits terms
+  pub at_b : fits Start ≡ true → fits Length ≡ true → fits A ≡ true → fits B ≡ false → Some B ≡ first_bad fits terms
   unfolding first_bad
   at_b p q r h = rw (p, q, r, h)
 
-  pub at_c : fits Start ≡ true → fits Length ≡ true → fits A ≡ true → fits B ≡ true → fits C ≡ false → C ≡ first_bad fits terms
+  pub at_c : fits Start ≡ true → fits Length ≡ true → fits A ≡ true → fits B ≡ true → fits C ≡ false → Some C ≡ first_bad fits terms
   unfolding first_bad
   at_c p q r s h = rw (p, q, r, s, h)
 
-  pub at_reserved : fits Start ≡ true → fits Length ≡ true → fits A ≡ true → fits B ≡ true → fits C ≡ true → fits Reserved ≡ false → Reserved ≡ first_bad fits terms
+  pub at_reserved : fits Start ≡ true → fits Length ≡ true → fits A ≡ true → fits B ≡ true → fits C ≡ true → fits Reserved ≡ false → Some Reserved ≡ first_bad fits terms
   unfolding first_bad
   at_reserved p q r s t h = rw (p, q, r, s, t, h)
 
-  pub at_none : fits Start ≡ true → fits Length ≡ true → fits A ≡ true → fits B ≡ true → fits C ≡ true → fits Reserved ≡ true → NoField ≡ first_bad fits terms
+  pub at_none : fits Start ≡ true → fits Length ≡ true → fits A ≡ true → fits B ≡ true → fits C ≡ true → fits Reserved ≡ true → None ≡ first_bad fits terms
   unfolding first_bad
   at_none p q r s t h = rw (p, q, r, s, t, h)
 

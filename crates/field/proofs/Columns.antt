@@ -19,7 +19,7 @@ use Rattle.call.specs.Revising.{live}
 use Rattle.call.specs.Services.{deep_peak, reserve, start_stop, standby, black_start, agc_availability, agc_contribution, frequency_event, avc, stability_trip}
 use Rattle.call.specs.Services.{most_participant, most_rate, most_called, most_moved, least_moved, any_minutes}
 use Rattle.field.specs.declared.Field.{Field}
-use Rattle.field.specs.declared.Field.TheVariants.{NoField, Participant, State, Service, Revision, Start, Length, A, B, C, Reserved}
+use Rattle.field.specs.declared.Field.TheVariants.{Participant, State, Service, Revision, Start, Length, A, B, C, Reserved}
 use Rattle.field.specs.Field.{service_fits, start_fits, length_fits, a_fits, field_fits}
 use Rattle.field.specs.Columns.{one_of, ServiceColumn, StartColumn, LengthColumn, AColumn, BColumn, CColumn, FieldHolds}
 
@@ -422,7 +422,6 @@ service_exact c = (forth (ℕ_discrete c.state live), back)
 -- The test of a field holds exactly where the paper's condition does.
 pub holds_exact : (m : ℕ) (c : Call) (r : ℕ) (f : Field) → field_fits m c r f ≡ true ↔ FieldHolds m c r f
 unfolding field_fits FieldHolds
-holds_exact m c r NoField = (λ h. true≢false (sym h), λ h. absurd h)
 holds_exact m c r Participant = (
   λ h. let p = each (leb 1 c.participant) (leb c.participant most_participant ∷ []) h in (leb-true _ _ p.0, leb-true _ _ p.1.0),
   λ h. all (leb 1 c.participant) (leb c.participant most_participant ∷ []) (le-leb _ _ h.0, (le-leb _ _ h.1, tt)),

@@ -2,7 +2,7 @@
 use mathlib.Core.Path.{◌≡◌, refl, sym, ◌∙◌, ap, subst}
 use mathlib.Core.Bool.{Bool, true, false, cond, not, ◌&&◌, ◌||◌, true≢false}
 use mathlib.Core.List.{List, [], ◌∷◌}
-use mathlib.Core.Logic.{◌↔◌, ◌≢◌}
+use mathlib.Core.Logic.{◌↔◌}
 use Prim.Native.Nat.{ℕ, ◌+◌, ◌%◌, ◌≤◌, ◌<◌}
 use native.Mathlib.Omega.{arith}
 use native.Mathlib.Decide.{dec_lt, ℕ_discrete}
@@ -17,46 +17,11 @@ use Rattle.call.specs.Limits.{limits_of, limits_allow, call_is_sound}
 use Rattle.call.specs.Revising.{live, withdrawn}
 use Rattle.call.specs.Services.{most_participant, stability_trip}
 use Rattle.call.proofs.Limits.{no_service}
+use Rattle.std.specs.Prelude.{Option, Some, None}
 use Rattle.field.specs.declared.Field.{Field}
-use Rattle.field.specs.declared.Field.TheVariants.{NoField}
 use Rattle.field.specs.Field.{service_fits, start_fits, length_fits, a_fits, field_fits, fields, first_bad, bad_field}
 use Rattle.field.specs.Columns.{FieldHolds, FirstFails, here, later, none}
 use Rattle.field.proofs.Columns.{holds_exact}
-
--- a list of fields has not `NoField` in it
-abbrev Fields : List Field → Type 0
-Fields [] = Unit {0}
-Fields (f ∷ fs) = (f ≢ NoField) × Fields fs
-
-all_fields : Fields fields
-all_fields = (
-  λ e. let z : ◌≡◌ {A = ℕ} 0 1 = cc in omega arith,
-  (
-    λ e. let z : ◌≡◌ {A = ℕ} 0 1 = cc in omega arith,
-    (
-      λ e. let z : ◌≡◌ {A = ℕ} 0 1 = cc in omega arith,
-      (
-        λ e. let z : ◌≡◌ {A = ℕ} 0 1 = cc in omega arith,
-        (
-          λ e. let z : ◌≡◌ {A = ℕ} 0 1 = cc in omega arith,
-          (
-            λ e. let z : ◌≡◌ {A = ℕ} 0 1 = cc in omega arith,
-            (
-              λ e. let z : ◌≡◌ {A = ℕ} 0 1 = cc in omega arith,
-              (
-                λ e. let z : ◌≡◌ {A = ℕ} 0 1 = cc in omega arith,
-                (
-                  λ e. let z : ◌≡◌ {A = ℕ} 0 1 = cc in omega arith,
-                  (λ e. let z : ◌≡◌ {A = ℕ} 0 1 = cc in omega arith, tt),
-                ),
-              ),
-            ),
-          ),
-        ),
-      ),
-    ),
-  ),
-)
 
 -- The first that fails
 
@@ -72,40 +37,40 @@ module _ (m : ℕ) (c : Call) (r : ℕ) where
   first [] = none
   first (f ∷ fs) = go (fits f) refl (first fs)
     where
-      go : (t : Bool) → fits f ≡ t → FirstFails Holds fs (first_bad fits fs) → FirstFails Holds (f ∷ fs) (cond t (first_bad fits fs) f)
+      go : (t : Bool) → fits f ≡ t → FirstFails Holds fs (first_bad fits fs) → FirstFails Holds (f ∷ fs) (cond t (first_bad fits fs) (Some f))
       go true e rest = later f ((holds_exact m c r f).0 e) rest
       go false e rest = here f (λ h. true≢false (sym ((holds_exact m c r f).1 h) ∙ e))
 
-  only : {fs : List Field} {f : Field} → FirstFails Holds fs f → first_bad fits fs ≡ f
+  only : {fs : List Field} {f : Option Field} → FirstFails Holds fs f → first_bad fits fs ≡ f
   unfolding first_bad
   only none = refl
   only (later g h rest) = rw ((holds_exact m c r g).1 h) (only rest)
   only (here f {fs} n) = go (fits f) refl
     where
-      go : (t : Bool) → fits f ≡ t → cond t (first_bad fits fs) f ≡ f
+      go : (t : Bool) → fits f ≡ t → cond t (first_bad fits fs) (Some f) ≡ Some f
       go true e = absurd (n ((holds_exact m c r f).0 e))
       go false e = refl
 
   -- A FIELD IS NAMED EXACTLY WHERE ITS CONDITION FAILS AND THOSE OF THE FIELDS BEFORE IT HOLD; none is named where all hold.
-  pub named_exactly : (f : Field) → (bad_field m c r ≡ f) ↔ FirstFails Holds fields f
+  pub named_exactly : (f : Option Field) → (bad_field m c r ≡ f) ↔ FirstFails Holds fields f
   unfolding bad_field
-  named_exactly f = (λ e. subst (λ (g : Field). FirstFails Holds fields g) e (first fields), only)
+  named_exactly f = (λ e. subst (λ (g : Option Field). FirstFails Holds fields g) e (first fields), only)
 
   -- every field of a list fits
   abbrev Fit : List Field → Type 0
   Fit [] = Unit {0}
   Fit (f ∷ fs) = (fits f ≡ true) × Fit fs
 
-  every : (fs : List Field) → Fields fs → first_bad fits fs ≡ NoField → Fit fs
+  every : (fs : List Field) → first_bad fits fs ≡ None → Fit fs
   unfolding first_bad
-  every [] s e = tt
-  every (f ∷ fs) s e = go (fits f) refl e (λ g. every fs s.1 g)
+  every [] e = tt
+  every (f ∷ fs) e = go (fits f) refl e (λ g. every fs g)
     where
-      go : (t : Bool) → fits f ≡ t → cond t (first_bad fits fs) f ≡ NoField → (first_bad fits fs ≡ NoField → Fit fs) → (fits f ≡ true) × Fit fs
+      go : (t : Bool) → fits f ≡ t → cond t (first_bad fits fs) (Some f) ≡ None → (first_bad fits fs ≡ None → Fit fs) → (fits f ≡ true) × Fit fs
       go true d e rest = (d, rest e)
-      go false d e rest = absurd (s.0 e)
+      go false d e rest = absurd cc
 
-  no_bad : (fs : List Field) → Fit fs → first_bad fits fs ≡ NoField
+  no_bad : (fs : List Field) → Fit fs → first_bad fits fs ≡ None
   unfolding first_bad
   no_bad [] h = refl
   no_bad (f ∷ fs) h = rw h.0 (no_bad fs h.1)
@@ -246,6 +211,6 @@ module _ (m : ℕ) (c : Call) (r : ℕ) where
       )
 
   -- Of a record that passes the test of 5 no field is named, and of every other one is.
-  pub none_exactly : (is_sound ≡ true) ↔ (bad_field m c r ≡ NoField)
+  pub none_exactly : (is_sound ≡ true) ↔ (bad_field m c r ≡ None)
   unfolding bad_field
-  none_exactly = (λ h. no_bad m c r fields (fit h), λ e. sound (every m c r fields all_fields e))
+  none_exactly = (λ h. no_bad m c r fields (fit h), λ e. sound (every m c r fields e))

@@ -1,12 +1,12 @@
 -- The conditions of a record's fields as the paper has them: its clauses, and the table of services column by column. Assumes nothing.
-use Rattle.std.specs.Prelude.{◌≡◌, Bool, true, false, ◌||◌, List, [], ◌∷◌, ◌≢◌, ℕ, ◌+◌, ◌%◌, ◌≤◌, eqb, pos, nat_abs}
+use Rattle.std.specs.Prelude.{◌≡◌, Bool, true, false, ◌||◌, List, [], ◌∷◌, ◌≢◌, ℕ, ◌+◌, ◌%◌, ◌≤◌, eqb, pos, nat_abs, Option, Some, None}
 use Rattle.units.specs.Month.{minutes_per_quarter}
 use Rattle.call.specs.declared.Call.{Call}
 use Rattle.call.specs.Revising.{live, withdrawn}
 use Rattle.call.specs.Services.{deep_peak, reserve, start_stop, standby, black_start, agc_availability, agc_contribution, frequency_event, avc, stability_trip}
 use Rattle.call.specs.Services.{most_participant, most_rate, most_called, most_moved, any_minutes}
 use Rattle.field.specs.declared.Field.{Field}
-use Rattle.field.specs.declared.Field.TheVariants.{NoField, Participant, State, Service, Revision, Start, Length, A, B, C, Reserved}
+use Rattle.field.specs.declared.Field.TheVariants.{Participant, State, Service, Revision, Start, Length, A, B, C, Reserved}
 
 -- whether a service is one of some
 unfoldable pub one_of : List ℕ → ℕ → Bool
@@ -58,7 +58,6 @@ pub data CColumn (c : Call) : Type 0 where
 
 -- the condition of a field, of a record with these four last bytes, in a month of so many minutes: the month's end is the length's
 unfoldable pub FieldHolds : ℕ → Call → ℕ → Field → Type 0
-FieldHolds minutes c reserved NoField = ⊥
 FieldHolds minutes c reserved Participant = (1 ≤ c.participant) × (c.participant ≤ most_participant)
 FieldHolds minutes c reserved State = c.state ≤ withdrawn
 FieldHolds minutes c reserved Service = ServiceColumn c
@@ -71,7 +70,7 @@ FieldHolds minutes c reserved C = CColumn c
 FieldHolds minutes c reserved Reserved = reserved ≡ 0
 
 -- the first field of a list whose condition fails: the conditions of those before it hold; none where all hold
-pub data FirstFails (Holds : Field → Type 0) : List Field → Field → Type 0 where
-  here : (f : Field) {fs : List Field} → ¬ Holds f → FirstFails Holds (f ∷ fs) f
-  later : (g : Field) {fs : List Field} {f : Field} → Holds g → FirstFails Holds fs f → FirstFails Holds (g ∷ fs) f
-  none : FirstFails Holds [] NoField
+pub data FirstFails (Holds : Field → Type 0) : List Field → Option Field → Type 0 where
+  here : (f : Field) {fs : List Field} → ¬ Holds f → FirstFails Holds (f ∷ fs) (Some f)
+  later : (g : Field) {fs : List Field} {f : Option Field} → Holds g → FirstFails Holds fs f → FirstFails Holds (g ∷ fs) f
+  none : FirstFails Holds [] None

@@ -1,5 +1,5 @@
 -- Which field of a record is bad: the first whose test fails, the fields before it taken as given. Assumes nothing.
-use Rattle.std.specs.Prelude.{Bool, false, cond, not, ◌&&◌, ◌||◌, List, [], ◌∷◌, ℕ, ◌+◌, ◌%◌, eqb, leb}
+use Rattle.std.specs.Prelude.{Bool, cond, not, ◌&&◌, ◌||◌, List, [], ◌∷◌, ℕ, ◌+◌, ◌%◌, eqb, leb, Option, Some, None}
 use Rattle.std.specs.Int.Signed.{le_z}
 use Rattle.units.specs.Month.{minutes_per_quarter}
 use Rattle.call.specs.declared.Call.{Call}
@@ -8,7 +8,7 @@ use Rattle.call.specs.Revising.{live, withdrawn}
 use Rattle.call.specs.Services.{most_participant, stability_trip}
 use Rattle.call.specs.Limits.{limits_of}
 use Rattle.field.specs.declared.Field.{Field}
-use Rattle.field.specs.declared.Field.TheVariants.{NoField, Participant, State, Service, Revision, Start, Length, A, B, C, Reserved}
+use Rattle.field.specs.declared.Field.TheVariants.{Participant, State, Service, Revision, Start, Length, A, B, C, Reserved}
 
 -- a live call has a service, 1 to 10; any other has none
 unfoldable pub service_fits : Call → Bool
@@ -32,7 +32,6 @@ a_fits l c = le_z l.low c.a && le_z c.a l.high
 
 -- the test of a field, of a record with these four last bytes, in a month of so many minutes
 unfoldable pub field_fits : ℕ → Call → ℕ → Field → Bool
-field_fits minutes c reserved NoField = false
 field_fits minutes c reserved Participant = leb 1 c.participant && leb c.participant most_participant
 field_fits minutes c reserved State = leb c.state withdrawn
 field_fits minutes c reserved Service = service_fits c
@@ -53,10 +52,10 @@ abbrev pub fields : List Field
 fields = Participant ∷ State ∷ Service ∷ Revision ∷ terms
 
 -- the first field of a list whose test fails, or none
-unfoldable pub first_bad : (Field → Bool) → List Field → Field
-first_bad fits [] = NoField
-first_bad fits (f ∷ fs) = cond (fits f) (first_bad fits fs) f
+unfoldable pub first_bad : (Field → Bool) → List Field → Option Field
+first_bad fits [] = None
+first_bad fits (f ∷ fs) = cond (fits f) (first_bad fits fs) (Some f)
 
 -- the bad field of a record
-unfoldable pub bad_field : ℕ → Call → ℕ → Field
+unfoldable pub bad_field : ℕ → Call → ℕ → Option Field
 bad_field minutes c reserved = first_bad (field_fits minutes c reserved) fields

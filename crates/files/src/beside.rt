@@ -1,17 +1,16 @@
 // A book and the page of tabs beside it: held together, and written together. Two files cannot be replaced in one step. So both new ones are written first; then the old page goes, the
 // book is replaced, and the new page comes: a run that is cut off leaves a book with its own page or with none.
 use crate::{
-    Hold, Stored, hold_named, lock_of, release, rename, store, sync_folder, unlink, unlock,
+    Hold, NotStored, hold_named, lock_of, release, rename, store, sync_folder, unlink, unlock,
     write_new,
 };
-use node::{Name, first, joined, node_of};
+use node::{Name, Node, joined, node_of};
 use std::rt::HostRuntime;
 
-// What became of a book and its page that were to be written. Up to `PageNotRemoved` both are as they were. Of `NotReplaced` the book is, and it says whether a page was removed; from
+// Why a book and its page that were to be written are not. Up to `PageNotRemoved` both are as they were. Of `NotReplaced` the book is, and it says whether a page was removed; from
 // `PageNotPlaced` on the new book stands.
 #[derive(Clone, Copy)]
-pub enum Both {
-    Done,
+pub enum NotBoth {
     BookNotWritten,
     PageNotWritten,
     PageNotRemoved,
@@ -25,15 +24,12 @@ pub fn page_of(book: Name) -> Name {
     if book.size == 0 {
         return book;
     }
-    let bytes = book.bytes;
-    joined(first(&bytes, book.size), b".tabs")
+    joined(book.path(), b".tabs")
 }
 
 // Whether a name is that of a file, or cannot be looked at.
 fn is_something(rt: HostRuntime, name: Name) -> bool {
-    let bytes = name.bytes;
-    let node = node_of(rt, first(&bytes, name.size));
-    node.there | node.unknown
+    !matches!(node_of(rt, name.path()), Node::Nothing)
 }
 
 // Whether a book has a page, or one that cannot be looked at.
@@ -51,27 +47,22 @@ pub fn is_paged(rt: HostRuntime, book: &Hold) -> bool {
 }
 
 // The page of a book that is held, held too, by its own name: a link there is not followed. Where there is no book yet, no page may stand there.
-pub fn hold_page(rt: HostRuntime, book: &Hold) -> Hold {
-    let node = book.node;
-    hold_named(rt, page_of(book.target), !node.there)
+pub fn hold_page(rt: HostRuntime, book: &Hold) -> Result<Hold, NotStored> {
+    hold_named(rt, page_of(book.target), !book.node.is_there())
 }
 
 // The lock's file over the target.
 fn place(rt: HostRuntime, target: Name) -> bool {
     let lock = lock_of(target);
-    let from = lock.bytes;
-    let to = target.bytes;
-    rename(rt, first(&from, lock.size), first(&to, target.size))
+    rename(rt, lock.path(), target.path())
 }
 
 fn remove(rt: HostRuntime, page: Name) -> bool {
-    let bytes = page.bytes;
-    unlink(rt, first(&bytes, page.size))
+    unlink(rt, page.path())
 }
 
 fn sync_beside(rt: HostRuntime, target: Name) -> bool {
-    let bytes = target.bytes;
-    sync_folder(rt, first(&bytes, target.size))
+    sync_folder(rt, target.path())
 }
 
 // Both locks go, and the page's first: who takes the book's finds none of the page.
@@ -97,52 +88,57 @@ fn place_book(rt: HostRuntime, book: Name, removed: bool) -> bool {
 }
 
 // The new page beside the new book, once the device has it that the old book is replaced: else the new page could come to stand beside the old book.
-fn place_page(rt: HostRuntime, page: Name) -> Both {
+fn place_page(rt: HostRuntime, page: Name) -> Result<(), NotBoth> {
     if !place_behind(rt, page) {
         unlock(rt, page);
-        return Both::PageNotPlaced;
+        return Err(NotBoth::PageNotPlaced);
     }
     if sync_beside(rt, page) {
-        return Both::Done;
+        return Ok(());
     }
-    Both::Unsure
+    Err(NotBoth::Unsure)
 }
 
 // Both new files in place of the old ones.
-fn replace_both(rt: HostRuntime, book: Name, page: Name, old: bool) -> Both {
+fn replace_both(rt: HostRuntime, book: Name, page: Name, old: bool) -> Result<(), NotBoth> {
     if old {
         if !remove(rt, page) {
             unlock_both(rt, book, page);
-            return Both::PageNotRemoved;
+            return Err(NotBoth::PageNotRemoved);
         }
     }
     if !place_book(rt, book, old) {
         unlock_both(rt, book, page);
-        return Both::NotReplaced(old);
+        return Err(NotBoth::NotReplaced(old));
     }
     place_page(rt, page)
 }
 
 // The bytes as the whole book and the whole page that are held, both with the mode of the book. Then they are held no longer.
-pub fn store_both(rt: HostRuntime, book: Hold, page: Hold, bytes: &[u8], tabs: &[u8]) -> Both {
+pub fn store_both(
+    rt: HostRuntime,
+    book: Hold,
+    page: Hold,
+    bytes: &[u8],
+    tabs: &[u8],
+) -> Result<(), NotBoth> {
     let (target, node) = (book.target, book.node);
     if !write_new(book.file, node, bytes) {
         release(rt, page);
         unlock(rt, target);
-        return Both::BookNotWritten;
+        return Err(NotBoth::BookNotWritten);
     }
     let (beside, old) = (page.target, page.node);
     if !write_new(page.file, node, tabs) {
         unlock_both(rt, target, beside);
-        return Both::PageNotWritten;
+        return Err(NotBoth::PageNotWritten);
     }
-    replace_both(rt, target, beside, old.there)
+    replace_both(rt, target, beside, old.is_there())
 }
 
 // The bytes as the whole page that is held, beside the book that is held and stays: with its mode, and over an old one, since the book is the same. Then neither is held.
-pub fn store_page(rt: HostRuntime, book: Hold, page: Hold, tabs: &[u8]) -> Stored {
+pub fn store_page(rt: HostRuntime, book: Hold, page: Hold, tabs: &[u8]) -> Result<(), NotStored> {
     let as_book = Hold {
-        state: page.state,
         target: page.target,
         node: book.node,
         file: page.file,

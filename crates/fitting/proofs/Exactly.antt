@@ -23,15 +23,15 @@ use Rattle.ceiling.proofs.Promises.{gap_kept}
 use Rattle.month.specs.declared.Row.{Row}
 use Rattle.month.specs.declared.Statement.{Statement}
 use Rattle.month.specs.Settling.{row_of, rows_of}
-use Rattle.fitting.specs.declared.Finding.{Finding}
-use Rattle.fitting.specs.declared.Finding.TheVariants.{Fits, NotShared, Compensation, Weight, Share, Uncollected, Given, Amount, Total, User}
-use Rattle.fitting.specs.Fitting.{is_fits, or_else, same_fen, weight_for, own_apart, first_own, own_line, own_lines, own_limited, own_limits}
+use Rattle.std.specs.Prelude.{Err}
+use Rattle.fitting.specs.declared.Finding.TheVariants.{NotShared, Compensation, Weight, Share, Uncollected, Given, Amount, Total, User}
+use Rattle.fitting.specs.Fitting.{Judged, Fits, is_fits, or_else, same_fen, weight_for, own_apart, first_own, own_line, own_lines, own_limited, own_limits}
 use Rattle.fitting.specs.Fitting.{part_apart, first_part_of, total_apart, user_apart, by_ceiling, by_sharing, is_below, finding_in}
 use Rattle.fitting.specs.Exactly.{grains_of, hours_of, FenOfGrains, SharedFrom}
 use Rattle.fitting.proofs.Findings.{is_fits_lem, or_both, both_or, same_is, is_same}
 use Rattle.fitting.proofs.Cases.{total_fits, user_fits}
 
-never_fits : (f : Finding) → is_fits f ≡ false → f ≡ Fits → ⊥
+never_fits : (f : Judged) → is_fits f ≡ false → f ≡ Fits → ⊥
 never_fits f e h = true≢false (sym (is_fits_lem f h) ∙ e)
 
 -- R is below zero where A < C
@@ -59,11 +59,11 @@ unfolding own_apart is_fits
 own_columns b n r h = go (eqb r.compensation.0 (grains_to_fen r.grains.0)) (eqb r.weight (weight_for b r.energy.0 r.weight)) refl refl h
   where
     go : (t u : Bool) → eqb r.compensation.0 (grains_to_fen r.grains.0) ≡ t → eqb r.weight (weight_for b r.energy.0 r.weight) ≡ u
-        → cond t (cond u Fits (Weight n r.weight (weight_for b r.energy.0 r.weight))) (Compensation n r.compensation (record { 0 = grains_to_fen r.grains.0 })) ≡ Fits
+        → cond t (cond u Fits (Err (Weight n r.weight (weight_for b r.energy.0 r.weight)))) (Err (Compensation n r.compensation (record { 0 = grains_to_fen r.grains.0 }))) ≡ Fits
         → (r.compensation.0 ≡ grains_to_fen r.grains.0) × (r.weight ≡ weight_for b r.energy.0 r.weight)
     go true true e k h = (eqb-true r.compensation.0 (grains_to_fen r.grains.0) e, eqb-true r.weight (weight_for b r.energy.0 r.weight) k)
-    go true false e k h = absurd (never_fits (Weight n r.weight (weight_for b r.energy.0 r.weight)) refl h)
-    go false u e k h = absurd (never_fits (Compensation n r.compensation (record { 0 = grains_to_fen r.grains.0 })) refl h)
+    go true false e k h = absurd (never_fits (Err (Weight n r.weight (weight_for b r.energy.0 r.weight))) refl h)
+    go false u e k h = absurd (never_fits (Err (Compensation n r.compensation (record { 0 = grains_to_fen r.grains.0 }))) refl h)
 
 part_columns : (n : ℕ) (r : Row) (p : CeiledPart) → part_apart n r p ≡ Fits
     → (r.share.0 ≡ p.share) × (r.uncollected.0 ≡ p.uncollected) × (r.given.0 ≡ p.given) × (r.amount.0 ≡ p.amount)
@@ -71,15 +71,15 @@ unfolding part_apart is_fits
 part_columns n r p h = go (same_fen r.share.0 p.share) (eqb r.uncollected.0 p.uncollected) (eqb r.given.0 p.given) (same_fen r.amount.0 p.amount) refl refl refl refl h
   where
     go : (t u v w : Bool) → same_fen r.share.0 p.share ≡ t → eqb r.uncollected.0 p.uncollected ≡ u → eqb r.given.0 p.given ≡ v → same_fen r.amount.0 p.amount ≡ w
-        → cond t (cond u (cond v (cond w Fits (Amount n r.amount (record { 0 = p.amount }))) (Given n r.given (record { 0 = p.given })))
-        (Uncollected n r.uncollected (record { 0 = p.uncollected }))) (Share n r.share (record { 0 = p.share })) ≡ Fits
+        → cond t (cond u (cond v (cond w Fits (Err (Amount n r.amount (record { 0 = p.amount })))) (Err (Given n r.given (record { 0 = p.given }))))
+        (Err (Uncollected n r.uncollected (record { 0 = p.uncollected })))) (Err (Share n r.share (record { 0 = p.share }))) ≡ Fits
         → (r.share.0 ≡ p.share) × (r.uncollected.0 ≡ p.uncollected) × (r.given.0 ≡ p.given) × (r.amount.0 ≡ p.amount)
     go true true true true a c d e h =
         (same_is r.share.0 p.share a, eqb-true r.uncollected.0 p.uncollected c, eqb-true r.given.0 p.given d, same_is r.amount.0 p.amount e)
-    go true true true false a c d e h = absurd (never_fits (Amount n r.amount (record { 0 = p.amount })) refl h)
-    go true true false w a c d e h = absurd (never_fits (Given n r.given (record { 0 = p.given })) refl h)
-    go true false v w a c d e h = absurd (never_fits (Uncollected n r.uncollected (record { 0 = p.uncollected })) refl h)
-    go false u v w a c d e h = absurd (never_fits (Share n r.share (record { 0 = p.share })) refl h)
+    go true true true false a c d e h = absurd (never_fits (Err (Amount n r.amount (record { 0 = p.amount }))) refl h)
+    go true true false w a c d e h = absurd (never_fits (Err (Given n r.given (record { 0 = p.given }))) refl h)
+    go true false v w a c d e h = absurd (never_fits (Err (Uncollected n r.uncollected (record { 0 = p.uncollected }))) refl h)
+    go false u v w a c d e h = absurd (never_fits (Err (Share n r.share (record { 0 = p.share }))) refl h)
 
 -- rows that fit are those of their own lines and parts
 fens : (b : Bool) (n : ℕ) (rs : List Row) → first_own b n rs ≡ Fits → FenOfGrains rs
@@ -133,23 +133,23 @@ total_is : (s : Statement) (z : ℤ) → total_apart s z ≡ Fits → s.gap.0 �
 unfolding total_apart is_fits
 total_is s z h = go (same_fen s.gap.0 z) refl h
   where
-    go : (t : Bool) → same_fen s.gap.0 z ≡ t → cond t Fits (Total (1 + s.count) s.gap (record { 0 = z })) ≡ Fits → s.gap.0 ≡ z
+    go : (t : Bool) → same_fen s.gap.0 z ≡ t → cond t Fits (Err (Total (1 + s.count) s.gap (record { 0 = z }))) ≡ Fits → s.gap.0 ≡ z
     go true e h = same_is s.gap.0 z e
-    go false e h = absurd (never_fits (Total (1 + s.count) s.gap (record { 0 = z })) refl h)
+    go false e h = absurd (never_fits (Err (Total (1 + s.count) s.gap (record { 0 = z }))) refl h)
 
 user_is : (s : Statement) (z : ℤ) → user_apart s z ≡ Fits → s.user.0 ≡ z
 unfolding user_apart is_fits
 user_is s z h = go (same_fen s.user.0 z) refl h
   where
-    go : (t : Bool) → same_fen s.user.0 z ≡ t → cond t Fits (User (2 + s.count) s.user (record { 0 = z })) ≡ Fits → s.user.0 ≡ z
+    go : (t : Bool) → same_fen s.user.0 z ≡ t → cond t Fits (Err (User (2 + s.count) s.user (record { 0 = z }))) ≡ Fits → s.user.0 ≡ z
     go true e h = same_is s.user.0 z e
-    go false e h = absurd (never_fits (User (2 + s.count) s.user (record { 0 = z })) refl h)
+    go false e h = absurd (never_fits (Err (User (2 + s.count) s.user (record { 0 = z }))) refl h)
 
 -- a refusal of sharing does not fit
-cond_fits : (t : Bool) (f : Finding) (n p : ℕ) → cond t f (NotShared n p) ≡ Fits → (t ≡ true) × (f ≡ Fits)
+cond_fits : (t : Bool) (f : Judged) (n p : ℕ) → cond t f (Err (NotShared n p)) ≡ Fits → (t ≡ true) × (f ≡ Fits)
 unfolding is_fits
 cond_fits true f n p h = (refl, h)
-cond_fits false f n p h = absurd (never_fits (NotShared n p) refl h)
+cond_fits false f n p h = absurd (never_fits (Err (NotShared n p)) refl h)
 
 stages : (s : Statement) → finding_in s ≡ Fits → Stages s (is_below s)
 unfolding finding_in by_sharing by_ceiling is_fits
@@ -167,8 +167,8 @@ stages s h = go (ltb 64 s.count) refl h
     q : CeilingOutcome
     q = ceiling s.part (own_limits b rs o.parts)
 
-    go : (t : Bool) → ltb 64 s.count ≡ t → cond t (NotShared 10 64) (or_else (first_own b 1 rs) (by_sharing b s o)) ≡ Fits → Stages s (is_below s)
-    go true e h = absurd (never_fits (NotShared 10 64) refl h)
+    go : (t : Bool) → ltb 64 s.count ≡ t → cond t (Err (NotShared 10 64)) (or_else (first_own b 1 rs) (by_sharing b s o)) ≡ Fits → Stages s (is_below s)
+    go true e h = absurd (never_fits (Err (NotShared 10 64)) refl h)
     go false e h =
         let p = or_both (first_own b 1 rs) (by_sharing b s o) h in
         let first = cond_fits (eqb o.number 0) (by_ceiling s q) o.number o.place p.1 in

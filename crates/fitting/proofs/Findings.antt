@@ -9,36 +9,33 @@ use mir.Syntax.{Width}
 use mir.Val.{SFits, to_z, of_z}
 use mir.ValLaws.{to_z-of_z}
 use Rattle.fitting.specs.declared.Finding.{Finding}
-use Rattle.fitting.specs.declared.Finding.TheVariants.{Fits, NotShared, Compensation, Weight, Share, Uncollected, Given, Amount, Total, User}
-use Rattle.fitting.specs.Fitting.{is_fits, or_else, same_fen}
+use Rattle.std.specs.Prelude.{Ok, Err}
+use Rattle.fitting.specs.Fitting.{Judged, Fits, is_fits, or_else, same_fen}
 
-pub or_fits : (f g : Finding) → is_fits f ≡ true → or_else f g ≡ g
+pub or_fits : (f g : Judged) → is_fits f ≡ true → or_else f g ≡ g
 unfolding or_else
 or_fits f g e = rw e
 
-pub or_not : (f g : Finding) → is_fits f ≡ false → or_else f g ≡ f
+pub or_not : (f g : Judged) → is_fits f ≡ false → or_else f g ≡ f
 unfolding or_else
 or_not f g e = rw e
 
-pub fits_is : (f : Finding) → is_fits f ≡ true → f ≡ Fits
+pub fits_is : (f : Judged) → is_fits f ≡ true → f ≡ Fits
 unfolding is_fits
-fits_is Fits e = refl
-fits_is (NotShared n p) e = absurd (true≢false (sym e))
-fits_is (Compensation l a b) e = absurd (true≢false (sym e))
-fits_is (Weight l a b) e = absurd (true≢false (sym e))
-fits_is (Share l a b) e = absurd (true≢false (sym e))
-fits_is (Uncollected l a b) e = absurd (true≢false (sym e))
-fits_is (Given l a b) e = absurd (true≢false (sym e))
-fits_is (Amount l a b) e = absurd (true≢false (sym e))
-fits_is (Total l a b) e = absurd (true≢false (sym e))
-fits_is (User l a b) e = absurd (true≢false (sym e))
+fits_is (Ok u) e = refl
+fits_is (Err f) e = absurd (true≢false (sym e))
 
-pub is_fits_lem : (f : Finding) → f ≡ Fits → is_fits f ≡ true
+-- a finding does not fit
+pub not_fits : (f : Finding) → is_fits (Err f) ≡ false
+unfolding is_fits
+not_fits f = refl
+
+pub is_fits_lem : (f : Judged) → f ≡ Fits → is_fits f ≡ true
 unfolding is_fits
 is_fits_lem f e = ap is_fits e
 
 -- all fits where both do
-pub or_both : (f g : Finding) → or_else f g ≡ Fits → (f ≡ Fits) × (g ≡ Fits)
+pub or_both : (f g : Judged) → or_else f g ≡ Fits → (f ≡ Fits) × (g ≡ Fits)
 unfolding or_else
 or_both f g h = go (is_fits f) refl h
   where
@@ -46,7 +43,7 @@ or_both f g h = go (is_fits f) refl h
     go true e k = (fits_is f e, k)
     go false e k = absurd (true≢false (sym (is_fits_lem f k) ∙ e))
 
-pub both_or : (f g : Finding) → f ≡ Fits → g ≡ Fits → or_else f g ≡ Fits
+pub both_or : (f g : Judged) → f ≡ Fits → g ≡ Fits → or_else f g ≡ Fits
 both_or f g e k = or_fits f g (is_fits_lem f e) ∙ k
 
 -- Amounts

@@ -38,7 +38,7 @@ use Rattle.month.specs.declared.Row.{Row}
 use Rattle.month.specs.declared.Statement.{Statement}
 use Rattle.month.specs.Settling.{no_ramping, row_of, rows_of}
 use Rattle.month.proofs.Accepted.{length_rows}
-use Rattle.fitting.specs.declared.Finding.TheVariants.{Fits}
+use Rattle.fitting.specs.Fitting.{Fits}
 use Rattle.fitting.specs.Fitting.{weight_by, status_for, weight_for, own_apart, first_own, own_line, own_lines, limit_for, own_limited, own_limits, part_apart, first_part_of, is_below, finding_in}
 use Rattle.fitting.specs.Exactly.{grains_of, hours_of, FenOfGrains, SharedFrom}
 use Rattle.fitting.proofs.Findings.{both_or, is_same}

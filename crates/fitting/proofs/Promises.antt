@@ -22,15 +22,13 @@ use Rattle.month.specs.Settling.{MonthGiven, blank_row, filled_rows, row_of, row
 use Rattle.month.specs.Outcomes.{limited_in, lines_in, grains_in, shared_in}
 use Rattle.month.proofs.Accepted.{rows_settled, length_rows, length_limited, passed}
 use Rattle.month.proofs.Promises.{compensation_is, line_count}
-use Rattle.fitting.specs.declared.Finding.{Finding}
-use Rattle.fitting.specs.declared.Finding.TheVariants.{Fits}
-use Rattle.fitting.specs.Fitting.{own_lines, own_limits, is_below, finding_in}
+use Rattle.fitting.specs.Fitting.{Judged, Fits, own_lines, own_limits, is_below, finding_in}
 use Rattle.fitting.specs.Exactly.{grains_of, hours_of, FenOfGrains, SharedFrom}
 use Rattle.fitting.proofs.Exactly.{fits_shared}
 use Rattle.fitting.proofs.Given.{shared_fits}
 
 -- Two findings that the contract allows are one.
-pub finding_determined : (s : Statement) (f g : Finding) → f ≡ finding_in s → g ≡ finding_in s → f ≡ g
+pub finding_determined : (s : Statement) (f g : Judged) → f ≡ finding_in s → g ≡ finding_in s → f ≡ g
 finding_determined s f g e h = e ∙ sym h
 
 -- A STATEMENT FITS EXACTLY where its rows, R and the user's amount are those that sharing of some lines, within some limits, gives, and each compensation is the fen of its grains.

@@ -23,9 +23,9 @@ use Rattle.ceiling.proofs.Outcomes.{taken_list, each_given}
 use Rattle.month.specs.declared.Row.{Row}
 use Rattle.month.specs.declared.Statement.{Statement}
 use Rattle.month.proofs.Settled.{take_map}
-use Rattle.fitting.specs.declared.Finding.{Finding}
+use Rattle.std.specs.Prelude.{Err}
 use Rattle.fitting.specs.declared.Finding.TheVariants.{NotShared}
-use Rattle.fitting.specs.Fitting.{is_fits, or_else, first_own, own_line, own_lines, own_limits, first_part_of, total_apart, user_apart, by_ceiling, by_sharing, is_below, finding_in}
+use Rattle.fitting.specs.Fitting.{Judged, is_fits, or_else, first_own, own_line, own_lines, own_limits, first_part_of, total_apart, user_apart, by_ceiling, by_sharing, is_below, finding_in}
 use Rattle.fitting.specs.Inner.{got_of}
 use Rattle.fitting.proofs.Findings.{or_fits, or_not}
 
@@ -60,7 +60,7 @@ module _ (s : Statement) (h : s.count ≤ 64) (lines : List LimitedLine) (long :
   number_is : x.number ≡ o.number
   number_is = ap (λ (y : Ceiled). y.number) array_is
 
-  pub ceiling_refused_lem : (x.number ≡ 0 → ⊥) → NotShared x.number x.place ≡ by_ceiling s o
+  pub ceiling_refused_lem : (x.number ≡ 0 → ⊥) → Err (NotShared x.number x.place) ≡ by_ceiling s o
   unfolding by_ceiling
   ceiling_refused_lem some = rw (number_is, ap (λ (y : Ceiled). y.place) array_is, ne_eqb o.number 0 (λ e. some (number_is ∙ e))) refl
 
@@ -78,21 +78,21 @@ module _ (s : Statement) (h : s.count ≤ 64) (lines : List LimitedLine) (long :
         ∙ ap got_of (take_ceiled s.count o.parts (cleared_lines lines) (omega (arith, each, length_ls)) ∙ ap (ceiled_lines o.parts) (take_map (λ l. cleared_line l) s.count lines))
         ∙ got_back o.parts ls each
 
-    abbrev rest : Finding
+    abbrev rest : Judged
     rest = or_else (first_part_of 1 (take s.count s.rows) o.parts) (user_apart s o.user)
 
     by_is : by_ceiling s o ≡ or_else (total_apart s o.gap) rest
     unfolding by_ceiling
     by_is = rw (eq-eqb o.number 0 told)
 
-    module _ (t : Finding) (et : t ≡ total_apart s x.gap.0) where
+    module _ (t : Judged) (et : t ≡ total_apart s x.gap.0) where
       own_total : t ≡ total_apart s o.gap
       own_total = et ∙ ap (λ (y : Ceiled). total_apart s y.gap.0) array_is
 
       pub total_told : is_fits t ≡ false → t ≡ by_ceiling s o
       total_told f = own_total ∙ sym (by_is ∙ or_not (total_apart s o.gap) rest (ap is_fits (sym own_total) ∙ f))
 
-      module _ (ft : is_fits t ≡ true) (m : Finding) (em : m ≡ first_part_of 1 (take s.count s.rows) (got_of (take s.count x.lines))) where
+      module _ (ft : is_fits t ≡ true) (m : Judged) (em : m ≡ first_part_of 1 (take s.count s.rows) (got_of (take s.count x.lines))) where
         behind_total : by_ceiling s o ≡ rest
         behind_total = by_is ∙ or_fits (total_apart s o.gap) rest (ap is_fits (sym own_total) ∙ ft)
 
@@ -102,14 +102,14 @@ module _ (s : Statement) (h : s.count ≤ 64) (lines : List LimitedLine) (long :
         pub parts_told : is_fits m ≡ false → m ≡ by_ceiling s o
         parts_told f = own_parts ∙ sym (behind_total ∙ or_not (first_part_of 1 (take s.count s.rows) o.parts) (user_apart s o.user) (ap is_fits (sym own_parts) ∙ f))
 
-        pub user_told : is_fits m ≡ true → (u : Finding) → u ≡ user_apart s x.user.0 → u ≡ by_ceiling s o
+        pub user_told : is_fits m ≡ true → (u : Judged) → u ≡ user_apart s x.user.0 → u ≡ by_ceiling s o
         user_told f u eu =
             eu ∙ ap (λ (y : Ceiled). user_apart s y.user.0) array_is
             ∙ sym (behind_total ∙ or_fits (first_part_of 1 (take s.count s.rows) o.parts) (user_apart s o.user) (ap is_fits (sym own_parts) ∙ f))
 
 -- The statement
 module _ (s : Statement) where
-  pub too_many : 64 < s.count → NotShared 10 64 ≡ finding_in s
+  pub too_many : 64 < s.count → Err (NotShared 10 64) ≡ finding_in s
   unfolding finding_in
   too_many h = rw (lt-ltb 64 s.count h)
 
@@ -117,7 +117,7 @@ module _ (s : Statement) where
     abbrev rs : List Row
     rs = take s.count s.rows
 
-    abbrev own : Finding
+    abbrev own : Judged
     own = first_own (is_below s) 1 rs
 
     abbrev first : SharingOutcome
@@ -127,7 +127,7 @@ module _ (s : Statement) where
     unfolding finding_in
     in_turn = rw (le-ltb 64 s.count few)
 
-    module _ (b : Bool) (eb : b ≡ is_below s) (f : Finding) (ef : f ≡ first_own b 1 rs) where
+    module _ (b : Bool) (eb : b ≡ is_below s) (f : Judged) (ef : f ≡ first_own b 1 rs) where
       own_is : f ≡ own
       own_is = ef ∙ ap (λ (c : Bool). first_own c 1 rs) eb
 
@@ -154,7 +154,7 @@ module _ (s : Statement) where
         first_number : x.number ≡ first.number
         first_number = ap (λ (y : Shared). y.number) shared_is
 
-        pub sharing_refused_lem : (x.number ≡ 0 → ⊥) → NotShared x.number x.place ≡ finding_in s
+        pub sharing_refused_lem : (x.number ≡ 0 → ⊥) → Err (NotShared x.number x.place) ≡ finding_in s
         unfolding by_sharing
         sharing_refused_lem some =
             rw (first_number, ap (λ (y : Shared). y.place) shared_is) (sym (on ∙ rw (ne_eqb first.number 0 (λ e. some (first_number ∙ e))) refl))
@@ -174,7 +174,7 @@ module _ (s : Statement) where
               ∙ parts_back first.parts (clear lines) (rw (length-map lines (λ l. cleared l)) (omega (arith, long_first, wide, few)))
 
           pub rest_told : (limited : List LimitedLine) → take s.count limited ≡ own_limits b rs (parts_in (take s.count x.lines))
-              → (r : Finding) → r ≡ by_ceiling s (ceiling s.part (take s.count limited)) → r ≡ finding_in s
+              → (r : Judged) → r ≡ by_ceiling s (ceiling s.part (take s.count limited)) → r ≡ finding_in s
           unfolding by_sharing
           rest_told limited e r er =
               let same : take s.count limited ≡ own_limits (is_below s) rs first.parts =

@@ -5,8 +5,9 @@ use mathlib.Core.List.{List, [], ◌∷◌}
 use Prim.Native.Nat.{ℕ, zero, suc, ◌+◌, ◌≤◌, ◌<◌}
 use native.Mathlib.Nat.{not-suc-le-zero}
 use native.Mathlib.Omega.{arith}
-use lib.ListN.{length, get_or, take, drop}
-use lib.Seq.{length-take-le, get_or-take}
+use native.Mathlib.Numerals.{add-one}
+use lib.ListN.{length, get_or, take, drop, drop_of_length-le}
+use lib.Seq.{length-take-le, get_or-take, drop-cons}
 use Rattle.share.proofs.Lists.{part_step, part_end}
 use Rattle.share.specs.declared.Line.{Line}
 use Rattle.share.specs.Sharing.{Part}
@@ -17,9 +18,7 @@ use Rattle.ceiling.specs.Inner.{part_in, parts_in}
 use Rattle.ceiling.proofs.Places.{length_parts, part_in_lem}
 use Rattle.month.specs.declared.Row.{Row}
 use Rattle.month.specs.Inner.{got_in}
-use Rattle.fitting.specs.declared.Finding.{Finding}
-use Rattle.fitting.specs.declared.Finding.TheVariants.{Fits}
-use Rattle.fitting.specs.Fitting.{is_fits, or_else, own_apart, first_own, own_limited, own_limits, part_apart, first_part_of}
+use Rattle.fitting.specs.Fitting.{Judged, Fits, is_fits, or_else, own_apart, first_own, own_limited, own_limits, part_apart, first_part_of}
 use Rattle.fitting.specs.Inner.{got_of}
 use Rattle.fitting.proofs.Findings.{or_fits, or_not}
 
@@ -39,45 +38,48 @@ part_none : (n : ℕ) (rs : List Row) (ps : List CeiledPart) → rs ≡ [] → f
 unfolding first_part_of
 part_none n rs ps e = ap (λ (xs : List Row). first_part_of n xs ps) e
 
-module _ (b : Bool) (rows : List Row) (count : ℕ) (few : count ≤ length rows) where
-  abbrev all : Finding
-  all = first_own b 1 (take count rows)
+module _ (b : Bool) (rows : List Row) where
+  abbrev all : Judged
+  all = first_own b 1 rows
 
   -- the rows that are left at a place
-  abbrev from : ℕ → Finding
-  from i = first_own b (1 + i) (drop i (take count rows))
+  abbrev from : ℕ → Judged
+  from i = first_own b (1 + i) (drop i rows)
 
-  module _ (i : ℕ) (more : i < count) (d : Row) where
-    abbrev next : Finding
-    next = first_own b (suc (1 + i)) (drop (i + 1) (take count rows))
+  module _ (i : ℕ) (more : i < length rows) (d : Row) where
+    abbrev next : Judged
+    next = first_own b (suc (1 + i)) (drop (i + 1) rows)
+
+    opens : drop i rows ≡ get_or rows i d ∷ drop (i + 1) rows
+    opens = rw add-one (drop-cons rows i d more)
 
     step : from i ≡ or_else (own_apart b (1 + i) (get_or rows i d)) next
-    step = ap (first_own b (1 + i)) (part_step rows count i d more few) ∙ own_cons b (1 + i) (get_or rows i d) (drop (i + 1) (take count rows))
+    step = ap (first_own b (1 + i)) opens ∙ own_cons b (1 + i) (get_or rows i d) (drop (i + 1) rows)
 
-    pub own_on : (f : Finding) → f ≡ own_apart b (1 + i) (get_or rows i d) → is_fits f ≡ true → from i ≡ all → from (i + 1) ≡ all
+    pub own_on : (f : Judged) → f ≡ own_apart b (1 + i) (get_or rows i d) → is_fits f ≡ true → from i ≡ all → from (i + 1) ≡ all
     own_on f is e k =
         let one : 1 + (i + 1) ≡ suc (1 + i) = omega arith in
-        ap (λ (n : ℕ). first_own b n (drop (i + 1) (take count rows))) one
+        ap (λ (n : ℕ). first_own b n (drop (i + 1) rows)) one
         ∙ sym (step ∙ or_fits (own_apart b (1 + i) (get_or rows i d)) next (ap is_fits (sym is) ∙ e)) ∙ k
 
-    pub own_off : (f : Finding) → f ≡ own_apart b (1 + i) (get_or rows i d) → is_fits f ≡ false → from i ≡ all → f ≡ all
+    pub own_off : (f : Judged) → f ≡ own_apart b (1 + i) (get_or rows i d) → is_fits f ≡ false → from i ≡ all → f ≡ all
     own_off f is e k = is ∙ sym (step ∙ or_not (own_apart b (1 + i) (get_or rows i d)) next (ap is_fits (sym is) ∙ e)) ∙ k
 
-  pub own_end : (i : ℕ) → count ≤ i → from i ≡ all → Fits ≡ all
-  own_end i h k = sym (own_none b (1 + i) (drop i (take count rows)) (part_end rows count i h few)) ∙ k
+  pub own_end : (i : ℕ) → length rows ≤ i → from i ≡ all → Fits ≡ all
+  own_end i h k = sym (own_none b (1 + i) (drop i rows) (drop_of_length-le rows {i = i} h)) ∙ k
 
 module _ (rows : List Row) (lines : List LimitedLine) (count : ℕ) (few : count ≤ length rows) (few₂ : count ≤ length lines) where
-  abbrev all_parts : Finding
+  abbrev all_parts : Judged
   all_parts = first_part_of 1 (take count rows) (got_of (take count lines))
 
-  abbrev parts_from : ℕ → Finding
+  abbrev parts_from : ℕ → Judged
   parts_from i = first_part_of (1 + i) (drop i (take count rows)) (got_of (drop i (take count lines)))
 
   module _ (i : ℕ) (more : i < count) (d : Row) (z : LimitedLine) where
-    abbrev next_parts : Finding
+    abbrev next_parts : Judged
     next_parts = first_part_of (suc (1 + i)) (drop (i + 1) (take count rows)) (got_of (drop (i + 1) (take count lines)))
 
-    abbrev here : Finding
+    abbrev here : Judged
     here = part_apart (1 + i) (get_or rows i d) (got_in (get_or lines i z))
 
     step_parts : parts_from i ≡ or_else here next_parts
@@ -86,13 +88,13 @@ module _ (rows : List Row) (lines : List LimitedLine) (count : ℕ) (few : count
         ∙ ap (λ (xs : List LimitedLine). first_part_of (1 + i) (get_or rows i d ∷ drop (i + 1) (take count rows)) (got_of xs)) (part_step lines count i z more few₂)
         ∙ part_cons (1 + i) (get_or rows i d) (got_in (get_or lines i z)) (drop (i + 1) (take count rows)) (got_of (drop (i + 1) (take count lines)))
 
-    pub part_on : (f : Finding) → f ≡ here → is_fits f ≡ true → parts_from i ≡ all_parts → parts_from (i + 1) ≡ all_parts
+    pub part_on : (f : Judged) → f ≡ here → is_fits f ≡ true → parts_from i ≡ all_parts → parts_from (i + 1) ≡ all_parts
     part_on f is e k =
         let one : 1 + (i + 1) ≡ suc (1 + i) = omega arith in
         ap (λ (n : ℕ). first_part_of n (drop (i + 1) (take count rows)) (got_of (drop (i + 1) (take count lines)))) one
         ∙ sym (step_parts ∙ or_fits here next_parts (ap is_fits (sym is) ∙ e)) ∙ k
 
-    pub part_off : (f : Finding) → f ≡ here → is_fits f ≡ false → parts_from i ≡ all_parts → f ≡ all_parts
+    pub part_off : (f : Judged) → f ≡ here → is_fits f ≡ false → parts_from i ≡ all_parts → f ≡ all_parts
     part_off f is e k = is ∙ sym (step_parts ∙ or_not here next_parts (ap is_fits (sym is) ∙ e)) ∙ k
 
   pub parts_end : (i : ℕ) → count ≤ i → parts_from i ≡ all_parts → Fits ≡ all_parts

@@ -1,10 +1,10 @@
 -- What does not fit, in words. Assumes nothing.
-use Rattle.std.specs.Prelude.{List, [], ◌++◌, ℕ, ◌+◌, ◌-◌, ◌*◌, ◌^◌, min}
+use Rattle.std.specs.Prelude.{List, ◌++◌, ℕ, ◌+◌, ◌-◌, ◌*◌, ◌^◌, min}
 use Rattle.render.specs.Decimal.{word, decimal}
 use Rattle.render.specs.Room.{most_decimal}
 use Rattle.render.specs.Yuan.{yuan, signed_yuan, most_signed_yuan}
 use Rattle.fitting.specs.declared.Finding.{Finding}
-use Rattle.fitting.specs.declared.Finding.TheVariants.{Fits, NotShared, Compensation, Weight, Share, Uncollected, Given, Amount, Total, User}
+use Rattle.fitting.specs.declared.Finding.TheVariants.{NotShared, Compensation, Weight, Share, Uncollected, Given, Amount, Total, User}
 
 -- a line of the text, as people count it, from 1 on, and what is said of it
 unfoldable pub line_text : ℕ → List ℕ → List ℕ
@@ -19,7 +19,6 @@ unfoldable pub not_shared_text : ℕ → ℕ → List ℕ
 not_shared_text number place = word "sharing refuses its lines with " ++ decimal number ++ (word " at " ++ decimal place)
 
 unfoldable pub finding_text : Finding → List ℕ
-finding_text Fits = []
 finding_text (NotShared number place) = not_shared_text number place
 finding_text (Compensation line stands follows) = apart_text line (word "compensation ") (yuan stands.0) (yuan follows.0)
 finding_text (Weight line stands follows) = apart_text line (word "weight ") (decimal stands) (decimal follows)

@@ -21,10 +21,9 @@ pub mod told;
 use own::{first_own, own_limits, own_lines};
 use parts::{first_part, is_same};
 
-// What does not fit in a statement: nothing; or sharing refuses its lines, by number and place; or a column of a line of its text, counted from 0: what stands there, and what follows.
+// What does not fit in a statement: sharing refuses its lines, by number and place; or a column of a line of its text, counted from 0: what stands there, and what follows.
 #[derive(Clone, Copy)]
 pub enum Finding {
-    Fits,
     NotShared(u32, usize),
     Compensation(usize, Fen, Fen),
     Weight(usize, u64, u64),
@@ -36,86 +35,65 @@ pub enum Finding {
     User(usize, SignedFen, SignedFen),
 }
 
-pub fn is_fits(f: Finding) -> bool
+pub fn is_fits(f: Result<(), Finding>) -> bool
     ensures { result ≡ is_fits f }
 {
-    match f {
-        Finding::Fits => true,
-        Finding::NotShared(number, place) => false,
-        Finding::Compensation(line, stands, follows) => false,
-        Finding::Weight(line, stands, follows) => false,
-        Finding::Share(line, stands, follows) => false,
-        Finding::Uncollected(line, stands, follows) => false,
-        Finding::Given(line, stands, follows) => false,
-        Finding::Amount(line, stands, follows) => false,
-        Finding::Total(line, stands, follows) => false,
-        Finding::User(line, stands, follows) => false,
-    }
+    f.is_ok()
 }
 
 // R, on the line behind the members'.
-fn total_apart(s: Statement, follows: SignedFen) -> Finding
+// Stays two functions: total_apart and user_apart are two definitions (specs/Fitting.antt), of two fields on two lines, and a closure for each would be as long
+fn total_apart(s: Statement, follows: SignedFen) -> Result<(), Finding>
     requires { s.count ≤ most_entries }
     ensures { result ≡ total_apart s follows.0 }
 {
     let stands = s.gap;
     if is_same(stands, follows) {
-        return Finding::Fits;
+        return Ok(());
     }
-    Finding::Total(1 + s.count, stands, follows)
+    Err(Finding::Total(1 + s.count, stands, follows))
 }
 
 // The user's amount, on the last line.
-fn user_apart(s: Statement, follows: SignedFen) -> Finding
+fn user_apart(s: Statement, follows: SignedFen) -> Result<(), Finding>
     requires { s.count ≤ most_entries }
     ensures { result ≡ user_apart s follows.0 }
 {
     let stands = s.user;
     if is_same(stands, follows) {
-        return Finding::Fits;
+        return Ok(());
     }
-    Finding::User(2 + s.count, stands, follows)
+    Err(Finding::User(2 + s.count, stands, follows))
 }
 
 // Against the sharing of its own lines: R, the members' parts, the user's amount.
-fn by_ceiling(s: Statement, limited: [LimitedLine; MOST_ENTRIES]) -> Finding
+fn by_ceiling(s: Statement, limited: [LimitedLine; MOST_ENTRIES]) -> Result<(), Finding>
     requires { s.count ≤ most_entries }
     ensures { result ≡ by_ceiling s (ceiling s.part (take s.count limited)) }
 {
     let c = ceiled_array(s.part, limited, s.count);
     if c.number != 0 {
-        return Finding::NotShared(c.number, c.place);
+        return Err(Finding::NotShared(c.number, c.place));
     }
-    let gap = total_apart(s, c.gap);
-    if !is_fits(gap) {
-        return gap;
-    }
-    let rows = s.rows;
-    let lines = c.lines;
-    let members = first_part(rows, lines, s.count);
-    if !is_fits(members) {
-        return members;
-    }
+    total_apart(s, c.gap)?;
+    first_part(s.rows, c.lines, s.count)?;
     user_apart(s, c.user)
 }
 
 // What does not fit in a statement.
-pub fn finding_in(s: Statement) -> Finding
+pub fn finding_in(s: Statement) -> Result<(), Finding>
     ensures { result ≡ finding_in s }
 {
     let count = s.count;
     if MOST_ENTRIES < count {
-        return Finding::NotShared(10, MOST_ENTRIES);
+        return Err(Finding::NotShared(10, MOST_ENTRIES));
     }
     let rows = s.rows;
     let negative = is_below(s.gap);
-    let own = first_own(negative, rows, count);
-    if !is_fits(own) {
-        return own;
-    }
+    first_own(negative, &rows[..count])?;
     let first = share(s.part, own_lines(negative, rows), count);
     if first.number != 0 {
-        return Finding::NotShared(first.number, first.place);
+        return Err(Finding::NotShared(first.number, first.place));
     }
     let shared = first.lines;
     let limited = own_limits(negative, rows, shared, count);

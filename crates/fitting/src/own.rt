@@ -1,11 +1,11 @@
 // A member's row by itself: its compensation and its weight; and the line that was shared for it, with its limit.
-ghost use Rattle.std.specs.Prelude.{◌≡◌, ◌-◌, ◌≤◌, length, take};
+ghost use Rattle.std.specs.Prelude.{◌≡◌, ◌≤◌, length, take};
 ghost use Rattle.register.specs.Register.{most_entries};
 ghost use Rattle.ceiling.specs.Ceiling.{paid};
 ghost use Rattle.ceiling.specs.Inner.{part_in, parts_in};
 ghost use Rattle.fitting.specs.Fitting.{weight_by, status_for, own_apart, first_own, own_line, own_lines, limit_for, own_limited, own_limits};
 
-use crate::{Finding, is_fits};
+use crate::Finding;
 use ceiling::array::blank_limiteds;
 use ceiling::{Limit, LimitedLine};
 use month::Row;
@@ -18,7 +18,7 @@ use units::{Fen, Mwh, SignedFen};
 fn weight_by(negative: bool, status: u8, energy: Mwh) -> u64
     ensures { result ≡ weight_by negative status energy.0 }
 {
-    let e = energy.0 as u64;
+    let e = u64::from(energy.0);
     if status == 0 {
         return e * 10;
     }
@@ -68,49 +68,40 @@ pub fn own_lines(negative: bool, rows: [Row; MOST_ENTRIES]) -> [Line; MOST_ENTRI
     ensures rows_len { length rows ≡ most_entries }
 {
     let mut lines = blank_lines();
-    let mut i: usize = 0;
-    while i < MOST_ENTRIES {
-        let r = rows[i];
-        lines[i] = own_line(negative, r);
-        i += 1;
+    for (i, r) in rows.iter().enumerate() {
+        lines[i] = own_line(negative, *r);
     }
     lines
 }
 
 // Compensation and weight of a row on a line.
-fn own_apart(negative: bool, line: usize, r: Row) -> Finding
+fn own_apart(negative: bool, line: usize, r: Row) -> Result<(), Finding>
     ensures { result ≡ own_apart negative line r }
 {
     let grains = r.grains;
     let fen = grains.to_fen();
     let compensation = r.compensation;
     if compensation.0 != fen.0 {
-        return Finding::Compensation(line, compensation, fen);
+        return Err(Finding::Compensation(line, compensation, fen));
     }
     let weight = r.weight;
     let energy = r.energy;
     let follows = weight_by(negative, status_for(negative, energy, weight), energy);
     if weight != follows {
-        return Finding::Weight(line, weight, follows);
+        return Err(Finding::Weight(line, weight, follows));
     }
-    Finding::Fits
+    Ok(())
 }
 
 // The first row whose compensation or weight does not fit.
-pub fn first_own(negative: bool, rows: [Row; MOST_ENTRIES], count: usize) -> Finding
-    requires { count ≤ most_entries }
-    ensures { result ≡ first_own negative 1 (take count rows) }
+pub fn first_own(negative: bool, rows: &[Row]) -> Result<(), Finding>
+    requires { length rows.now ≤ most_entries }
+    ensures { result ≡ first_own negative 1 rows.now }
 {
-    let mut i: usize = 0;
-    while i < count {
-        let r = rows[i];
-        let f = own_apart(negative, 1 + i, r);
-        if !is_fits(f) {
-            return f;
-        }
-        i += 1;
+    for (i, r) in rows.iter().enumerate() {
+        own_apart(negative, 1 + i, *r)?;
     }
-    Finding::Fits
+    Ok(())
 }
 
 // What a member with such an amount pays.
@@ -118,24 +109,17 @@ fn paid(amount: SignedFen) -> u64
     ensures { result ≡ paid amount.0 }
 {
     if amount.0 < 0 {
-        (!amount.0) as u64 + 1
+        amount.0.unsigned_abs()
     } else {
         0
     }
-}
-
-// One number less another, or 0.
-fn less(a: u64, b: u64) -> u64
-    ensures { result ≡ a - b }
-{
-    if a < b { 0 } else { a - b }
 }
 
 // The limit of which so much is not collected of an amount; none where all is.
 fn limit_for(amount: SignedFen, uncollected: Fen) -> Limit
     ensures { result ≡ limit_for amount.0 uncollected.0 }
 {
-    let most = less(paid(amount), uncollected.0);
+    let most = paid(amount).saturating_sub(uncollected.0);
     Limit {
         none: uncollected.0 == 0,
         fen: Fen(most),
@@ -166,12 +150,8 @@ pub fn own_limits(
     ensures { take count result ≡ own_limits negative (take count rows) (parts_in (take count shared)) }
 {
     let mut limited = blank_limiteds();
-    let mut i: usize = 0;
-    while i < count {
-        let r = rows[i];
-        let s = shared[i];
-        limited[i] = own_limited(negative, r, s);
-        i += 1;
+    for i in 0..count {
+        limited[i] = own_limited(negative, rows[i], shared[i]);
     }
     limited
 }

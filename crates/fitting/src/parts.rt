@@ -5,12 +5,13 @@ ghost use Rattle.month.specs.Inner.{got_in};
 ghost use Rattle.fitting.specs.Fitting.{same_fen, part_apart, first_part_of};
 ghost use Rattle.fitting.specs.Inner.{got_of};
 
-use crate::{Finding, is_fits};
+use crate::Finding;
 use ceiling::LimitedLine;
 use month::Row;
 use register::MOST_ENTRIES;
 use units::SignedFen;
 
+// Stays by hand: SignedFen has no ==, and same_fen (specs/Fitting.antt), which moved_share_taken changes in code, is told here once
 pub fn is_same(a: SignedFen, b: SignedFen) -> bool
     ensures { result ≡ same_fen a.0 b.0 }
 {
@@ -18,31 +19,31 @@ pub fn is_same(a: SignedFen, b: SignedFen) -> bool
 }
 
 // Share, what is not collected, what is given up and amount of a row on a line.
-fn part_apart(line: usize, r: Row, l: LimitedLine) -> Finding
+fn part_apart(line: usize, r: Row, l: LimitedLine) -> Result<(), Finding>
     ensures { result ≡ part_apart line r (got_in l) }
 {
     let own = l.line;
     let share = r.share;
     let borne = own.share;
     if !is_same(share, borne) {
-        return Finding::Share(line, share, borne);
+        return Err(Finding::Share(line, share, borne));
     }
     let uncollected = r.uncollected;
     let beyond = l.uncollected;
     if uncollected.0 != beyond.0 {
-        return Finding::Uncollected(line, uncollected, beyond);
+        return Err(Finding::Uncollected(line, uncollected, beyond));
     }
     let given = r.given;
     let up = l.given;
     if given.0 != up.0 {
-        return Finding::Given(line, given, up);
+        return Err(Finding::Given(line, given, up));
     }
     let amount = r.amount;
     let got = own.amount;
     if !is_same(amount, got) {
-        return Finding::Amount(line, amount, got);
+        return Err(Finding::Amount(line, amount, got));
     }
-    Finding::Fits
+    Ok(())
 }
 
 // The first row that is not its part.
@@ -50,19 +51,12 @@ pub fn first_part(
     rows: [Row; MOST_ENTRIES],
     lines: [LimitedLine; MOST_ENTRIES],
     count: usize,
-) -> Finding
+) -> Result<(), Finding>
     requires { count ≤ most_entries }
     ensures { result ≡ first_part_of 1 (take count rows) (got_of (take count lines)) }
 {
-    let mut i: usize = 0;
-    while i < count {
-        let r = rows[i];
-        let l = lines[i];
-        let f = part_apart(1 + i, r, l);
-        if !is_fits(f) {
-            return f;
-        }
-        i += 1;
+    for i in 0..count {
+        part_apart(1 + i, rows[i], lines[i])?;
     }
-    Finding::Fits
+    Ok(())
 }

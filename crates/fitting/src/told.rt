@@ -1,5 +1,5 @@
 // What does not fit, in words, as bytes in a buffer that the caller lends.
-ghost use Rattle.std.specs.Prelude.{◌++◌, ◌≡◌, ◌+◌, ◌-◌, ◌^◌, ◌≤◌, min, length};
+ghost use Rattle.std.specs.Prelude.{◌++◌, ◌≡◌, ◌+◌, ◌≤◌, length};
 ghost use Rattle.render.specs.Decimal.{decimal};
 ghost use Rattle.render.specs.Yuan.{yuan, signed_yuan, most_signed_yuan};
 ghost use Rattle.render.specs.Inner.{Puts};
@@ -10,29 +10,18 @@ use render::yuan::{put_signed_yuan_field, put_yuan_field};
 use render::{put_decimal, put_field, put_word};
 use units::SignedFen;
 
-// The top of 64 bits.
-const LARGEST: u64 = 0xffff_ffff_ffff_ffff;
-
-// A line as people count it, from 1 on.
-fn from_one(line: u64) -> u64
-    ensures { result ≡ min (line + 1) (2 ^ 64 - 1) }
-{
-    if line == LARGEST {
-        return line;
-    }
-    line + 1
-}
-
-// A line of the text, and what is said of it.
+// A line of the text, as people count it, from 1 on, and what is said of it.
+// Stays two functions: intake has the same, and fitting and intake share no crate that tells lines; line_text stands in the specs of each
 pub fn put_line(out: &mut [u8], line: u64, why: &[u8]) -> usize
     requires { most_line + length why.now ≤ length out.old }
     ensures { Puts (most_line + length why.now) out.old 0 (line_text line why.now) out.new result }
 {
     let a = put_word(out, 0, b"line ");
-    let b = put_decimal(out, a, from_one(line));
+    let b = put_decimal(out, a, line.saturating_add(1));
     put_word(out, b, why)
 }
 
+// Stays two functions: this and those of fen and of signed amounts name their own words (decimal, yuan, signed_yuan) in a clause, and a trait over the three is longer than they are
 fn put_number_apart(out: &mut [u8], line: u64, name: &[u8], stands: u64, follows: u64) -> usize
     requires { most_apart + length name.now ≤ length out.old }
     ensures { Puts (most_apart + length name.now) out.old 0 (apart_text line name.now (decimal stands) (decimal follows)) out.new result }
@@ -82,13 +71,12 @@ fn put_not_shared(out: &mut [u8], number: u64, place: u64) -> usize
     put_field(out, a, b" at ", place)
 }
 
-// What does not fit; nothing where all fits.
+// What does not fit.
 pub fn put_finding(out: &mut [u8], f: Finding) -> usize
     requires { most_finding ≤ length out.old }
     ensures { Puts most_finding out.old 0 (finding_text f) out.new result }
 {
     match f {
-        Finding::Fits => 0,
         Finding::NotShared(number, place) => put_not_shared(out, number as u64, place as u64),
         Finding::Compensation(line, stands, follows) => put_fen_apart(
             out,

@@ -233,7 +233,7 @@ module _ (one other form vs : List ℕ) where
 
   pub walk_mark_passed : (k : List ℕ) (far : Far) (t c : ℕ) → far.on ≡ false → far.read + 1 < length form → get_or form far.read 0 ≡ 37 → get_or form (far.read + 1) 0 ≡ c
       → t ≡ taken_by true c → t ≤ 1 → far.taken ≤ far.read
-      → Walks one other form vs k far k (record { at = far.at; read = far.read + 1 + 1; taken = far.taken + t; on = false })
+      → Walks one other form vs k far k (record { at = far.at; read = far.read + 1 + 1; taken = far.taken + t; on = far.on })
   walk_mark_passed k far t c o h e d f b g =
       record {
         goes = rw (o, f) (goes_then (percent_goes one other form vs k far.at false far.read far.taken (omega arith) e)
@@ -243,12 +243,12 @@ module _ (one other form vs : List ℕ) where
       }
 
   -- a `%` at the form's end
-  pub walk_mark_end : (k : List ℕ) (far : Far) (on : Bool) → far.on ≡ on → far.read + 1 ≡ length form → get_or form far.read 0 ≡ 37 → far.taken ≤ far.read
-      → Walks one other form vs k far k (record { at = far.at; read = far.read + 1; taken = far.taken; on = on })
-  walk_mark_end k far on o h e t =
+  pub walk_mark_end : (k : List ℕ) (far : Far) → far.read + 1 ≡ length form → get_or form far.read 0 ≡ 37 → far.taken ≤ far.read
+      → Walks one other form vs k far k (record { at = far.at; read = far.read + 1; taken = far.taken; on = far.on })
+  walk_mark_end k far h e t =
       record {
-        goes = rw o (goes_then (percent_goes one other form vs k far.at on far.read far.taken (omega arith) e)
-            (none_goes one other form vs k far.at on (far.read + 1) far.taken (omega arith)));
+        goes = goes_then (percent_goes one other form vs k far.at far.on far.read far.taken (omega arith) e)
+            (none_goes one other form vs k far.at far.on (far.read + 1) far.taken (omega arith));
         order = omega arith;
         within = omega arith;
       }
@@ -264,17 +264,16 @@ module _ (one other form vs : List ℕ) where
         within = omega (arith, h);
       }
 
-  pub walk_sign : (k : List ℕ) (far : Far) (next : Bool) (c t : ℕ) → far.on ≡ true → far.read < length form → get_or form far.read 0 ≡ c → (c ≡ 37 → ⊥) → is_sign c ≡ true
-      → t ≡ taken_by false c → t ≤ 1 → next ≡ next_on true false c (get_or vs far.taken 0) → far.taken ≤ far.read
-      → Walks one other form vs k far k (record { at = far.at; read = far.read + 1; taken = far.taken + t; on = next })
+  -- a sign where bytes are shown, and any byte where they are not, show nothing
+  silent : (on : Bool) (c v : ℕ) → (on ≡ true → is_sign c ≡ true) → byte_text one other on false c v ≡ []
   unfolding byte_text
-  walk_sign k far next c t o h e n b f g d s = walk_byte k far true next c t o h e n (rw b) f g d s
+  silent true c v s = rw (s refl)
+  silent false c v s = refl
 
-  pub walk_passed : (k : List ℕ) (far : Far) (next : Bool) (c t : ℕ) → far.on ≡ false → far.read < length form → get_or form far.read 0 ≡ c → (c ≡ 37 → ⊥)
-      → t ≡ taken_by false c → t ≤ 1 → next ≡ next_on false false c (get_or vs far.taken 0) → far.taken ≤ far.read
+  pub walk_sign : (k : List ℕ) (far : Far) (next : Bool) (c t : ℕ) → far.read < length form → get_or form far.read 0 ≡ c → (c ≡ 37 → ⊥) → (far.on ≡ true → is_sign c ≡ true)
+      → t ≡ taken_by false c → t ≤ 1 → next ≡ next_on far.on false c (get_or vs far.taken 0) → far.taken ≤ far.read
       → Walks one other form vs k far k (record { at = far.at; read = far.read + 1; taken = far.taken + t; on = next })
-  unfolding byte_text
-  walk_passed k far next c t o h e n f g d s = walk_byte k far false next c t o h e n refl f g d s
+  walk_sign k far next c t h e n b f g d s = walk_byte k far far.on next c t refl h e n (silent far.on c (get_or vs far.taken 0) b) f g d s
 
 -- room for a mark, and for a run
 pub mark_room : (a b : ℕ) (form : List ℕ) (i : ℕ) → i + 1 < length form → get_or form i 0 ≡ 37 → most_shown a b (get_or form (i + 1) 0) ≤ most_from a b false (drop i form)
@@ -298,11 +297,3 @@ plain_then {form} {from} {mid} {to} p q = record { order = omega (arith, p.order
     go : (k : ℕ) → from ≤ k → k < to → Dec (k < mid) → is_sign (get_or form k 0) ≡ false
     go k low high (yes g) = p.plain k low g
     go k low high (no g) = q.plain k (omega (arith, g)) high
-
--- a piece of a form is some bytes long
-pub onward : {from to end n : ℕ} → from < n → from ≤ to → to ≤ end → (to < n → to < end) → from < end
-onward {from} {to} {end} {n} h f g k = go (dec_lt to n)
-  where
-    go : Dec (to < n) → from < end
-    go (yes l) = omega (arith, f, k l)
-    go (no l) = omega (arith, h, f, g, l)

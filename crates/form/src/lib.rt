@@ -29,6 +29,7 @@ pub fn fen_bits(x: SignedFen) -> u64
     bits64(x.0)
 }
 
+// Stays two functions: the names are public, and each body is one call.
 pub fn wh_bits(x: Wh) -> u64
     ensures { result ≡ bits x.0 }
 {
@@ -36,18 +37,19 @@ pub fn wh_bits(x: Wh) -> u64
 }
 
 // The number by which a signed number of 32 bits goes.
+// Stays two functions: the names are public, and each body is one call.
 pub fn signed_bits32(x: i32) -> u64
     ensures { result ≡ bits x }
 {
-    let wide = x as i64;
-    bits64(wide)
+    bits64(i64::from(x))
 }
 
 // The number by which a choice goes.
+#[tactic(auto, unfolding(crate::specs::Form::flag))]
 pub fn flag(chosen: bool) -> u64
     ensures { result ≡ flag chosen }
 {
-    if chosen { 1 } else { 0 }
+    u64::from(chosen)
 }
 
 // A form with two texts and numbers in it, from a place of a buffer on. Answers the place behind it.
@@ -69,6 +71,7 @@ pub fn fill_with(
         taken: 0,
         on: true,
     };
+    // Stays a while: each turn takes a run of plain bytes and the sign behind it, as long as they are.
     while far.read < form.len() {
         far = put_on(out, form, values, one, other, far);
     }

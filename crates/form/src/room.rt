@@ -21,6 +21,7 @@ fn is_ample(room: usize, long: usize, a: usize, b: usize) -> bool
     long <= room / (21 + a + b)
 }
 
+#[tactic(auto, unfolding(crate::specs::Form::most_word_shown))]
 fn most_word_shown(c: u8) -> usize
     ensures { result ≡ most_word_shown c }
 {
@@ -35,6 +36,7 @@ fn most_word_shown(c: u8) -> usize
     }
 }
 
+#[tactic(auto, unfolding(crate::specs::Form::most_shown))]
 fn most_shown(c: u8, a: usize, b: usize) -> usize
     ensures { result ≡ most_shown a b c }
 {
@@ -50,6 +52,7 @@ fn most_shown(c: u8, a: usize, b: usize) -> usize
     }
 }
 
+#[tactic(auto, unfolding(crate::specs::Form::most_byte))]
 fn most_byte(marked: bool, c: u8, a: usize, b: usize) -> usize
     ensures { result ≡ most_byte a b marked c }
 {
@@ -62,6 +65,7 @@ fn most_byte(marked: bool, c: u8, a: usize, b: usize) -> usize
     1
 }
 
+#[tactic(auto, unfolding(crate::specs::Form::next_marked))]
 fn next_marked(marked: bool, c: u8) -> bool
     ensures { result ≡ next_marked marked c }
 {
@@ -74,16 +78,13 @@ fn is_enough(room: usize, form: &[u8], a: usize, b: usize) -> bool
 {
     let mut left = room;
     let mut marked = false;
-    let mut i: usize = 0;
-    while i < form.len() {
-        let c = form[i];
-        let most = most_byte(marked, c, a, b);
+    for c in form {
+        let most = most_byte(marked, *c, a, b);
         if left < most {
             return false;
         }
         left -= most;
-        marked = next_marked(marked, c);
-        i += 1;
+        marked = next_marked(marked, *c);
     }
     true
 }

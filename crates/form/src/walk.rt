@@ -1,5 +1,5 @@
 // A form put piece by piece: a run of plain bytes, which is copied at once, and the sign behind it.
-ghost use Rattle.std.specs.Prelude.{◌≡◌, true, false, ◌||◌, List, ℕ, ◌+◌, ◌≤◌, ◌<◌, length, get_or};
+ghost use Rattle.std.specs.Prelude.{◌≡◌, true, false, ◌||◌, ◌+◌, ◌≤◌, ◌<◌, length, get_or};
 ghost use Rattle.form.specs.Form.{is_number, is_sign, next_on, taken_by};
 ghost use Rattle.form.specs.Inner.{Plain, Stops, room_left, Walks};
 
@@ -8,6 +8,7 @@ use render::put_word;
 
 // How far a form is put: the place behind what is put, how many of the form's bytes and of the numbers are used up, and whether bytes are shown
 // here.
+// Stays a flag: whether bytes are shown goes with a place of the form, and the numbers beside it stand either way.
 #[derive(Clone, Copy)]
 pub struct Far {
     pub at: usize,
@@ -16,12 +17,14 @@ pub struct Far {
     pub on: bool,
 }
 
+#[tactic(auto, unfolding(crate::specs::Form::is_number))]
 fn is_number(c: u8) -> bool
     ensures { result ≡ is_number c }
 {
-    (b'a' <= c) & (c <= b'z')
+    c.is_ascii_lowercase()
 }
 
+#[tactic(auto, unfolding(crate::specs::Form::is_sign))]
 pub fn is_sign(c: u8) -> bool
     ensures { result ≡ is_sign c }
 {
@@ -43,6 +46,7 @@ fn past_fours(form: &[u8], from: usize) -> usize
     ensures { Plain form.now from result }
 {
     let mut i = from;
+    // Stays a while: it goes four bytes at a time.
     while 4 <= form.len() - i {
         if sign_in_four(form, i) {
             return i;
@@ -58,14 +62,12 @@ fn past_ones(form: &[u8], from: usize) -> usize
     ensures plain { Plain form.now from result }
     ensures stops { Stops form.now result }
 {
-    let mut i = from;
-    while i < form.len() {
+    for i in from..form.len() {
         if is_sign(form[i]) {
             return i;
         }
-        i += 1;
     }
-    i
+    form.len()
 }
 
 // Where the run of plain bytes from a place on ends.
@@ -81,44 +83,42 @@ fn run_end(form: &[u8], from: usize) -> usize
 fn value_at(values: &[u64], i: usize) -> u64
     ensures { result ≡ get_or values.now i 0 }
 {
-    if i < values.len() { values[i] } else { 0 }
+    values.get(i).copied().unwrap_or(0)
 }
 
 // Whether bytes are shown behind a sign.
+#[tactic(auto, unfolding(crate::specs::Form::next_on))]
 fn next_on(on: bool, c: u8, v: u64) -> bool
     ensures { result ≡ next_on on false c v }
 {
-    if c == b'[' {
-        return v != 0;
+    match c {
+        b'[' => v != 0,
+        b'|' => !on,
+        b']' => true,
+        _ => on,
     }
-    if c == b'|' {
-        return !on;
-    }
-    if c == b']' {
-        return true;
-    }
-    on
 }
 
 // How many numbers a sign takes.
+#[tactic(auto, unfolding(crate::specs::Form::taken_by))]
 fn taken_by_sign(c: u8) -> usize
     ensures value { result ≡ taken_by false c }
     ensures upper_bound { result ≤ 1 }
 {
-    if c == b'[' { 1 } else { 0 }
+    usize::from(c == b'[')
 }
 
 // How many numbers the mark with such a letter takes.
+#[tactic(auto, unfolding(crate::specs::Form::taken_by))]
 fn taken_by_mark(c: u8) -> usize
     ensures value { result ≡ taken_by true c }
     ensures upper_bound { result ≤ 1 }
 {
-    if is_number(c) { 1 } else { 0 }
+    usize::from(is_number(c))
 }
 
-// A mark, its `%` at a place of a form.
+// A mark, its `%` at a place of a form: shown, or passed over where bytes are not shown.
 fn put_mark(out: &mut [u8], form: &[u8], values: &[u64], one: &[u8], other: &[u8], far: Far) -> Far
-    requires on_value { far.on ≡ true }
     requires read_in_bounds { far.read < length form.now }
     requires read_value { get_or form.now far.read 0 ≡ 37 }
     requires taken_le_read { far.taken ≤ far.read }
@@ -128,49 +128,50 @@ fn put_mark(out: &mut [u8], form: &[u8], values: &[u64], one: &[u8], other: &[u8
 {
     let k = far.read + 1;
     if k == form.len() {
-        return Far {
-            at: far.at,
-            read: k,
-            taken: far.taken,
-            on: true,
-        };
+        return Far { read: k, ..far };
     }
     let c = form[k];
+    let taken = far.taken + taken_by_mark(c);
+    if !far.on {
+        return Far {
+            read: k + 1,
+            taken,
+            ..far
+        };
+    }
     let v = value_at(values, far.taken);
-    let next = put_shown(out, far.at, c, v, one, other);
+    let at = put_shown(out, far.at, c, v, one, other);
     Far {
-        at: next,
+        at,
         read: k + 1,
-        taken: far.taken + taken_by_mark(c),
+        taken,
         on: true,
     }
 }
 
-// The sign at a place of a form that is shown there.
+// The sign at a place of a form; or, where bytes are not shown, the byte there.
 fn put_sign(out: &mut [u8], form: &[u8], values: &[u64], one: &[u8], other: &[u8], far: Far) -> Far
-    requires on_value { far.on ≡ true }
     requires read_in_bounds { far.read ≤ length form.now }
-    requires stops { Stops form.now far.read }
+    requires stops { far.on ≡ true → Stops form.now far.read }
     requires taken_le_read { far.taken ≤ far.read }
     requires read_in_bounds_2 { far.at + room_left one.now other.now form.now far.read ≤ length out.old }
     ensures walks { Walks one.now other.now form.now values.now out.old far out.new result }
     ensures read_le_read { far.read ≤ result.read }
     ensures read_lt_read { far.read < length form.now → far.read < result.read }
 {
-    let i = far.read;
-    if i == form.len() {
+    if far.read == form.len() {
         return far;
     }
-    let c = form[i];
+    let c = form[far.read];
     if c == b'%' {
         return put_mark(out, form, values, one, other, far);
     }
     let v = value_at(values, far.taken);
     Far {
         at: far.at,
-        read: i + 1,
+        read: far.read + 1,
         taken: far.taken + taken_by_sign(c),
-        on: next_on(true, c, v),
+        on: next_on(far.on, c, v),
     }
 }
 
@@ -183,66 +184,15 @@ fn put_piece(out: &mut [u8], form: &[u8], values: &[u64], one: &[u8], other: &[u
     ensures walks { Walks one.now other.now form.now values.now out.old far out.new result }
     ensures read_lt_read { far.read < result.read }
 {
-    let from = far.read;
-    let at = far.at;
-    let to = run_end(form, from);
-    let next = put_word(out, at, &form[from..to]);
+    let to = run_end(form, far.read);
+    let at = put_word(out, far.at, &form[far.read..to]);
     let here = Far {
-        at: next,
+        at,
         read: to,
         taken: far.taken,
         on: true,
     };
     put_sign(out, form, values, one, other, here)
-}
-
-// Where bytes are not shown: a mark that is passed over.
-fn past_mark(form: &[u8], far: Far) -> Far
-    requires on_value { far.on ≡ false }
-    requires read_in_bounds { far.read < length form.now }
-    requires read_value { get_or form.now far.read 0 ≡ 37 }
-    requires taken_le_read { far.taken ≤ far.read }
-    ensures walks { (one other vs out : List ℕ) → Walks one other form.now vs out far out result }
-    ensures read_lt_read { far.read < result.read }
-{
-    let k = far.read + 1;
-    if k == form.len() {
-        return Far {
-            at: far.at,
-            read: k,
-            taken: far.taken,
-            on: false,
-        };
-    }
-    let c = form[k];
-    Far {
-        at: far.at,
-        read: k + 1,
-        taken: far.taken + taken_by_mark(c),
-        on: false,
-    }
-}
-
-// Where bytes are not shown: a byte or a mark that is passed over.
-fn past_hidden(form: &[u8], values: &[u64], far: Far) -> Far
-    requires on_value { far.on ≡ false }
-    requires read_in_bounds { far.read < length form.now }
-    requires taken_le_read { far.taken ≤ far.read }
-    ensures by_index { (one other out : List ℕ) → Walks one other form.now values.now out far out result }
-    ensures read_lt_read { far.read < result.read }
-{
-    let i = far.read;
-    let c = form[i];
-    if c == b'%' {
-        return past_mark(form, far);
-    }
-    let v = value_at(values, far.taken);
-    Far {
-        at: far.at,
-        read: i + 1,
-        taken: far.taken + taken_by_sign(c),
-        on: next_on(false, c, v),
-    }
 }
 
 // One piece more.
@@ -263,5 +213,5 @@ pub fn put_on(
     if far.on {
         return put_piece(out, form, values, one, other, far);
     }
-    past_hidden(form, values, far)
+    put_sign(out, form, values, one, other, far)
 }

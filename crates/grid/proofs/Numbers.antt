@@ -12,7 +12,7 @@ use Rattle.le.proofs.Tests.{each, holds_or_fails}
 use Rattle.row.specs.Numbers.{is_digit, digits, not_empty, is_number, value, hold}
 use Rattle.grid.specs.declared.cell.Run.{Run}
 use Rattle.grid.specs.Meaning.{RunFrom}
-use Rattle.grid.specs.declared.alone.Told.TheVariants.{Number, Nothing}
+use Rattle.std.specs.Prelude.{Some, None}
 use Rattle.grid.specs.Alone.{told_of}
 
 some : (text : List ℕ) → 0 < length text → not_empty text ≡ true
@@ -25,7 +25,7 @@ digit_at (b ∷ bs) zero h k = (each (is_digit b) (digits bs ∷ []) h).0
 digit_at (b ∷ bs) (suc i) h k = digit_at bs i (each (is_digit b) (digits bs ∷ []) h).1.0 (omega arith)
 
 module _ (text : List ℕ) (r : Run) (f : RunFrom text 0 0 r) where
-  pub number_yes : (v : ℕ) → (ltb 0 r.end && eqb r.end (length text)) ≡ true → v ≡ hold r.value → Number v ≡ told_of text
+  pub number_yes : (v : ℕ) → (ltb 0 r.end && eqb r.end (length text)) ≡ true → v ≡ hold r.value → Some v ≡ told_of text
   unfolding told_of
   number_yes v h e =
       let t = each (ltb 0 r.end) (eqb r.end (length text) ∷ []) h in
@@ -33,13 +33,13 @@ module _ (text : List ℕ) (r : Run) (f : RunFrom text 0 0 r) where
       let whole : text ≡ f.read = f.stands ∙ ap (λ (x : List ℕ). f.read ++ x) (drop_of_length-le text {i = r.end} (omega arith)) ∙ append-nil f.read in
       let all : digits text ≡ true = ap digits whole ∙ f.all in
       let is : hold r.value ≡ hold (value 0 text) = f.worth [] ∙ ap (λ (x : List ℕ). hold (value 0 x)) (append-nil f.read ∙ sym whole) in
-      rw (all, some text (omega (arith, ltb-true 0 r.end t.0))) (ap Number (e ∙ is))
+      rw (all, some text (omega (arith, ltb-true 0 r.end t.0))) (ap Some (e ∙ is))
 
-  pub number_no : (ltb 0 r.end && eqb r.end (length text)) ≡ false → Nothing ≡ told_of text
+  pub number_no : (ltb 0 r.end && eqb r.end (length text)) ≡ false → None ≡ told_of text
   unfolding told_of
   number_no h = go (is_number text) refl
     where
-      go : (t : Bool) → is_number text ≡ t → Nothing ≡ cond t (Number (hold (value 0 text))) Nothing
+      go : (t : Bool) → is_number text ≡ t → None ≡ cond t (Some (hold (value 0 text))) None
       go false e = refl
       go true e = absurd (never (dec_lt r.end (length text)))
         where

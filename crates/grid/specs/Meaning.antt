@@ -110,6 +110,10 @@ head_left g l = ltb g.stage 4 && not (has_digit l)
 unfoldable pub blank_left : Grid → List ℕ → Bool
 blank_left g l = not g.filled && is_blank (plain_left g.shut l)
 
+-- a blank line is held back behind the line, if it ends here: a heading leaves what was before it
+abbrev pub blank_behind : Grid → Bool → Bool
+blank_behind g before = cond (head_left g []) before (blank_left g [])
+
 unfoldable pub row_left : (List ℕ → List ℕ) → Grid → List ℕ → List ℕ → List ℕ
 row_left say g ended l = say (cells_left g.at ended g.cell (parts_of comma (plain_left g.shut l)))
 

@@ -34,15 +34,9 @@ impl Cell {
     pub fn so_far(self) -> u64
         ensures { result ≡ cell_so_far self }
     {
-        let cell = self;
-        match cell {
-            Cell::Fresh => 0,
-            Cell::Bare(v) => v,
-            Cell::Opened => 0,
-            Cell::Quoted(v) => v,
-            Cell::Dashed => 0,
-            Cell::Closed(_) => 0,
-            Cell::Bad => 0,
+        match self {
+            Cell::Bare(v) | Cell::Quoted(v) => v,
+            _ => 0,
         }
     }
 
@@ -50,15 +44,10 @@ impl Cell {
     pub fn digits(self, v: u64) -> Cell
         ensures { result ≡ cell_digits self v }
     {
-        let cell = self;
-        match cell {
-            Cell::Fresh => Cell::Bare(v),
-            Cell::Bare(_) => Cell::Bare(v),
-            Cell::Opened => Cell::Quoted(v),
-            Cell::Quoted(_) => Cell::Quoted(v),
-            Cell::Dashed => Cell::Bad,
-            Cell::Closed(_) => Cell::Bad,
-            Cell::Bad => Cell::Bad,
+        match self {
+            Cell::Fresh | Cell::Bare(_) => Cell::Bare(v),
+            Cell::Opened | Cell::Quoted(_) => Cell::Quoted(v),
+            _ => Cell::Bad,
         }
     }
 
@@ -66,15 +55,11 @@ impl Cell {
     pub fn quote(self) -> Cell
         ensures { result ≡ cell_quote self }
     {
-        let cell = self;
-        match cell {
+        match self {
             Cell::Fresh => Cell::Opened,
-            Cell::Bare(_) => Cell::Bad,
-            Cell::Opened => Cell::Bad,
             Cell::Quoted(v) => Cell::Closed(hold(v)),
             Cell::Dashed => Cell::Closed(NONE_TOLD),
-            Cell::Closed(_) => Cell::Bad,
-            Cell::Bad => Cell::Bad,
+            _ => Cell::Bad,
         }
     }
 
@@ -82,31 +67,22 @@ impl Cell {
     pub fn dash(self) -> Cell
         ensures { result ≡ cell_dash self }
     {
-        let cell = self;
-        match cell {
+        match self {
             Cell::Fresh => Cell::Closed(NONE_TOLD),
-            Cell::Bare(_) => Cell::Bad,
             Cell::Opened => Cell::Dashed,
-            Cell::Quoted(_) => Cell::Bad,
-            Cell::Dashed => Cell::Bad,
-            Cell::Closed(_) => Cell::Bad,
-            Cell::Bad => Cell::Bad,
+            _ => Cell::Bad,
         }
     }
 
     // What the cell says, if it ends here.
+    #[tactic(auto, unfolding(crate::specs::Meaning::told_left))]
     pub fn told(self) -> u64
         ensures { result ≡ cell_told self }
     {
-        let cell = self;
-        match cell {
-            Cell::Fresh => NO_NUMBER,
+        match self {
             Cell::Bare(v) => hold(v),
-            Cell::Opened => NO_NUMBER,
-            Cell::Quoted(_) => NO_NUMBER,
-            Cell::Dashed => NO_NUMBER,
             Cell::Closed(n) => n,
-            Cell::Bad => NO_NUMBER,
+            _ => NO_NUMBER,
         }
     }
 }
@@ -116,15 +92,16 @@ pub fn run_from(text: &[u8], i: usize, v: u64) -> Run
     requires { i ≤ length text.now }
     ensures { RunFrom text.now i v result }
 {
-    let mut end = i;
     let mut value = v;
-    while end < text.len() {
+    for end in i..text.len() {
         let b = text[end];
         if !is_digit(b) {
             return Run { end, value };
         }
         value = grown(value, b);
-        end += 1;
     }
-    Run { end, value }
+    Run {
+        end: text.len(),
+        value,
+    }
 }

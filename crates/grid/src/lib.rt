@@ -9,7 +9,8 @@ ghost use Rattle.row.specs.Numbers.{line_feed, is_digit};
 ghost use Rattle.row.specs.Meaning.{most_columns};
 ghost use Rattle.grid.specs.Grid.{mark, is_separator, carriage_return, quote};
 ghost use Rattle.grid.specs.Told.{dash};
-ghost use Rattle.grid.specs.Meaning.{head_left, blank_left, grid_opened, mark_goes_on, grid_begun, grid_known, grid_spoilt, grid_digits, grid_first, InLine, Follows, StepFrom, Starts, Next};
+ghost use Rattle.grid.specs.Meaning.{head_left, blank_left, blank_behind, grid_opened, mark_goes_on, grid_begun, grid_known, grid_spoilt, grid_digits, grid_first, InLine, Follows, StepFrom};
+ghost use Rattle.grid.specs.Meaning.{Starts, Next};
 
 use cell::{Cell, run_from};
 use row::is_digit;
@@ -106,12 +107,10 @@ impl Grid {
     {
         if self.shut {
             return Grid {
-                stage: self.stage,
-                separator: self.separator,
                 filled: true,
                 shut: false,
                 cell: Cell::Bad,
-                at: self.at,
+                ..self
             };
         }
         self
@@ -144,12 +143,9 @@ impl Grid {
         ensures { result ≡ grid_spoilt self }
     {
         Grid {
-            stage: self.stage,
-            separator: self.separator,
             filled: true,
-            shut: self.shut,
             cell: Cell::Bad,
-            at: self.at,
+            ..self
         }
     }
 
@@ -157,15 +153,12 @@ impl Grid {
     fn digits(self, v: u64) -> Grid
         ensures { result ≡ grid_digits self v }
     {
-        let cell = self.cell;
-        let next = cell.digits(v);
+        let cell = self.cell.digits(v);
         Grid {
             stage: BODY,
-            separator: self.separator,
             filled: true,
-            shut: self.shut,
-            cell: next,
-            at: self.at,
+            cell,
+            ..self
         }
     }
 
@@ -202,25 +195,19 @@ impl Grid {
         ensures { Follows self ended.old self.separator result ended.new }
     {
         let at = self.at;
-        let cell = self.cell;
         if at < ended.len() {
-            ended[at] = cell.told();
+            ended[at] = self.cell.told();
             return Grid {
-                stage: self.stage,
-                separator: self.separator,
-                filled: self.filled,
                 shut: false,
                 cell: Cell::Fresh,
                 at: at + 1,
+                ..self
             };
         }
         Grid {
-            stage: self.stage,
-            separator: self.separator,
-            filled: self.filled,
             shut: false,
             cell: Cell::Fresh,
-            at,
+            ..self
         }
     }
 
@@ -243,15 +230,12 @@ impl Grid {
         requires { InLine self }
         ensures { (ended : List ℕ) → Follows self ended quote result ended }
     {
-        let cell = self.cell;
-        let next = cell.quote();
+        let cell = self.cell.quote();
         Grid {
-            stage: self.stage,
-            separator: self.separator,
             filled: true,
             shut: false,
-            cell: next,
-            at: self.at,
+            cell,
+            ..self
         }
     }
 
@@ -260,15 +244,12 @@ impl Grid {
         requires { InLine self }
         ensures { (ended : List ℕ) → Follows self ended dash result ended }
     {
-        let cell = self.cell;
-        let next = cell.dash();
+        let cell = self.cell.dash();
         Grid {
-            stage: self.stage,
-            separator: self.separator,
             filled: true,
             shut: false,
-            cell: next,
-            at: self.at,
+            cell,
+            ..self
         }
     }
 
@@ -324,8 +305,7 @@ impl Grid {
         ensures { (ended : List ℕ) → StepFrom text.now i self ended result ended }
     {
         let open = self.opened();
-        let cell = open.cell;
-        let run = run_from(text, i, cell.so_far());
+        let run = run_from(text, i, open.cell.so_far());
         Step {
             grid: open.digits(run.value),
             end: run.end,
@@ -373,5 +353,15 @@ impl Grid {
         ensures { result ≡ blank_left self [] }
     {
         !self.filled
+    }
+
+    // Whether a blank line is held back behind the line, if it ends here: a heading leaves what was before it.
+    pub fn holds_blank(self, before: bool) -> bool
+        ensures { result ≡ blank_behind self before }
+    {
+        if self.is_heading() {
+            return before;
+        }
+        self.is_blank()
     }
 }

@@ -46,6 +46,7 @@ use Rattle.hours.specs.declared.HourLine.{HourLine}
 use Rattle.hours.specs.Hours.{hour_columns, most_hours, as_hour_line, of_hour, last_hour, hour_line_is_sound}
 use Rattle.hours.specs.Outcomes.{LineWithin}
 use Rattle.hours.proofs.Sound.{line_within, within_line, none_bad}
+use Rattle.std.specs.Prelude.{Option, Some, None}
 use Rattle.hour_faults.specs.declared.HourWrong.{HourWrong}
 use Rattle.hour_faults.specs.HourFaults.{
   is_sound,
@@ -64,72 +65,73 @@ use Rattle.hour_faults.specs.HourFaults.{
 }
 use Rattle.hour_faults.proofs.Judging.{or_split, column_split}
 
-or_make : (x y : HourWrong) → is_sound x ≡ true → is_sound y ≡ true → is_sound (or_else x y) ≡ true
-or_make x y h k = rw h k
+or_make : (x y : Option HourWrong) → is_sound x ≡ true → is_sound y ≡ true → is_sound (or_else x y) ≡ true
+or_make None y h k = k
+or_make (Some wrong) y h k = h
 
 column_make : (column least most n : ℕ) → most ≤ ceiling → least ≤ n → n ≤ most → is_sound (column_fault column least most n) ≡ true
-unfolding column_fault is_sound
+unfolding column_fault
 column_make column least most n c h k = rw (le-ltb ceiling n (omega (arith, c, k)), le-leb least n h, le-leb n most k)
 
 -- a test that decides whether something is wrong
-picked : (t : Bool) (w : HourWrong) → is_sound w ≡ false → is_sound (cond t HourWrong.Sound w) ≡ true → t ≡ true
-picked true w b h = refl
-picked false w b h = absurd (holds_or_fails h b)
+picked : (t : Bool) (w : HourWrong) → is_sound (cond t None (Some w)) ≡ true → t ≡ true
+picked true w h = refl
+picked false w h = absurd (holds_or_fails h refl)
 
-picked_not : (t : Bool) (w : HourWrong) → is_sound w ≡ false → is_sound (cond t w HourWrong.Sound) ≡ true → t ≡ false
-picked_not false w b h = refl
-picked_not true w b h = absurd (holds_or_fails h b)
+picked_not : (t : Bool) (w : HourWrong) → is_sound (cond t (Some w) None) ≡ true → t ≡ false
+picked_not false w h = refl
+picked_not true w h = absurd (holds_or_fails h refl)
 
 month_split : (hours n : ℕ) → is_sound (month_fault hours n) ≡ true → n < hours
-unfolding month_fault is_sound
+unfolding month_fault
 month_split hours n h = go (ltb ceiling n) h
   where
-    go : (t : Bool) → is_sound (cond t (HourWrong.NoNumber 1) (cond (ltb n hours) HourWrong.Sound (HourWrong.Outside 1 n 0 (hours - 1)))) ≡ true → n < hours
+    go : (t : Bool) → is_sound (cond t (Some (HourWrong.NoNumber 1)) (cond (ltb n hours) None (Some (HourWrong.Outside 1 n 0 (hours - 1))))) ≡ true → n < hours
     go true k = absurd (holds_or_fails k refl)
-    go false k = ltb-true n hours (picked (ltb n hours) (HourWrong.Outside 1 n 0 (hours - 1)) refl k)
+    go false k = ltb-true n hours (picked (ltb n hours) (HourWrong.Outside 1 n 0 (hours - 1)) k)
 
 month_make : (hours n : ℕ) → hours ≤ ceiling → n < hours → is_sound (month_fault hours n) ≡ true
-unfolding month_fault is_sound
+unfolding month_fault
 month_make hours n c h = rw (le-ltb ceiling n (omega (arith, c, h)), lt-ltb n hours h)
 
 rising_split : (last hour : ℕ) → is_sound (rising_fault last hour) ≡ true → last ≤ hour
-unfolding rising_fault is_sound
-rising_split last hour h = leb-true last hour (picked (leb last hour) (HourWrong.Earlier hour last) refl h)
+unfolding rising_fault
+rising_split last hour h = leb-true last hour (picked (leb last hour) (HourWrong.Earlier hour last) h)
 
 rising_make : (last hour : ℕ) → last ≤ hour → is_sound (rising_fault last hour) ≡ true
-unfolding rising_fault is_sound
+unfolding rising_fault
 rising_make last hour h = rw (le-leb last hour h)
 
 full_split : (n hour : ℕ) → is_sound (full_fault n hour) ≡ true → n < most_actions
-unfolding full_fault is_sound
-full_split n hour h = ltb-true n most_actions (picked (ltb n most_actions) (HourWrong.Full hour) refl h)
+unfolding full_fault
+full_split n hour h = ltb-true n most_actions (picked (ltb n most_actions) (HourWrong.Full hour) h)
 
 full_make : (n hour : ℕ) → n < most_actions → is_sound (full_fault n hour) ≡ true
-unfolding full_fault is_sound
+unfolding full_fault
 full_make n hour h = rw (lt-ltb n most_actions h)
 
 standard_split : (first hour n : ℕ) → is_sound (standard_fault first hour n) ≡ true → n ≡ first
-unfolding standard_fault is_sound
-standard_split first hour n h = eqb-true n first (picked (eqb n first) (HourWrong.OtherStandard n hour first) refl h)
+unfolding standard_fault
+standard_split first hour n h = eqb-true n first (picked (eqb n first) (HourWrong.OtherStandard n hour first) h)
 
 standard_make : (first hour n : ℕ) → n ≡ first → is_sound (standard_fault first hour n) ≡ true
-unfolding standard_fault is_sound
+unfolding standard_fault
 standard_make first hour n h = rw (eq-eqb n first h)
 
 fast_split : (real standard : ℕ) → is_sound (fast_fault real standard) ≡ true → real ≤ most_over_standard * standard
-unfolding fast_fault is_sound
-fast_split real standard h = leb-true real (most_over_standard * standard) (picked (leb real (most_over_standard * standard)) (HourWrong.TooFast real standard) refl h)
+unfolding fast_fault
+fast_split real standard h = leb-true real (most_over_standard * standard) (picked (leb real (most_over_standard * standard)) (HourWrong.TooFast real standard) h)
 
 fast_make : (real standard : ℕ) → real ≤ most_over_standard * standard → is_sound (fast_fault real standard) ≡ true
-unfolding fast_fault is_sound
+unfolding fast_fault
 fast_make real standard h = rw (le-leb real (most_over_standard * standard) h)
 
 move_split : (start command : ℕ) → is_sound (move_fault start command) ≡ true → command ≡ start → ⊥
-unfolding move_fault is_sound
-move_split start command h = eqb-false command start (picked_not (eqb command start) (HourWrong.NoMove start) refl h)
+unfolding move_fault
+move_split start command h = eqb-false command start (picked_not (eqb command start) (HourWrong.NoMove start) h)
 
 move_make : (start command : ℕ) → (command ≡ start → ⊥) → is_sound (move_fault start command) ≡ true
-unfolding move_fault is_sound
+unfolding move_fault
 move_make start command h = rw (ne_eqb command start h)
 
 -- Seven cells
@@ -203,10 +205,10 @@ module _ (hours : ℕ) (before : List HourLine) (row : List ℕ) where
 
   -- a line without a fault has seven cells
   pub seven : is_sound (hour_fault hours before row) ≡ true → length row ≡ 7
-  unfolding hour_fault row_fault is_sound
+  unfolding hour_fault row_fault
   seven h = go (ℕ_discrete (length row) 7)
     where
-      other : (t : Bool) → is_sound (cond t HourWrong.Blank (HourWrong.Columns (length row) 7)) ≡ false
+      other : (t : Bool) → is_sound (cond t (Some HourWrong.Blank) (Some (HourWrong.Columns (length row) 7))) ≡ false
       other true = refl
       other false = refl
 

@@ -45,16 +45,16 @@ use Rattle.faults.specs.Faults.{first_line}
 use Rattle.faults.specs.Inner.{as_told}
 use Rattle.faults.proofs.Head.{first_small}
 use Rattle.hour_faults.specs.declared.HourWrong.{HourWrong}
-use Rattle.hour_faults.specs.declared.HourWrong.TheVariants.{Sound}
+use Rattle.std.specs.Prelude.{Option, Some, None}
 use Rattle.hour_faults.specs.declared.judge.Judge.{Judge}
-use Rattle.hour_faults.specs.HourFaults.{is_sound, rising_fault, action_fault, row_fault, hour_fault, found_from, first_hour_fault}
+use Rattle.hour_faults.specs.HourFaults.{is_sound, found_or, rising_fault, action_fault, row_fault, hour_fault, found_from, first_hour_fault}
 use Rattle.hour_faults.specs.Inner.{judge_first, filled_for, standard_for, judge_fault, judge_taking, judge_refusing, judge_of, judge_all, first_left, found_by, judge_left, found_left}
 use Rattle.hour_faults.proofs.Exact.{sound_line}
 use Rattle.hour_faults.proofs.Streaming.{stays}
 
 -- the judge keeps what it needs of these lines, none of which has a fault
 record Keeps (hours : ℕ) (before : List HourLine) (j : Judge) : Type 0 where
-  wrong : j.wrong ≡ Sound
+  wrong : j.wrong ≡ None
   month : j.hours ≡ hours
   sound : first_bad_line hours [] before ≡ length before
   low : last_hour before ≤ most_hours
@@ -71,7 +71,7 @@ keeps_none hours = record { wrong = refl; month = refl; sound = refl; low = omeg
 
 -- behind a later hour it does not matter what the row's own hour has
 earlier_same : (hours last n m first other : ℕ) (row : List ℕ) → get_or row 0 0 < last → row_fault hours last n first row ≡ row_fault hours last m other row
-unfolding row_fault action_fault rising_fault is_sound
+unfolding row_fault action_fault rising_fault
 earlier_same hours last n m first other row h = rw (lt-leb last (get_or row 0 0) h)
 
 module _ (hours : ℕ) (before : List HourLine) (j : Judge) (k : Keeps hours before j) where
@@ -151,18 +151,17 @@ module _ (hours : ℕ) (before : List HourLine) (j : Judge) (k : Keeps hours bef
 -- Rows
 
 module _ (hours : ℕ) (few : hours ≤ most_hours) (first : ℕ) (low : first ≤ 2) where
-  found_here : (before : List HourLine) (j : Judge) → Keeps hours before j → (w : HourWrong) → is_sound w ≡ false
-      → found_by first (judge_refusing j w) ≡ record { line = first + length before; wrong = w }
+  found_here : (before : List HourLine) (j : Judge) → Keeps hours before j → (w : HourWrong) → found_by first (judge_refusing j w) ≡ Some (record { line = first + length before; wrong = w })
   unfolding found_by judge_refusing
-  found_here before j k w bad =
+  found_here before j k w =
       let all = all_sound hours before k.sound in
       let small : first + j.count < 2 ^ 64 = omega (arith, k.count, all.few, good_most (of_hour (last_hour before) before) (all.good (last_hour before)), k.low, low) in
-      rw bad (λ i. record { line = (mod-eq_of_lt small ∙ ap (λ (n : ℕ). first + n) k.count) i; wrong = w })
+      λ i. Some (record { line = (mod-eq_of_lt small ∙ ap (λ (n : ℕ). first + n) k.count) i; wrong = w })
 
   found_same : (rows : List (List ℕ)) (before : List HourLine) (j : Judge) → Keeps hours before j → found_by first (judge_all j rows) ≡ found_from hours (first + length before) before rows
-  unfolding found_by judge_all found_from is_sound judge_of judge_refusing
+  unfolding found_by judge_all found_from judge_of judge_refusing
   found_same [] before j k = rw k.wrong
-  found_same (row ∷ rows) before j k = go (is_sound (hour_fault hours before row)) refl (found_same rows (before ++ as_hour_line row ∷ []))
+  found_same (row ∷ rows) before j k = go (hour_fault hours before row) refl (found_same rows (before ++ as_hour_line row ∷ []))
     where
       same : judge_fault j row ≡ hour_fault hours before row
       same = fault_same hours before j k row
@@ -170,28 +169,23 @@ module _ (hours : ℕ) (few : hours ≤ most_hours) (first : ℕ) (low : first �
       still : is_sound j.wrong ≡ true
       still = ap is_sound k.wrong
 
-      go : (t : Bool) → is_sound (hour_fault hours before row) ≡ t
+      go : (w : Option HourWrong) → hour_fault hours before row ≡ w
           → ((i : Judge) → Keeps hours (before ++ as_hour_line row ∷ []) i
           → found_by first (judge_all i rows) ≡ found_from hours (first + length (before ++ as_hour_line row ∷ [])) (before ++ as_hour_line row ∷ []) rows)
           → found_by first (judge_all (judge_of j row) rows)
-          ≡ cond t (found_from hours (suc (first + length before)) (before ++ as_hour_line row ∷ []) rows) (record { line = first + length before; wrong = hour_fault hours before row })
-      go true e more =
-          let one : judge_of j row ≡ judge_taking j row = rw (still, ap is_sound same ∙ e) in
+          ≡ found_or (first + length before) w (found_from hours (suc (first + length before)) (before ++ as_hour_line row ∷ []) rows)
+      go None e more =
+          let one : judge_of j row ≡ judge_taking j row = rw (still, same ∙ e) in
           let next : first + length (before ++ as_hour_line row ∷ []) ≡ suc (first + length before) = omega (arith, length-append before (as_hour_line row ∷ [])) in
-          ap (λ (i : Judge). found_by first (judge_all i rows)) one ∙ more (judge_taking j row) (keeps_more hours before j k few row e)
+          ap (λ (i : Judge). found_by first (judge_all i rows)) one ∙ more (judge_taking j row) (keeps_more hours before j k few row (ap is_sound e))
           ∙ ap (λ (n : ℕ). found_from hours n (before ++ as_hour_line row ∷ []) rows) next
-      go false e more =
-          let bad = ap is_sound same ∙ e in
-          let one : judge_of j row ≡ judge_refusing j (judge_fault j row) = rw (still, bad) in
-          ap (λ (i : Judge). found_by first (judge_all i rows)) one ∙ ap (λ (i : Judge). found_by first i) (stays rows (judge_refusing j (judge_fault j row)) (refuses j (judge_fault j row) bad))
-          ∙ found_here before j k (judge_fault j row) bad ∙ ap (λ (w : HourWrong). record { line = first + length before; wrong = w }) same
-        where
-          refuses : (i : Judge) (w : HourWrong) → is_sound w ≡ false → is_sound (judge_refusing i w).wrong ≡ false
-          refuses i w h = h
+      go (Some w) e more =
+          let one : judge_of j row ≡ judge_refusing j w = rw (still, same ∙ e) in
+          ap (λ (i : Judge). found_by first (judge_all i rows)) one ∙ ap (λ (i : Judge). found_by first i) (stays rows (judge_refusing j w) refl) ∙ found_here before j k w
 
 -- THE FINDER BEFORE ANY BYTE would find what is wrong with the text
 pub found_start : (hours : ℕ) → hours ≤ most_hours → (grid : Grid) → Starts grid → (ended : List ℕ) (j : Judge) → j ≡ judge_first hours → (rest : List ℕ)
-    → found_left (record { grid = grid; ended = ended; blank = false; first = 0; judge = j }) rest ≡ first_hour_fault hours rest
+    → found_left (record { grid = grid; ended = ended; blank = false; first = None; judge = j }) rest ≡ first_hour_fault hours rest
 unfolding found_left judge_left first_left first_hour_fault one_if
 found_start hours few grid s ended j e rest =
     (λ i. found_by (first_line rest) (judge_all (e i) (s.rows as_told ended rest i)))

@@ -1,67 +1,34 @@
 -- What is wrong with a line of so many cells, and what it does to the judge. Assumes nothing.
-use Rattle.std.proofs.Common.{
-  ◌≡◌,
-  ℕ,
-  ◌+◌,
-  ◌-◌,
-  ◌%◌,
-  ◌^◌,
-  ◌<◌,
-  ◌≤◌,
-  Bool,
-  true,
-  false,
-  cond,
-  ◌&&◌,
-  ltb,
-  leb,
-  List,
-  [],
-  length,
-  get_or,
-  take,
-  sym,
-  refl,
-  ap,
-  ◌∙◌,
-  arith,
-  length-take,
-  get_or-take,
-  le-ltb,
-  eq-eqb,
-  ne_eqb,
-  leb-true,
-}
+use Rattle.std.proofs.Common.{◌≡◌, ℕ, ◌+◌, ◌%◌, ◌^◌, ◌<◌, ◌≤◌, Bool, true, false, cond, ◌&&◌, ltb, leb, List, [], length, get_or, take, sym, refl, ap, ◌∙◌, arith, length-take, get_or-take}
+use Rattle.std.proofs.Common.{eq-eqb, ne_eqb, leb-true}
 use native.Mathlib.Decide.{ℕ_discrete}
 use Rattle.le.proofs.Tests.{holds_or_fails}
 use Rattle.row.specs.Numbers.{ceiling}
 use Rattle.ramp.specs.Ramping.{most_ramp_rate}
+use Rattle.std.specs.Prelude.{Option, Some, None}
 use Rattle.hour_faults.specs.declared.HourWrong.{HourWrong}
-use Rattle.hour_faults.specs.declared.HourWrong.TheVariants.{Sound, Blank, Columns, Outside}
+use Rattle.hour_faults.specs.declared.HourWrong.TheVariants.{Blank, Columns}
 use Rattle.hour_faults.specs.declared.judge.Judge.{Judge}
 use Rattle.hour_faults.specs.HourFaults.{is_sound, or_else, column_fault, month_fault, cells_fault, action_fault, row_fault}
 use Rattle.hour_faults.specs.Inner.{filled_for, standard_for, judge_fault, judge_taking, judge_refusing, judge_of}
 
 -- Two faults
 
-pub or_is : {x y a b : HourWrong} → x ≡ a → y ≡ b → or_else x y ≡ or_else a b
+pub or_is : {x y a b : Option HourWrong} → x ≡ a → y ≡ b → or_else x y ≡ or_else a b
 or_is e f = λ i. or_else (e i) (f i)
 
-pub or_split : (x y : HourWrong) → is_sound (or_else x y) ≡ true → (is_sound x ≡ true) × (is_sound y ≡ true)
-or_split x y h = go (is_sound x) refl h
-  where
-    go : (t : Bool) → is_sound x ≡ t → is_sound (cond t y x) ≡ true → (is_sound x ≡ true) × (is_sound y ≡ true)
-    go true e k = (e, k)
-    go false e k = absurd (holds_or_fails k e)
+pub or_split : (x y : Option HourWrong) → is_sound (or_else x y) ≡ true → (is_sound x ≡ true) × (is_sound y ≡ true)
+or_split None y h = (refl, h)
+or_split (Some wrong) y h = absurd (holds_or_fails h refl)
 
 -- A number within limits
 
 pub column_split : (column least most n : ℕ) → is_sound (column_fault column least most n) ≡ true → (leb least n ≡ true) × (leb n most ≡ true)
-unfolding column_fault is_sound
+unfolding column_fault
 column_split column least most n h = go (ltb ceiling n) (leb least n) refl (leb n most) refl h
   where
     go : (t u : Bool) → leb least n ≡ u → (v : Bool) → leb n most ≡ v
-        → is_sound (cond t (HourWrong.NoNumber column) (cond (u && v) HourWrong.Sound (HourWrong.Outside column n least most))) ≡ true → (leb least n ≡ true) × (leb n most ≡ true)
+        → is_sound (cond t (Some (HourWrong.NoNumber column)) (cond (u && v) None (Some (HourWrong.Outside column n least most)))) ≡ true → (leb least n ≡ true) × (leb n most ≡ true)
     go true u e v f k = absurd (holds_or_fails k refl)
     go false true e true f k = (e, f)
     go false true e false f k = absurd (holds_or_fails k refl)
@@ -79,20 +46,15 @@ low_standard hours cells h =
     let p6 = or_split (column_fault 6 0 1000000 (get_or cells 5 0)) _ p5.1 in
     leb-true _ _ (column_split 7 1 1000000 (get_or cells 6 0) p6.1).1
 
--- an hour past the month
-pub month_out : (hours n : ℕ) → n ≤ ceiling → hours ≤ n → (most : ℕ) → most ≡ hours - 1 → Outside 1 n 0 most ≡ month_fault hours n
-unfolding month_fault
-month_out hours n h k most e = rw (le-ltb ceiling n h, le-ltb n hours k, e)
-
 -- A line without a fault
 
 pub taking_is : (j : Judge) (cells : List ℕ) (n first count filled : ℕ) → n ≡ filled_for j (get_or cells 0 0) → first ≡ standard_for j n (get_or cells 6 0)
     → count ≡ (j.count + 1) % 2 ^ 64 → filled ≡ (n + 1) % 2 ^ 64
-    → record { wrong = Sound; hours = j.hours; count = count; last = get_or cells 0 0; filled = filled; first = first } ≡ judge_taking j cells
+    → record { wrong = None; hours = j.hours; count = count; last = get_or cells 0 0; filled = filled; first = first } ≡ judge_taking j cells
 unfolding judge_taking
 taking_is j cells n first count filled a b e f =
     λ i. record {
-      wrong = Sound;
+      wrong = None;
       hours = j.hours;
       count = e i;
       last = get_or cells 0 0;
@@ -109,13 +71,13 @@ module _ (j : Judge) (cells : List ℕ) (count : ℕ) (few : count ≤ length ce
   long : length row ≡ count
   long = omega (arith, length-take count cells)
 
-  pub fault_blank : count ≡ 0 → Blank ≡ judge_fault j row
+  pub fault_blank : count ≡ 0 → Some Blank ≡ judge_fault j row
   unfolding judge_fault row_fault
   fault_blank e = rw (eq-eqb (length row) 0 (long ∙ e))
 
-  pub fault_columns : (count ≡ 0 → ⊥) → (count ≡ 7 → ⊥) → Columns count 7 ≡ judge_fault j row
+  pub fault_columns : (count ≡ 0 → ⊥) → (count ≡ 7 → ⊥) → Some (Columns count 7) ≡ judge_fault j row
   unfolding judge_fault row_fault
-  fault_columns n m = rw (ne_eqb (length row) 0 (λ z. n (sym long ∙ z)), ne_eqb (length row) 7 (λ z. m (sym long ∙ z))) (ap (λ (k : ℕ). Columns k 7) (sym long))
+  fault_columns n m = rw (ne_eqb (length row) 0 (λ z. n (sym long ∙ z)), ne_eqb (length row) 7 (λ z. m (sym long ∙ z))) (ap (λ (k : ℕ). Some (Columns k 7)) (sym long))
 
   -- seven are judged by those alone
   cell : count ≡ 7 → (i : ℕ) → i < 7 → get_or cells i 0 ≡ get_or row i 0
@@ -137,7 +99,7 @@ module _ (j : Judge) (cells : List ℕ) (count : ℕ) (few : count ≤ length ce
 
   -- a line without a fault has seven
   pub sound_seven : is_sound (judge_fault j row) ≡ true → count ≡ 7
-  unfolding judge_fault row_fault is_sound
+  unfolding judge_fault row_fault
   sound_seven h = go (ℕ_discrete count 7)
     where
       go : Dec (count ≡ 7) → count ≡ 7
@@ -156,13 +118,13 @@ module _ (j : Judge) (cells : List ℕ) (count : ℕ) (few : count ≤ length ce
   unfolding judge_of
   judged_found s = rw s
 
-  pub judged_bad : is_sound j.wrong ≡ true → is_sound (judge_fault j row) ≡ false → judge_refusing j (judge_fault j row) ≡ judge_of j row
+  pub judged_bad : is_sound j.wrong ≡ true → (wrong : HourWrong) → judge_fault j row ≡ Some wrong → judge_refusing j wrong ≡ judge_of j row
   unfolding judge_of
-  judged_bad s b = rw (s, b)
+  judged_bad s wrong b = rw (s, b)
 
-  pub judged_sound : is_sound j.wrong ≡ true → is_sound (judge_fault j row) ≡ true → judge_taking j cells ≡ judge_of j row
+  pub judged_sound : is_sound j.wrong ≡ true → judge_fault j row ≡ None → judge_taking j cells ≡ judge_of j row
   unfolding judge_of
-  judged_sound s b = rw (s, b) (taking_part (sound_seven b))
+  judged_sound s b = rw (s, b) (taking_part (sound_seven (ap is_sound b)))
 
 -- A blank line
 
@@ -171,5 +133,5 @@ unfolding judge_of
 spoilt_found j s = rw s
 
 pub spoilt_now : (j : Judge) → is_sound j.wrong ≡ true → judge_refusing j Blank ≡ judge_of j []
-unfolding judge_of judge_fault row_fault is_sound
+unfolding judge_of judge_fault row_fault
 spoilt_now j s = rw s

@@ -45,7 +45,7 @@ use Rattle.hours.specs.declared.HoursFault.TheVariants.{NoFault, OfMember, AtLin
 use Rattle.hours.specs.Hours.{hour_columns, most_hours, as_hour_line, hour_lines, hour_line_is_sound, first_bad_line, hours_refused, hours_paid, hours_of_lines, read_hours}
 use Rattle.faults.specs.Faults.{first_line}
 use Rattle.hour_faults.specs.declared.HourWrong.{HourWrong}
-use Rattle.hour_faults.specs.declared.HourWrong.TheVariants.{Sound}
+use Rattle.std.specs.Prelude.{Option, Some, None}
 use Rattle.hour_faults.specs.declared.HourFound.{HourFound}
 use Rattle.hour_faults.specs.declared.Finder.{Finder}
 use Rattle.hour_faults.specs.HourFaults.{is_sound, hour_fault, none_found, found_from, first_hour_fault}
@@ -53,30 +53,28 @@ use Rattle.hour_faults.specs.Inner.{found_left}
 use Rattle.hour_faults.proofs.Exact.{seven, sound_line, line_sound, row_same, row_alike}
 
 -- nothing is wrong where the test says so
-sound_is : (w : HourWrong) → is_sound w ≡ true → w ≡ Sound
-unfolding is_sound
-sound_is HourWrong.Sound h = refl
-sound_is HourWrong.Blank h = absurd (holds_or_fails h refl)
-sound_is (HourWrong.Columns n wanted) h = absurd (holds_or_fails h refl)
-sound_is (HourWrong.NoNumber column) h = absurd (holds_or_fails h refl)
-sound_is (HourWrong.Outside column n least most) h = absurd (holds_or_fails h refl)
-sound_is (HourWrong.Earlier hour last) h = absurd (holds_or_fails h refl)
-sound_is (HourWrong.Full hour) h = absurd (holds_or_fails h refl)
-sound_is (HourWrong.OtherStandard n hour first) h = absurd (holds_or_fails h refl)
-sound_is (HourWrong.TooFast real standard) h = absurd (holds_or_fails h refl)
-sound_is (HourWrong.NoMove power) h = absurd (holds_or_fails h refl)
+sound_is : (w : Option HourWrong) → is_sound w ≡ true → w ≡ None
+sound_is None h = refl
+sound_is (Some wrong) h = absurd (holds_or_fails h refl)
 
-is_sound_lem : (w : HourWrong) → w ≡ Sound → is_sound w ≡ true
-unfolding is_sound
+is_sound_lem : (w : Option HourWrong) → w ≡ None → is_sound w ≡ true
 is_sound_lem w e = ap is_sound e
 
 -- NOTHING IS WRONG WITH A LINE exactly where it has seven cells and is sound behind the lines before it.
 pub fault_exactly : (hours : ℕ) → hours ≤ most_hours → (before : List HourLine) (row : List ℕ)
-    → (hour_fault hours before row ≡ Sound) ↔ ((length row ≡ hour_columns) × (hour_line_is_sound hours before (as_hour_line row) ≡ true))
+    → (hour_fault hours before row ≡ None) ↔ ((length row ≡ hour_columns) × (hour_line_is_sound hours before (as_hour_line row) ≡ true))
 fault_exactly hours few before row = (
   λ e. (seven hours before row (is_sound_lem (hour_fault hours before row) e), sound_line hours before row (is_sound_lem (hour_fault hours before row) e)),
   λ p. sound_is (hour_fault hours before row) (line_sound hours before row few p.0 p.1),
 )
+
+-- a fault that is told, and its line
+some_or_none : {found : HourFound} → Some found ≡ None → ⊥
+some_or_none e = cc
+
+abbrev line_of : Option HourFound → ℕ
+line_of None = 0
+line_of (Some found) = found.line
 
 -- The rows of a file
 
@@ -101,29 +99,29 @@ module _ (hours : ℕ) (few : hours ≤ most_hours) where
   -- where a line is bad it is found, and where none is none is
   record Finds (line : ℕ) (before : List HourLine) (rows : List (List ℕ)) : Type 0 where
     bad : first_bad_line hours before (lines_by rows) < length (lines_by rows)
-        → (is_sound (found_from hours line before rows).wrong ≡ false) × ((found_from hours line before rows).line ≡ line + first_bad_line hours before (lines_by rows))
+        → (found : HourFound) × (found_from hours line before rows ≡ Some found) × (found.line ≡ line + first_bad_line hours before (lines_by rows))
     none : length (lines_by rows) ≤ first_bad_line hours before (lines_by rows) → found_from hours line before rows ≡ none_found
 
   finds : (rows : List (List ℕ)) (line : ℕ) (before : List HourLine) → Finds line before rows
   unfolding found_from first_bad_line
   finds [] line before = record { bad = λ h. absurd (omega (arith, h)); none = λ h. refl }
-  finds (row ∷ rows) line before = go (is_sound (hour_fault hours before row)) refl (finds rows (suc line))
+  finds (row ∷ rows) line before = go (hour_fault hours before row) refl (finds rows (suc line))
     where
-      go : (t : Bool) → is_sound (hour_fault hours before row) ≡ t → ((b : List HourLine) → Finds (suc line) b rows) → Finds line before (row ∷ rows)
-      go true e more =
+      go : (w : Option HourWrong) → hour_fault hours before row ≡ w → ((b : List HourLine) → Finds (suc line) b rows) → Finds line before (row ∷ rows)
+      go None e more =
           let l = as_hour_line (row_by hour_columns row) in
-          let good : hour_line_is_sound hours before l ≡ true = sym (row_alike hours few before row) ∙ e in
-          let is : l ≡ as_hour_line row = ap as_hour_line (row_same hours few before row e) in
+          let good : hour_line_is_sound hours before l ≡ true = sym (row_alike hours few before row) ∙ ap is_sound e in
+          let is : l ≡ as_hour_line row = ap as_hour_line (row_same hours few before row (ap is_sound e)) in
           let f = more (before ++ as_hour_line row ∷ []) in
           let swap : first_bad_line hours (before ++ l ∷ []) (lines_by rows) ≡ first_bad_line hours (before ++ as_hour_line row ∷ []) (lines_by rows) =
           ap (λ (x : HourLine). first_bad_line hours (before ++ x ∷ []) (lines_by rows)) is in
           record {
-            bad = rw (good, e) (λ h. let k = f.bad (omega (arith, h, swap)) in (k.0, omega (arith, k.1, swap)));
+            bad = rw (good, e) (λ h. let k = f.bad (omega (arith, h, swap)) in (k.0, k.1, omega (arith, k.2, swap)));
             none = rw (good, e) (λ h. f.none (omega (arith, h, swap)));
           }
-      go false e more =
-          let bad : hour_line_is_sound hours before (as_hour_line (row_by hour_columns row)) ≡ false = sym (row_alike hours few before row) ∙ e in
-          record { bad = rw (bad, e) (λ h. (e, omega arith)); none = rw (bad, e) (λ h. absurd (omega (arith, h))) }
+      go (Some wrong) e more =
+          let bad : hour_line_is_sound hours before (as_hour_line (row_by hour_columns row)) ≡ false = sym (row_alike hours few before row) ∙ ap is_sound e in
+          record { bad = rw (bad, e) (λ h. (record { line = line; wrong = wrong }, refl, omega arith)); none = rw (bad, e) (λ h. absurd (omega (arith, h))) }
 
   -- A file of a member that may ramp
 
@@ -150,7 +148,7 @@ module _ (hours : ℕ) (few : hours ≤ most_hours) where
 
     -- THE FIRST FAULT IS WHERE READING REFUSES: at the row of that line, and only there.
     pub first_refused_lem : (p : ℕ) → ((read_hours m hours text).fault ≡ AtLine p)
-        ↔ (((first_hour_fault hours text).wrong ≡ Sound → ⊥) × ((first_hour_fault hours text).line ≡ first_line text + p))
+        ↔ ((found : HourFound) × (first_hour_fault hours text ≡ Some found) × (found.line ≡ first_line text + p))
     unfolding first_hour_fault place
     first_refused_lem p = go (dec_lt first (length (lines_by rows)))
       where
@@ -158,19 +156,19 @@ module _ (hours : ℕ) (few : hours ≤ most_hours) where
         f = finds rows (first_line text) []
 
         go : Dec (first < length (lines_by rows)) → ((read_hours m hours text).fault ≡ AtLine p)
-            ↔ (((found_from hours (first_line text) [] rows).wrong ≡ Sound → ⊥) × ((found_from hours (first_line text) [] rows).line ≡ first_line text + p))
+            ↔ ((found : HourFound) × (found_from hours (first_line text) [] rows ≡ Some found) × (found.line ≡ first_line text + p))
         go (yes h) =
             let told : (read_hours m hours text).fault ≡ AtLine first = fault_is ∙ rw (lt-ltb first (length (lines_by rows)) h) in
             let b = f.bad h in (
               λ e. let same : suc first ≡ suc p = ap place (sym told ∙ e) in
-                  (λ s. holds_or_fails (is_sound_lem (found_from hours (first_line text) [] rows).wrong s) b.0, omega (arith, b.1, same)),
-              λ q. let same : first ≡ p = omega (arith, b.1, q.1) in told ∙ ap AtLine same,
+                  (b.0, b.1, omega (arith, b.2, same)),
+              λ q. let one : b.0.line ≡ q.0.line = ap line_of (sym b.1 ∙ q.1) in let same : first ≡ p = omega (arith, b.2, q.2, one) in told ∙ ap AtLine same,
             )
         go (no h) =
             let told : (read_hours m hours text).fault ≡ NoFault = fault_is ∙ rw (le-ltb first (length (lines_by rows)) (omega (arith, h))) in
             let n = f.none (omega (arith, h)) in (
               λ e. let never : 0 ≡ suc p = ap place (sym told ∙ e) in absurd (omega (arith, never)),
-              λ q. absurd (q.0 (ap (λ (x : HourFound). x.wrong) n)),
+              λ q. absurd (some_or_none (sym q.1 ∙ n)),
             )
 
     -- A FILE WITHOUT A FAULT IS TAKEN, and no other.
@@ -186,7 +184,7 @@ module _ (hours : ℕ) (few : hours ≤ most_hours) where
             let told : (read_hours m hours text).fault ≡ AtLine first = fault_is ∙ rw (lt-ltb first (length (lines_by rows)) h) in
             let b = f.bad h in (
               λ e. let never : suc first ≡ 0 = ap place (sym told ∙ e) in absurd (omega (arith, never)),
-              λ q. absurd (holds_or_fails (is_sound_lem (found_from hours (first_line text) [] rows).wrong (ap (λ (x : HourFound). x.wrong) q)) b.0),
+              λ q. absurd (some_or_none (sym b.1 ∙ q)),
             )
         go (no h) =
             let told : (read_hours m hours text).fault ≡ NoFault = fault_is ∙ rw (le-ltb first (length (lines_by rows)) (omega (arith, h))) in
@@ -205,14 +203,14 @@ streamed_left hours text r (fed before bytes f _ k s) rest =
     s rest ∙ streamed_left hours before f k (bytes ++ rest) ∙ ap (first_hour_fault hours) (sym (append_assoc before bytes rest))
 
 -- IN WHATEVER PARTS a file came, what is found is its first fault;
-pub stream_finds : (hours : ℕ) (text : List ℕ) (f : Finder) → Streamed hours text f → (r : HourFound) → r ≡ found_left f [] → r ≡ first_hour_fault hours text
+pub stream_finds : (hours : ℕ) (text : List ℕ) (f : Finder) → Streamed hours text f → (r : Option HourFound) → r ≡ found_left f [] → r ≡ first_hour_fault hours text
 stream_finds hours text f s r e = e ∙ streamed_left hours text f s [] ∙ ap (first_hour_fault hours) (append-nil text)
 
 -- so two of one file find the same;
-pub finish_determined : (hours : ℕ) (text : List ℕ) (f g : Finder) → Streamed hours text f → Streamed hours text g → (r s : HourFound) → r ≡ found_left f [] → s ≡ found_left g [] → r ≡ s
+pub finish_determined : (hours : ℕ) (text : List ℕ) (f g : Finder) → Streamed hours text f → Streamed hours text g → (r s : Option HourFound) → r ≡ found_left f [] → s ≡ found_left g [] → r ≡ s
 finish_determined hours text f g a b r s e h = stream_finds hours text f a r e ∙ sym (stream_finds hours text g b s h)
 
-pub found_determined : (hours : ℕ) (text : List ℕ) (r s : HourFound) → r ≡ first_hour_fault hours text → s ≡ first_hour_fault hours text → r ≡ s
+pub found_determined : (hours : ℕ) (text : List ℕ) (r s : Option HourFound) → r ≡ first_hour_fault hours text → s ≡ first_hour_fault hours text → r ≡ s
 found_determined hours text r s e f = e ∙ sym f
 
 -- and once it is settled, no bytes that follow change it.

@@ -1,42 +1,6 @@
 -- What the end of a line, a step and the end of the file do to what a finder would find. Assumes nothing.
-use Rattle.std.proofs.Common.{
-  ◌≡◌,
-  ℕ,
-  suc,
-  ◌+◌,
-  ◌<◌,
-  ◌≤◌,
-  Bool,
-  true,
-  false,
-  cond,
-  not,
-  ◌&&◌,
-  ◌||◌,
-  leb,
-  List,
-  [],
-  ◌∷◌,
-  ◌++◌,
-  map,
-  length,
-  get_or,
-  take,
-  drop,
-  replicate,
-  sym,
-  refl,
-  ap,
-  ◌∙◌,
-  append_assoc,
-  arith,
-  length-append,
-  drop_of_length-le,
-  length-take,
-  eq-eqb,
-  ne_eqb,
-  leb-true,
-}
+use Rattle.std.proofs.Common.{◌≡◌, ℕ, suc, ◌+◌, ◌<◌, ◌≤◌, Bool, true, false, cond, not, ◌&&◌, ◌||◌, leb, List, [], ◌∷◌, ◌++◌, map, length, get_or, take, drop, replicate, sym, refl, ap, ◌∙◌}
+use Rattle.std.proofs.Common.{append_assoc, arith, length-append, drop_of_length-le, length-take, leb-true}
 use borrow.Author.Tests.{not-true}
 use Rattle.le.proofs.Tests.{each}
 use Rattle.row.specs.Numbers.{line_feed, parts_of}
@@ -52,7 +16,9 @@ use Rattle.hours.specs.Hours.{hour_columns}
 use Rattle.hours.specs.Inner.{one_if}
 use Rattle.hours.proofs.Lost.{rows_begin}
 use Rattle.faults.specs.Inner.{as_told}
-use Rattle.hour_faults.specs.declared.HourWrong.TheVariants.{Columns}
+use Rattle.hour_faults.specs.declared.HourWrong.TheVariants.{Blank, Columns}
+use Rattle.std.specs.Prelude.{Option, is_none}
+use Rattle.hour_faults.proofs.First.{first_known}
 use Rattle.hour_faults.specs.declared.HourFound.{HourFound}
 use Rattle.hour_faults.specs.declared.judge.Judge.{Judge}
 use Rattle.hour_faults.specs.declared.Finder.{Finder}
@@ -72,10 +38,10 @@ stays (row ∷ rows) j h = ap (λ (k : Judge). judge_all k rows) (one_stays j h 
 
 -- a blank line is one
 spoils : (j : Judge) → is_sound (judge_of j []).wrong ≡ false
-unfolding judge_of judge_fault row_fault judge_refusing is_sound
+unfolding judge_of judge_fault row_fault judge_refusing
 spoils j = go (is_sound j.wrong) refl
   where
-    go : (t : Bool) → is_sound j.wrong ≡ t → is_sound (cond t (judge_refusing j (judge_fault j [])) j).wrong ≡ false
+    go : (t : Bool) → is_sound j.wrong ≡ t → is_sound (cond t (judge_refusing j Blank) j).wrong ≡ false
     go true e = refl
     go false e = e
 
@@ -154,22 +120,22 @@ pub found_fed : (bytes : List ℕ) (f r : Finder) → ((rest : List ℕ) → fir
 unfolding found_left judge_left
 found_fed bytes f r a b rest = λ i. found_by (a rest i) (b rest i)
 
-pub found_ends : (f : Finder) (first : ℕ) (j : Judge) (found : HourFound) → first ≡ first_left f.first [] → j ≡ judge_after f.judge f.blank f.grid f.ended
+pub found_ends : (f : Finder) (first : ℕ) (j : Judge) (found : Option HourFound) → first ≡ first_left f.first [] → j ≡ judge_after f.judge f.blank f.grid f.ended
     → found ≡ found_by first j → found ≡ found_left f []
 unfolding found_left judge_left
 found_ends f first j found a b e = e ∙ (λ i. found_by (a i) ((b ∙ left_ends f.judge f.blank f.grid f.ended) i))
 
 -- Settled
 
-pub found_settled : (f : Finder) → is_sound f.judge.wrong ≡ false → (f.first ≡ 0 → ⊥) → (rest : List ℕ) → found_left f rest ≡ found_left f []
-unfolding found_left judge_left first_left
-found_settled f h n rest = rw (ne_eqb f.first 0 n)
-    (λ i. found_by f.first ((stays (rows_left as_told (one_if f.blank) f.grid f.ended rest) f.judge h
+pub found_settled : (f : Finder) → is_sound f.judge.wrong ≡ false → is_none f.first ≡ false → (rest : List ℕ) → found_left f rest ≡ found_left f []
+unfolding found_left judge_left
+found_settled f h n rest =
+    (λ i. found_by (first_known f.first n rest [] i) ((stays (rows_left as_told (one_if f.blank) f.grid f.ended rest) f.judge h
     ∙ sym (stays (rows_left as_told (one_if f.blank) f.grid f.ended []) f.judge h)) i))
 
 -- a row of eight cells has too many, whatever they say
 eight : (j : Judge) → is_sound j.wrong ≡ true → (row : List ℕ) → length row ≡ 8 → judge_of j row ≡ judge_refusing j (Columns 8 hour_columns)
-unfolding judge_of judge_fault row_fault is_sound
+unfolding judge_of judge_fault row_fault
 eight j h row long = rw (h, long)
 
 -- a line with an eighth cell is one
@@ -192,7 +158,7 @@ module _ (f : Finder) (long : length f.ended ≡ 8) (on : is_sound f.judge.wrong
   spoilt_judge false = judge_refusing f.judge (Columns 8 hour_columns)
 
   spoilt_judge_lem : (blank : Bool) → (blank || leb hour_columns f.grid.at) ≡ true → (rest : List ℕ) → left_by f.judge blank f.grid f.ended rest ≡ spoilt_judge blank
-  unfolding spoilt_judge one_if judge_all judge_refusing is_sound
+  unfolding spoilt_judge one_if judge_all judge_refusing
   spoilt_judge_lem true h rest =
       let b = rows_begin f.grid f.ended head filled as_told 1 rest in
       ap (judge_all f.judge) b.is ∙ stays (row_left as_told f.grid f.ended b.left ∷ b.more) (judge_of f.judge []) (spoils f.judge)
@@ -205,13 +171,13 @@ module _ (f : Finder) (long : length f.ended ≡ 8) (on : is_sound f.judge.wrong
       refuses : (j : Judge) → is_sound (judge_refusing j (Columns 8 hour_columns)).wrong ≡ false
       refuses j = refl
 
-pub found_spoilt : (f : Finder) → length f.ended ≡ 8 → is_sound f.judge.wrong ≡ true → (f.first ≡ 0 → ⊥) → fault_is_known f ≡ true → (rest : List ℕ) → found_left f rest ≡ found_left f []
-unfolding found_left judge_left first_left fault_is_known
+pub found_spoilt : (f : Finder) → length f.ended ≡ 8 → is_sound f.judge.wrong ≡ true → is_none f.first ≡ false → fault_is_known f ≡ true → (rest : List ℕ) → found_left f rest ≡ found_left f []
+unfolding found_left judge_left fault_is_known
 found_spoilt f long on n h rest =
     let p = each (not (head_left f.grid [])) ((not (blank_left f.grid []) && (f.blank || leb hour_columns f.grid.at)) ∷ []) h in
     let q = each (not (blank_left f.grid [])) ((f.blank || leb hour_columns f.grid.at) ∷ []) p.1.0 in
     let is = spoilt_judge_lem f long on (not-true _ p.0) (not-true _ q.0) f.blank q.1.0 in
-    rw (ne_eqb f.first 0 n) (λ i. found_by f.first ((is rest ∙ sym (is [])) i))
+    λ i. found_by (first_known f.first n rest [] i) ((is rest ∙ sym (is [])) i)
 
 -- the test, by its returns
 module _ (f : Finder) where
@@ -227,14 +193,14 @@ module _ (f : Finder) where
   unfolding fault_is_known
   spoilt_line h b = rw (h, b)
 
-  pub unknown_line : f.first ≡ 0 → false ≡ finder_is_settled f
+  pub unknown_line : is_none f.first ≡ true → false ≡ finder_is_settled f
   unfolding finder_is_settled
-  unknown_line e = rw (eq-eqb f.first 0 e)
+  unknown_line e = rw e
 
-  pub known_fault : (f.first ≡ 0 → ⊥) → is_sound f.judge.wrong ≡ false → true ≡ finder_is_settled f
+  pub known_fault : is_none f.first ≡ false → is_sound f.judge.wrong ≡ false → true ≡ finder_is_settled f
   unfolding finder_is_settled
-  known_fault n h = rw (ne_eqb f.first 0 n, h)
+  known_fault n h = rw (n, h)
 
-  pub by_line : (f.first ≡ 0 → ⊥) → is_sound f.judge.wrong ≡ true → (t : Bool) → t ≡ fault_is_known f → t ≡ finder_is_settled f
+  pub by_line : is_none f.first ≡ false → is_sound f.judge.wrong ≡ true → (t : Bool) → t ≡ fault_is_known f → t ≡ finder_is_settled f
   unfolding finder_is_settled
-  by_line n h t e = e ∙ sym (λ i. not (ne_eqb f.first 0 n i) && (not (h i) || fault_is_known f))
+  by_line n h t e = e ∙ sym (λ i. not (n i) && (not (h i) || fault_is_known f))

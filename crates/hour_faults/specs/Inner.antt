@@ -1,24 +1,23 @@
 -- What a finder keeps of the lines that it has judged, and what it would find, whatever follows. It serves the contracts of the finder alone; what is wrong with a ramping
 -- file is in HourFaults. Assumes nothing.
-use Rattle.std.specs.Prelude.{ℕ, ◌+◌, ◌%◌, ◌^◌, Bool, cond, not, ◌&&◌, ◌||◌, List, [], ◌∷◌, ◌==◌, nat_le, slice_index}
+use Rattle.std.specs.Prelude.{ℕ, ◌+◌, ◌%◌, ◌^◌, Bool, cond, not, ◌&&◌, ◌||◌, List, [], ◌∷◌, ◌==◌, nat_le, slice_index, Option, Some, None, is_none, unwrap_or}
 use Rattle.grid.specs.declared.Grid.{Grid}
-use Rattle.grid.specs.Meaning.{head_left, blank_left, row_left, rows_left}
+use Rattle.grid.specs.Meaning.{head_left, blank_left, blank_behind, row_left, rows_left}
 use Rattle.hours.specs.Hours.{hour_columns}
 use Rattle.hours.specs.Inner.{one_if}
 use Rattle.faults.specs.Faults.{first_line}
 use Rattle.faults.specs.Inner.{as_told}
 use Rattle.hour_faults.specs.declared.HourWrong.{HourWrong}
-use Rattle.hour_faults.specs.declared.HourWrong.TheVariants.{Sound}
 use Rattle.hour_faults.specs.declared.HourFound.{HourFound}
 use Rattle.hour_faults.specs.declared.judge.Judge.{Judge}
 use Rattle.hour_faults.specs.declared.Finder.{Finder}
-use Rattle.hour_faults.specs.HourFaults.{is_sound, row_fault, none_found}
+use Rattle.hour_faults.specs.HourFaults.{is_sound, row_fault, none_found, found_or}
 
 -- The lines judged so far
 
 -- before any
 unfoldable pub judge_first : ℕ → Judge
-judge_first hours = record { wrong = Sound; hours = hours; count = 0; last = 0; filled = 0; first = 0 }
+judge_first hours = record { wrong = None; hours = hours; count = 0; last = 0; filled = 0; first = 0 }
 
 -- how many actions of an hour were taken; the standard rate that an action of its own rate must have, where its hour has n before it
 unfoldable pub filled_for : Judge → ℕ → ℕ
@@ -28,7 +27,7 @@ unfoldable pub standard_for : Judge → ℕ → ℕ → ℕ
 standard_for j n own = cond (n == 0) own j.first
 
 -- what is wrong with a row behind them
-unfoldable pub judge_fault : Judge → List ℕ → HourWrong
+unfoldable pub judge_fault : Judge → List ℕ → Option HourWrong
 judge_fault j row =
     row_fault j.hours j.last (filled_for j (slice_index row 0)) (standard_for j (filled_for j (slice_index row 0)) (slice_index row 6)) row
 
@@ -36,7 +35,7 @@ judge_fault j row =
 unfoldable pub judge_taking : Judge → List ℕ → Judge
 judge_taking j row =
     record {
-      wrong = Sound;
+      wrong = None;
       hours = j.hours;
       count = (j.count + 1) % 2 ^ 64;
       last = slice_index row 0;
@@ -45,11 +44,16 @@ judge_taking j row =
     }
 
 unfoldable pub judge_refusing : Judge → HourWrong → Judge
-judge_refusing j wrong = record { wrong = wrong; hours = j.hours; count = j.count; last = j.last; filled = j.filled; first = j.first }
+judge_refusing j wrong = record { wrong = Some wrong; hours = j.hours; count = j.count; last = j.last; filled = j.filled; first = j.first }
+
+-- behind one of which this is wrong, or nothing
+abbrev pub judge_with : Judge → List ℕ → Option HourWrong → Judge
+judge_with j row None = judge_taking j row
+judge_with j row (Some wrong) = judge_refusing j wrong
 
 -- the judge behind a row: once a fault is found it stays
 unfoldable pub judge_of : Judge → List ℕ → Judge
-judge_of j row = cond (is_sound j.wrong) (cond (is_sound (judge_fault j row)) (judge_taking j row) (judge_refusing j (judge_fault j row))) j
+judge_of j row = cond (is_sound j.wrong) (judge_with j row (judge_fault j row)) j
 
 -- behind many
 unfoldable pub judge_all : Judge → List (List ℕ) → Judge
@@ -63,17 +67,17 @@ judge_after j blank grid ended =
 
 -- a blank line is held back behind the end of a line
 unfoldable pub blank_after : Bool → Grid → Bool
-blank_after blank grid = cond (head_left grid []) blank (blank_left grid [])
+blank_after blank grid = blank_behind grid blank
 
 -- What is left
 
 -- the line of a text's first row: one that is known, or that of what is left, where no digit and no line's end was read
-unfoldable pub first_left : ℕ → List ℕ → ℕ
-first_left first rest = cond (first == 0) (first_line rest) first
+unfoldable pub first_left : Option ℕ → List ℕ → ℕ
+first_left first rest = unwrap_or first (first_line rest)
 
 -- a fault behind so many rows without one, the first of them at a line
-unfoldable pub found_by : ℕ → Judge → HourFound
-found_by first j = cond (is_sound j.wrong) none_found (record { line = (first + j.count) % 2 ^ 64; wrong = j.wrong })
+unfoldable pub found_by : ℕ → Judge → Option HourFound
+found_by first j = found_or ((first + j.count) % 2 ^ 64) j.wrong none_found
 
 -- the judge at the end of the text, if `rest` is what is left of it
 unfoldable pub judge_left : Finder → List ℕ → Judge
@@ -85,8 +89,8 @@ fault_is_known f = not (head_left f.grid []) && (not (blank_left f.grid []) && (
 
 -- a fault was found, or the line that is being read has it, at a line that is known: no bytes that follow change it
 unfoldable pub finder_is_settled : Finder → Bool
-finder_is_settled f = not (f.first == 0) && (not (is_sound f.judge.wrong) || fault_is_known f)
+finder_is_settled f = not (is_none f.first) && (not (is_sound f.judge.wrong) || fault_is_known f)
 
 -- WHAT IS FOUND then
-unfoldable pub found_left : Finder → List ℕ → HourFound
+unfoldable pub found_left : Finder → List ℕ → Option HourFound
 found_left f rest = found_by (first_left f.first rest) (judge_left f rest)

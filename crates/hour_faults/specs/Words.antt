@@ -1,11 +1,11 @@
 -- What is wrong with a line of a ramping file in words: the file's name, the line, what is wrong and what is wanted. What registers and series have too is said as there.
 -- Assumes nothing.
-use Rattle.std.specs.Prelude.{ℕ, ◌+◌, ◌*◌, cond, List, [], ◌++◌, length, ◌==◌}
+use Rattle.std.specs.Prelude.{ℕ, ◌+◌, ◌*◌, cond, List, ◌++◌, length, ◌==◌}
 use Rattle.render.specs.Decimal.{word, field}
 use Rattle.render.specs.Room.{most_decimal}
 use Rattle.faults.specs.Words.{number_text, limits_text, columns_text, line_text, most_number, most_line}
 use Rattle.hour_faults.specs.declared.HourWrong.{HourWrong}
-use Rattle.hour_faults.specs.declared.HourWrong.TheVariants.{Sound, Blank, Columns, NoNumber, Outside, Earlier, Full, OtherStandard, TooFast, NoMove}
+use Rattle.hour_faults.specs.declared.HourWrong.TheVariants.{Blank, Columns, NoNumber, Outside, Earlier, Full, OtherStandard, TooFast, NoMove}
 use Rattle.hour_faults.specs.declared.HourFound.{HourFound}
 
 -- the name of a column, counted from 1
@@ -52,7 +52,6 @@ move_text power = column_text 4 ++ field " is START, " power ++ word ": nothing 
 
 -- what is wrong
 abbrev pub wrong_text : HourWrong → List ℕ
-wrong_text Sound = []
 wrong_text Blank = word "blank, and a line stands behind it"
 wrong_text (Columns n wanted) = columns_text n wanted
 wrong_text (NoNumber column) = no_number_text column

@@ -17,7 +17,7 @@ pub const COLUMNS: usize = 7;
 // many actions that has, and the standard rate of its first.
 #[derive(Clone, Copy)]
 pub struct Judge {
-    pub wrong: HourWrong,
+    pub wrong: Option<HourWrong>,
     pub hours: u16,
     pub count: usize,
     pub last: u64,
@@ -26,23 +26,29 @@ pub struct Judge {
 }
 
 // What is wrong with the cells of a line, each by itself or together.
-fn line_fault(hours: u16, last: u64, n: usize, first: u64, cells: [u64; MOST_COLUMNS]) -> HourWrong
+fn line_fault(
+    hours: u16,
+    last: u64,
+    n: usize,
+    first: u64,
+    cells: [u64; MOST_COLUMNS],
+) -> Option<HourWrong>
     ensures { result ≡ or_else (cells_fault hours cells) (action_fault last n first cells) }
 {
-    let wrong = cells_fault(hours, cells);
-    if !is_sound(wrong) {
-        return wrong;
+    match cells_fault(hours, cells) {
+        None => action_fault(last, n, first, cells),
+        wrong => wrong,
     }
-    action_fault(last, n, first, cells)
 }
 
 impl Judge {
     // The judge before any line, in a month of so many hours.
+    #[tactic(auto, unfolding(crate::specs::Inner::judge_first))]
     pub fn start(hours: u16) -> Judge
         ensures { result ≡ judge_first hours }
     {
         Judge {
-            wrong: HourWrong::Sound,
+            wrong: None,
             hours,
             count: 0,
             last: 0,
@@ -52,6 +58,7 @@ impl Judge {
     }
 
     // How many actions of an hour were taken.
+    #[tactic(auto, unfolding(crate::specs::Inner::filled_for))]
     fn filled_for(self, hour: u64) -> usize
         ensures { result ≡ filled_for self hour }
     {
@@ -59,6 +66,7 @@ impl Judge {
     }
 
     // The standard rate that an action must have, where its hour has n before it.
+    #[tactic(auto, unfolding(crate::specs::Inner::standard_for))]
     fn standard_for(self, n: usize, own: u64) -> u64
         ensures { result ≡ standard_for self n own }
     {
@@ -66,15 +74,15 @@ impl Judge {
     }
 
     // What is wrong with a line of so many cells.
-    fn fault(self, cells: [u64; MOST_COLUMNS], count: usize) -> HourWrong
+    fn fault(self, cells: [u64; MOST_COLUMNS], count: usize) -> Option<HourWrong>
         requires { count ≤ 8 }
         ensures { result ≡ judge_fault self (take count cells) }
     {
         if count == 0 {
-            return HourWrong::Blank;
+            return Some(HourWrong::Blank);
         }
         if count != COLUMNS {
-            return HourWrong::Columns(count, COLUMNS);
+            return Some(HourWrong::Columns(count, COLUMNS));
         }
         let n = self.filled_for(cells[0]);
         let first = self.standard_for(n, cells[6]);
@@ -89,26 +97,23 @@ impl Judge {
         let n = self.filled_for(hour);
         let first = self.standard_for(n, cells[6]);
         Judge {
-            wrong: HourWrong::Sound,
-            hours: self.hours,
-            count: std::num::wrapping_add_usize(self.count, 1),
+            wrong: None,
+            count: self.count.wrapping_add(1),
             last: hour,
-            filled: std::num::wrapping_add_usize(n, 1),
+            filled: n.wrapping_add(1),
             first,
+            ..self
         }
     }
 
     // The judge behind a line with a fault.
+    #[tactic(auto, unfolding(crate::specs::Inner::judge_refusing))]
     fn refusing(self, wrong: HourWrong) -> Judge
         ensures { result ≡ judge_refusing self wrong }
     {
         Judge {
-            wrong,
-            hours: self.hours,
-            count: self.count,
-            last: self.last,
-            filled: self.filled,
-            first: self.first,
+            wrong: Some(wrong),
+            ..self
         }
     }
 
@@ -117,15 +122,13 @@ impl Judge {
         requires { count ≤ 8 }
         ensures { result ≡ judge_of self (take count cells) }
     {
-        let before = self.wrong;
-        if !is_sound(before) {
+        if !is_sound(self.wrong) {
             return self;
         }
-        let wrong = self.fault(cells, count);
-        if !is_sound(wrong) {
-            return self.refusing(wrong);
+        match self.fault(cells, count) {
+            None => self.taking(cells),
+            Some(wrong) => self.refusing(wrong),
         }
-        self.taking(cells)
     }
 
     // The judge behind a line that ends here.
@@ -141,8 +144,7 @@ impl Judge {
     fn spoilt(self) -> Judge
         ensures { result ≡ judge_of self [] }
     {
-        let before = self.wrong;
-        if !is_sound(before) {
+        if !is_sound(self.wrong) {
             return self;
         }
         self.refusing(HourWrong::Blank)

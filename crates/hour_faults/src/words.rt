@@ -122,7 +122,6 @@ fn put_wrong(out: &mut [u8], at: usize, wrong: HourWrong) -> usize
     ensures { Puts most_wrong out.old at (wrong_text wrong) out.new result }
 {
     match wrong {
-        HourWrong::Sound => put_word(out, at, b""),
         HourWrong::Blank => put_word(out, at, b"blank, and a line stands behind it"),
         HourWrong::Columns(n, wanted) => put_columns(out, at, n, wanted),
         HourWrong::NoNumber(column) => put_no_number(out, at, column),
@@ -142,10 +141,9 @@ fn put_fault(out: &mut [u8], name: &[u8], found: HourFound) -> usize
     requires { most_hour_fault name.now ≤ length out.old }
     ensures { Puts (most_hour_fault name.now) out.old 0 (hour_fault_text name.now found) out.new result }
 {
-    let wrong = found.wrong;
     let a = put_word(out, 0, name);
     let b = put_line(out, a, found.line);
-    let c = put_wrong(out, b, wrong);
+    let c = put_wrong(out, b, found.wrong);
     put_word(out, c, b"\n")
 }
 

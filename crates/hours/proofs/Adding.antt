@@ -1,31 +1,20 @@
 -- What the loops over the hours come to: how many have an action, and their grains together. Assumes nothing.
-use Rattle.std.proofs.Common.{◌≡◌, ℕ, suc, ◌+◌, ◌<◌, ◌≤◌, Bool, true, false, cond, not, eqb, List, [], ◌∷◌, length, get_or, drop, sym, ap, ◌∙◌, add-one, arith, drop_of_length-le, drop-cons}
+use Rattle.std.proofs.Common.{◌≡◌, ℕ, suc, ◌+◌, ◌<◌, ◌≤◌, Bool, true, false, cond, not, eqb, List, [], ◌∷◌, length, get_or, drop, sym, ap, ◌∙◌, refl, count_by, add-one, arith}
+use Rattle.std.proofs.Common.{drop_of_length-le, drop-cons}
 use Rattle.units.specs.declared.Grains.{Grains}
 use Rattle.units.specs.Money.{most_grains, grains_plus}
-use Rattle.row.proofs.Left.{next_byte}
+use Rattle.std.proofs.lemmas.List.Recursion.{is_count_by}
 use Rattle.hours.specs.Hours.{hours_with, grains_sum}
-use Rattle.hours.specs.Inner.{one_if}
 
 -- How many hours
 
-pub one_most : (t : Bool) (one : ℕ) → one ≡ one_if t → one ≤ 1
-unfolding one_if
-one_most true one e = omega (arith, e)
-one_most false one e = omega (arith, e)
-
-pub with_on : (ns : List ℕ) (i count one : ℕ) → i < length ns → one ≡ one_if (not (eqb (get_or ns i 0) 0)) → count + hours_with (drop i ns) ≡ hours_with ns
-    → count + one + hours_with (drop (i + 1) ns) ≡ hours_with ns
-unfolding hours_with one_if
-with_on ns i count one h e k = go (eqb (get_or ns i 0) 0) e (ap (λ (l : List ℕ). count + hours_with l) (sym (next_byte ns i h)) ∙ k)
-  where
-    go : (t : Bool) → one ≡ cond (not t) 1 0 → count + cond t (hours_with (drop (i + 1) ns)) (suc (hours_with (drop (i + 1) ns))) ≡ hours_with ns
-        → count + one + hours_with (drop (i + 1) ns) ≡ hours_with ns
-    go true f k = omega (arith, f, k)
-    go false f k = omega (arith, f, k)
-
-pub with_end_lem : (ns : List ℕ) (i count : ℕ) → length ns ≤ i → count + hours_with (drop i ns) ≡ hours_with ns → count ≡ hours_with ns
+pub with_is : (ns : List ℕ) → hours_with ns ≡ count_by (λ n. not (eqb n 0)) ns
 unfolding hours_with
-with_end_lem ns i count h k = let none = ap (λ (l : List ℕ). hours_with l) (drop_of_length-le ns h) in omega (arith, none, k)
+with_is ns = is_count_by (λ l. hours_with l) (λ n. not (eqb n 0)) refl (λ n l. one (hours_with l) (eqb n 0)) ns
+  where
+    one : (k : ℕ) (t : Bool) → cond t k (suc k) ≡ cond (not t) (1 + k) k
+    one k true = refl
+    one k false = omega arith
 
 -- Their grains
 

@@ -1,50 +1,6 @@
 -- A line that no bytes can mend: it is not sound, whatever follows. Assumes nothing.
-use Rattle.std.proofs.Common.{
-  ◌≡◌,
-  ℕ,
-  zero,
-  suc,
-  ◌+◌,
-  ◌<◌,
-  ◌≤◌,
-  Bool,
-  true,
-  false,
-  cond,
-  not,
-  ◌&&◌,
-  ◌||◌,
-  eqb,
-  ltb,
-  leb,
-  List,
-  [],
-  ◌∷◌,
-  ◌++◌,
-  map,
-  length,
-  get_or,
-  take,
-  drop,
-  replicate,
-  sym,
-  refl,
-  ap,
-  ◌∙◌,
-  add-one,
-  arith,
-  length-append,
-  length-take,
-  drop-cons,
-  get_or-take,
-  ltb-false,
-  le-ltb,
-  eqb-true,
-  le-leb,
-  leb-false,
-  leb-true,
-}
-use lib.Seq.{drop-length}
+use Rattle.std.proofs.Common.{◌≡◌, ℕ, zero, suc, ◌<◌, ◌≤◌, Bool, true, false, cond, not, ◌&&◌, ◌||◌, eqb, ltb, leb, List, [], ◌∷◌, ◌++◌, map, length, take, replicate, sym, refl, ap, ◌∙◌, arith}
+use Rattle.std.proofs.Common.{length-append, length-take, ltb-false, le-ltb, eqb-true, le-leb, leb-false, leb-true}
 use borrow.Author.Tests.{lt-leb}
 use Rattle.le.proofs.Tests.{joined, each, holds_or_fails}
 use Rattle.row.specs.Numbers.{digits, value, ceiling, hold, parts_of, not_empty}
@@ -62,26 +18,6 @@ use Rattle.hours.specs.Hours.{hour_columns, as_hour_line, hour_line_is_sound}
 use Rattle.hours.specs.Inner.{most_short, most_word, hour_line_fits, blank_hour_line, fair_hour_line, is_past, some_past, is_lost}
 use Rattle.hours.proofs.Sound.{none_bad, fair_bad}
 use Rattle.hours.proofs.Typing.{blank_fair}
-
--- Cells that ended
-
-pub past_on : (ns : List ℕ) (n i : ℕ) → i < n → n ≤ length ns → leb ceiling (get_or ns i 0) ≡ false → some_past (drop i (take n ns)) ≡ some_past (drop (i + 1) (take n ns))
-unfolding some_past
-past_on ns n i h few e =
-    let long : i < length (take n ns) = omega (arith, length-take n ns) in
-    rw (add-one, drop-cons (take n ns) i 0 long, get_or-take n ns i 0 h, e)
-
-pub past_at : (ns : List ℕ) (n i : ℕ) → i < n → n ≤ length ns → leb ceiling (get_or ns i 0) ≡ true → some_past (drop i (take n ns)) ≡ true
-unfolding some_past
-past_at ns n i h few e =
-    let long : i < length (take n ns) = omega (arith, length-take n ns) in
-    ap some_past (drop-cons (take n ns) i 0 long) ∙ rw (get_or-take n ns i 0 h, e)
-
-pub past_end : (ns : List ℕ) (n i : ℕ) → n ≤ length ns → i ≡ n → some_past (drop i (take n ns)) ≡ false
-unfolding some_past
-past_end ns n i few e =
-    let long : i ≡ length (take n ns) = omega (arith, length-take n ns) in
-    ap (λ (k : ℕ). some_past (drop k (take n ns))) long ∙ ap some_past (drop-length (take n ns))
 
 -- The open cell
 

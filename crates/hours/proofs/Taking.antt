@@ -60,7 +60,7 @@ use Rattle.pay.proofs.Within.{line_of}
 use Rattle.ramp.specs.declared.Action.{Action}
 use Rattle.ramp.specs.Ramping.{most_actions, is_ramping, action_is_sound, first_standard, no_action, right_way, hour_grains}
 use Rattle.grid.specs.declared.Grid.{Grid}
-use Rattle.grid.specs.Meaning.{row_by, head_left, blank_left, row_left}
+use Rattle.grid.specs.Meaning.{row_by, head_left, blank_left, blank_behind, row_left}
 use Rattle.hours.specs.declared.HourLine.{HourLine}
 use Rattle.hours.specs.declared.HoursFault.{HoursFault}
 use Rattle.hours.specs.declared.HoursFault.TheVariants.{NoFault, OfMember, AtLine}
@@ -252,7 +252,7 @@ module _ (m : Member) (hours : ℕ) (ls : List HourLine) (s : Sheet) (k : Taken 
   pub taken_more : (r : Sheet) (pay : Grains)
       → r.member ≡ s.member → r.hours ≡ s.hours → r.count ≡ (s.count + 1) % 2 ^ 64 → r.last ≡ l.hour → r.filled ≡ n + 1
       → r.kept ≡ set s.kept n l.action → r.grains ≡ set s.grains l.hour pay → r.actions ≡ set s.actions l.hour (n + 1)
-      → ((1 ≤ s.member.rated.0) × (s.member.rated.0 ≤ most_rated) → GoodHour (take (n + 1) r.kept) → pay.0 ≡ hour_grains s.member.rated.0 (take (n + 1) r.kept))
+      → ((1 ≤ s.member.rated.0) × (s.member.rated.0 ≤ most_rated) → GoodHour (take (n + 1) (set s.kept n l.action)) → pay.0 ≡ hour_grains s.member.rated.0 (take (n + 1) (set s.kept n l.action)))
       → Taken m hours (ls ++ l ∷ []) r
   taken_more r pay member month count last filled kept grains actions pays =
       let h = its_actions in
@@ -269,7 +269,8 @@ module _ (m : Member) (hours : ℕ) (ls : List HourLine) (s : Sheet) (k : Taken 
       let good = (line_of m k.good.0).rated in
       let hour : GoodHour (of_hour l.hour ls ++ l.action ∷ []) = subst GoodHour (of_its_hour ls l) (after.good l.hour) in
       let paid : pay ≡ paid_for m.rated.0 (of_hour l.hour ls ++ l.action ∷ []) =
-      λ i. record { 0 = (pays (rw rated good) (subst GoodHour (sym now) hour) ∙ (λ j. hour_grains (rated j) (now j))) i } in
+      let put = kept_more (set s.kept n l.action) refl in
+      λ i. record { 0 = (pays (rw rated good) (subst GoodHour (sym put) hour) ∙ (λ j. hour_grains (rated j) (put j))) i } in
       record {
         good = k.good;
         sound = now_sound;
@@ -340,14 +341,21 @@ module _ (grid : Grid) (ended : List ℕ) (s : Sheet) where
       after_row takes m hours ls (suc k) e j = absurd (holds_or_fails (lt-ltb 0 (suc k) (omega arith)) (sym e))
 
 -- how many are held back then
-pub held_heading : (grid : Grid) (held : ℕ) → head_left grid [] ≡ true → ltb 0 held ≡ ltb 0 (held_after held grid)
+held_heading : (grid : Grid) (held : ℕ) → head_left grid [] ≡ true → ltb 0 held ≡ ltb 0 (held_after held grid)
 unfolding held_after
 held_heading grid held h = rw h
 
-pub held_line_lem : (grid : Grid) (held : ℕ) → head_left grid [] ≡ false → blank_left grid [] ≡ ltb 0 (held_after held grid)
+held_line_lem : (grid : Grid) (held : ℕ) → head_left grid [] ≡ false → blank_left grid [] ≡ ltb 0 (held_after held grid)
 unfolding held_after
 held_line_lem grid held h = rw h (go (blank_left grid []))
   where
     go : (t : Bool) → t ≡ ltb 0 (cond t (suc held) 0)
     go true = sym (lt-ltb 0 (suc held) (omega arith))
     go false = sym (le-ltb 0 0 (omega arith))
+
+pub held_is : (grid : Grid) (blank : Bool) (held : ℕ) → blank ≡ ltb 0 held → blank_behind grid blank ≡ ltb 0 (held_after held grid)
+held_is grid blank held e = go (head_left grid []) refl
+  where
+    go : (t : Bool) → head_left grid [] ≡ t → blank_behind grid blank ≡ ltb 0 (held_after held grid)
+    go true h = rw h (e ∙ held_heading grid held h)
+    go false h = rw h (held_line_lem grid held h)

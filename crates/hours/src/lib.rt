@@ -6,10 +6,9 @@ pub mod name;
 mod sheet;
 mod sums;
 
-ghost use Rattle.std.specs.Prelude.{◌≡◌, ℕ, List, [], ◌++◌, nat_lt};
+ghost use Rattle.std.specs.Prelude.{◌≡◌, ℕ, List, [], ◌++◌};
 ghost use Rattle.pay.specs.declared.Member.{Member};
 ghost use Rattle.hours.specs.Hours.{month_hours, read_hours};
-ghost use Rattle.hours.specs.Inner.{held_after};
 ghost use Rattle.hours.specs.Stream.{HasRead, is_spoilt, reader_is_settled, Stops};
 
 use grid::Grid;
@@ -49,11 +48,11 @@ pub struct Hours {
 }
 
 // A month of so many hours: no month has more than 744.
+#[tactic(auto, unfolding(crate::specs::Hours::month_hours))]
 pub fn month_hours(hours: u16) -> u16
     ensures { result ≡ month_hours hours }
 {
-    let most = MOST_HOURS as u16;
-    if hours < most { hours } else { most }
+    hours.min(MOST_HOURS as u16)
 }
 
 // All that is kept of the file so far: the line that is being read, whether a blank line before it is held back, and what the lines before that come to.
@@ -65,29 +64,16 @@ pub struct Reader {
     sheet: Sheet,
 }
 
-// Whether a blank line is held back behind the end of a line.
-fn held_behind(blank: bool, grid: Grid) -> bool
-    ensures { (held : ℕ) → blank ≡ nat_lt 0 held → result ≡ nat_lt 0 (held_after held grid) }
-{
-    if grid.is_heading() {
-        return blank;
-    }
-    grid.is_blank()
-}
-
 impl Reader {
     // The reader of a member's file in a month of so many hours, before any byte.
     pub fn start(member: Member, hours: u16) -> Reader
         ensures { HasRead member (month_hours hours) result [] }
     {
-        let grid = Grid::start();
-        let most = month_hours(hours);
-        let sheet = Sheet::start(member, most);
         Reader {
-            grid,
+            grid: Grid::start(),
             ended: [0; MOST_COLUMNS],
             blank: false,
-            sheet,
+            sheet: Sheet::start(member, month_hours(hours)),
         }
     }
 
@@ -100,10 +86,11 @@ impl Reader {
         let mut blank = self.blank;
         let mut sheet = self.sheet;
         let mut i: usize = 0;
+        // Stays a while: a step passes over a whole run of digits, so the place does not move by one.
         while i < bytes.len() {
             if bytes[i] == b'\n' {
                 sheet = sheet.after(blank, grid, ended);
-                blank = held_behind(blank, grid);
+                blank = grid.holds_blank(blank);
                 grid = grid.next();
                 i += 1;
             } else {
@@ -140,8 +127,7 @@ impl Reader {
         ensures value { result ≡ reader_is_settled self }
         ensures stops { (m : Member) (hours : ℕ) (text : List ℕ) → HasRead m hours self text → Stops m hours text result }
     {
-        let sheet = self.sheet;
-        if sheet.refused {
+        if self.sheet.refused {
             return true;
         }
         self.is_spoilt()
@@ -151,11 +137,8 @@ impl Reader {
     pub fn finish(self) -> Hours
         ensures { (m : Member) (hours : ℕ) (text : List ℕ) → HasRead m hours self text → result ≡ read_hours m hours text }
     {
-        let grid = self.grid;
         let ended = self.ended;
-        let sheet = self.sheet;
-        let closed = sheet.after(self.blank, grid, ended);
-        closed.answer()
+        self.sheet.after(self.blank, self.grid, ended).answer()
     }
 }
 
@@ -163,7 +146,5 @@ impl Reader {
 pub fn read_hours(member: Member, hours: u16, text: &[u8]) -> Hours
     ensures { result ≡ read_hours member (month_hours hours) text.now }
 {
-    let first = Reader::start(member, hours);
-    let last = first.feed(text);
-    last.finish()
+    Reader::start(member, hours).feed(text).finish()
 }

@@ -1,8 +1,10 @@
 // The line that is being read: seven numbers parted by commas, of which the last one read may still grow.
-ghost use Rattle.std.specs.Prelude.{◌≡◌, ◌≤◌, take};
+ghost use Rattle.std.specs.Prelude.{◌≡◌, nat_le};
+ghost use Rattle.std.specs.List.{list_any};
+ghost use Rattle.row.specs.Numbers.{ceiling};
 ghost use Rattle.ramp.specs.Ramping.{no_action};
 ghost use Rattle.hours.specs.Hours.{as_hour_line};
-ghost use Rattle.hours.specs.Inner.{blank_hour_line, fair_hour_line, ended_line, seven_of, is_past, some_past, is_lost};
+ghost use Rattle.hours.specs.Inner.{blank_hour_line, fair_hour_line, ended_line, seven_of, is_past, is_lost};
 
 use crate::HourLine;
 use grid::Grid;
@@ -22,6 +24,7 @@ const MOST_SHORT: u64 = 0xffff;
 const MOST_WORD: u64 = 0xffff_ffff;
 
 // An action of zeros.
+#[tactic(auto, unfolding(ramp::specs::Ramping::no_action))]
 pub fn no_action() -> Action
     ensures { result ≡ no_action }
 {
@@ -35,13 +38,13 @@ pub fn no_action() -> Action
     }
 }
 
+#[tactic(auto, unfolding(crate::specs::Inner::blank_hour_line))]
 fn blank_hour_line() -> HourLine
     ensures { result ≡ blank_hour_line }
 {
-    let none = no_action();
     HourLine {
         hour: 0,
-        action: none,
+        action: no_action(),
     }
 }
 
@@ -83,8 +86,7 @@ pub fn line_in(grid: Grid, ended: [u64; MOST_COLUMNS]) -> HourLine
     ensures { result ≡ fair_hour_line (ended_line grid ended) }
 {
     if grid.at == LAST {
-        let cell = grid.cell;
-        return typed(ended, cell.told());
+        return typed(ended, grid.cell.told());
     }
     blank_hour_line()
 }
@@ -104,19 +106,11 @@ fn is_past(cell: Cell) -> bool
     }
 }
 
-// Whether one of the first n cells is.
-fn some_past(ended: [u64; MOST_COLUMNS], n: usize) -> bool
-    requires { n ≤ 8 }
-    ensures { result ≡ some_past (take n ended) }
+// Whether one of these cells is.
+fn some_past(cells: &[u64]) -> bool
+    ensures { result ≡ list_any (λ n. nat_le ceiling n) cells.now }
 {
-    let mut i: usize = 0;
-    while i < n {
-        if CEILING <= ended[i] {
-            return true;
-        }
-        i += 1;
-    }
-    false
+    cells.iter().any(|n| CEILING <= *n)
 }
 
 // Whether no bytes that follow make the line one that is taken: one of its cells is no number or past every limit, or an eighth is begun.
@@ -126,6 +120,5 @@ pub fn is_lost(grid: Grid, ended: [u64; MOST_COLUMNS]) -> bool
     if COLUMNS <= grid.at {
         return true;
     }
-    let cell = grid.cell;
-    some_past(ended, grid.at) | is_past(cell)
+    some_past(&ended[..grid.at]) | is_past(grid.cell)
 }

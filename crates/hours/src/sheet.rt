@@ -1,5 +1,5 @@
 // What the lines so far come to, or that one of them was bad.
-ghost use Rattle.std.specs.Prelude.{◌≡◌, ℕ, ◌≤◌, true, false, List, [], ◌∷◌, ◌++◌, length, take, replicate, nat_lt, slice_set};
+ghost use Rattle.std.specs.Prelude.{◌≡◌, ℕ, ◌≤◌, true, false, List, [], ◌∷◌, ◌++◌, length, replicate, nat_lt};
 ghost use Rattle.pay.specs.declared.Member.{Member};
 ghost use Rattle.pay.specs.Member.{most_rated};
 ghost use Rattle.ramp.specs.Ramping.{most_actions, hour_grains};
@@ -36,40 +36,17 @@ pub struct Sheet {
     pub actions: [u8; MOST_HOURS],
 }
 
-fn no_grains() -> [Grains; MOST_HOURS]
-    ensures { result ≡ replicate most_hours (record { 0 = 0 }) }
-{
-    let none = Grains(0);
-    [none; MOST_HOURS]
-}
-
-fn no_actions() -> [u8; MOST_HOURS]
-    ensures { result ≡ replicate most_hours 0 }
-{
-    [0; MOST_HOURS]
-}
-
-fn blank_hour() -> [Action; MOST_ACTIONS]
-    ensures { length result ≡ most_actions }
-{
-    let none = no_action();
-    [none; MOST_ACTIONS]
-}
-
-// What the first n actions of an hour pay, where none is bad.
-fn paid(rated: Kw, kept: [Action; MOST_ACTIONS], n: usize) -> Grains
-    requires { n ≤ most_actions }
-    ensures { (1 ≤ rated.0) × (rated.0 ≤ most_rated) → GoodHour (take n kept) → result.0 ≡ hour_grains rated.0 (take n kept) }
+// What the actions of an hour pay, where none is bad.
+fn paid(rated: Kw, actions: &[Action]) -> Grains
+    requires { length actions.now ≤ most_actions }
+    ensures { (1 ≤ rated.0) × (rated.0 ≤ most_rated) → GoodHour actions.now → result.0 ≡ hour_grains rated.0 actions.now }
 {
     let mut h = HourSoFar::start();
-    let mut i: usize = 0;
-    while i < n {
-        let a = kept[i];
-        if !h.takes(a) {
+    for a in actions {
+        if !h.takes(*a) {
             return Grains(0);
         }
-        h = h.with(a);
-        i += 1;
+        h = h.with(*a);
     }
     if (1 <= rated.0) & (rated.0 <= MOST_RATED) {
         return h.grains(rated);
@@ -77,37 +54,17 @@ fn paid(rated: Kw, kept: [Action; MOST_ACTIONS], n: usize) -> Grains
     Grains(0)
 }
 
-// A number of the list put in place, if there is such a place.
-fn put_grains(mut all: [Grains; MOST_HOURS], at: usize, x: Grains) -> [Grains; MOST_HOURS]
-    ensures { result ≡ slice_set all at x }
-{
-    if at < MOST_HOURS {
-        all[at] = x;
-    }
-    all
-}
-
-fn put_actions(mut all: [u8; MOST_HOURS], at: usize, n: u8) -> [u8; MOST_HOURS]
-    ensures { result ≡ slice_set all at n }
-{
-    if at < MOST_HOURS {
-        all[at] = n;
-    }
-    all
-}
-
 // A fault, otherwise zeros.
+#[tactic(auto, unfolding(crate::specs::Hours::hours_refused))]
 fn hours_refused(fault: HoursFault) -> Hours
     ensures { result ≡ hours_refused fault }
 {
-    let grains = no_grains();
-    let actions = no_actions();
     Hours {
         fault,
         count: 0,
         sum: Grains(0),
-        grains,
-        actions,
+        grains: [Grains(0); MOST_HOURS],
+        actions: [0; MOST_HOURS],
     }
 }
 
@@ -116,9 +73,6 @@ impl Sheet {
     fn blank(member: Member, hours: u16, refused: bool, fault: HoursFault) -> Sheet
         ensures { BlankSheet member hours refused fault result }
     {
-        let kept = blank_hour();
-        let grains = no_grains();
-        let actions = no_actions();
         Sheet {
             refused,
             fault,
@@ -127,9 +81,9 @@ impl Sheet {
             count: 0,
             last: 0,
             filled: 0,
-            kept,
-            grains,
-            actions,
+            kept: [no_action(); MOST_ACTIONS],
+            grains: [Grains(0); MOST_HOURS],
+            actions: [0; MOST_HOURS],
         }
     }
 
@@ -147,6 +101,7 @@ impl Sheet {
     }
 
     // How many actions of an hour the sheet has.
+    #[tactic(auto, unfolding(crate::specs::Inner::filled_for))]
     fn filled_for(self, hour: u16) -> usize
         ensures { result ≡ filled_for self hour }
     {
@@ -154,12 +109,15 @@ impl Sheet {
     }
 
     // The standard rate that an action must have, where its hour has n before it.
+    #[tactic(auto, unfolding(crate::specs::Inner::standard_for, ramp::specs::Ramping::no_action))]
     fn standard_for(self, n: usize, a: Action) -> u32
         ensures { result ≡ standard_for self n a }
     {
-        let kept = self.kept;
-        let first = kept[0];
-        if n == 0 { a.standard } else { first.standard }
+        if n == 0 {
+            a.standard
+        } else {
+            self.kept[0].standard
+        }
     }
 
     // Whether a line is taken.
@@ -173,56 +131,32 @@ impl Sheet {
     }
 
     // The sheet after a line that it takes.
-    fn taking(self, l: HourLine) -> Sheet
+    #[tactic(auto, using(crate::proofs::Taking::takes_room))]
+    fn taking(mut self, l: HourLine) -> Sheet
         requires { sheet_takes self l ≡ true }
         ensures { (m : Member) (hours : ℕ) (ls : List HourLine) → self.refused ≡ false → Taken m hours ls self → (result.refused ≡ false) × Taken m hours (ls ++ l ∷ []) result }
     {
         let n = self.filled_for(l.hour);
-        let a = l.action;
-        let mut kept = self.kept;
-        kept[n] = a;
-        let member = self.member;
-        let pay = paid(member.rated, kept, n + 1);
-        let hour = l.hour as usize;
-        let pays = self.grains;
-        let grains = put_grains(pays, hour, pay);
-        let counts = self.actions;
-        let actions = put_actions(counts, hour, (n + 1) as u8);
-        let fault = self.fault;
-        Sheet {
-            refused: false,
-            fault,
-            member,
-            hours: self.hours,
-            count: std::num::wrapping_add_usize(self.count, 1),
-            last: l.hour,
-            filled: n + 1,
-            kept,
-            grains,
-            actions,
+        self.kept[n] = l.action;
+        let pay = paid(self.member.rated, &self.kept[..n + 1]);
+        let hour = usize::from(l.hour);
+        if hour < MOST_HOURS {
+            self.grains[hour] = pay;
+            self.actions[hour] = (n + 1) as u8;
         }
+        self.count = self.count.wrapping_add(1);
+        self.last = l.hour;
+        self.filled = n + 1;
+        self
     }
 
     // The sheet after a line that it does not take.
-    fn refusing(self) -> Sheet
+    fn refusing(mut self) -> Sheet
         ensures { (result.refused ≡ true) × (result.fault ≡ AtLine self.count) }
     {
-        let kept = self.kept;
-        let grains = self.grains;
-        let actions = self.actions;
-        let member = self.member;
-        Sheet {
-            refused: true,
-            fault: HoursFault::AtLine(self.count),
-            member,
-            hours: self.hours,
-            count: self.count,
-            last: self.last,
-            filled: self.filled,
-            kept,
-            grains,
-            actions,
-        }
+        self.refused = true;
+        self.fault = HoursFault::AtLine(self.count);
+        self
     }
 
     // The sheet after a line.
@@ -270,15 +204,14 @@ impl Sheet {
         ensures { (m : Member) (hours : ℕ) (ls : List HourLine) → Judged m hours ls self → result ≡ lines_say m hours ls }
     {
         if self.refused {
-            let fault = self.fault;
-            return hours_refused(fault);
+            return hours_refused(self.fault);
         }
         let grains = self.grains;
         let actions = self.actions;
         Hours {
             fault: HoursFault::NoFault,
-            count: hours_with(actions),
-            sum: grains_sum(grains),
+            count: hours_with(&actions),
+            sum: grains_sum(&grains),
             grains,
             actions,
         }

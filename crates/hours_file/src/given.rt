@@ -23,10 +23,7 @@ pub fn hours_of(year: u16, month: u8) -> u16
 fn hours_told(count: usize) -> u16
     ensures { result ≡ month_hours count }
 {
-    if count < MOST_HOURS {
-        return count as u16;
-    }
-    MOST_HOURS as u16
+    count.min(MOST_HOURS) as u16
 }
 
 // How many hours there are and their grains together, or the refusal.

@@ -1,8 +1,6 @@
 // A ramping file by its name, read as a stream: however long it is, it is never held whole.
 #![tactic(auto)]
 
-ghost use Rattle.std.specs.Prelude.{◌<◌};
-
 use hours::{Hours, Reader};
 use pay::Member;
 use std::fs::File;
@@ -16,118 +14,82 @@ pub mod given;
 // length, so that one without an end would be read for ever.
 const MOST_BYTES: u64 = 16_777_216;
 
-// What became of the file: it was read to its end, or until its fault was known; there is none; its name is a link that leads to no file; it goes on behind the most bytes;
-// or a read failed, which is no end of it.
+// Why a file was not read to its end, or until its fault was known: there is none; its name is a link that leads to no file; it goes on behind the most bytes; or a read failed, which is
+// no end of it.
 #[derive(Clone, Copy)]
-pub enum Found {
-    Whole,
+pub enum Unread {
     Missing,
     Nowhere,
     TooLong,
     Failed,
 }
 
-// What became of the file, and what it says where it was read.
+// What became of the file, and what it says where it was read. A member that is refused is told in both.
 #[derive(Clone, Copy)]
 pub struct HoursFile {
     pub hours: Hours,
-    pub found: Found,
+    pub found: Result<(), Unread>,
 }
 
-// The reader, what became of the file if no more is read, and how many more bytes are taken, none behind the last read.
-#[derive(Clone, Copy)]
-struct Reading {
-    reader: Reader,
-    left: u64,
-    found: Found,
+// What takes a file part by part, and is done once no byte that follows changes what it says.
+trait ByParts: Copy {
+    fn after(self, bytes: &[u8]) -> Self;
+
+    fn is_done(self) -> bool;
 }
 
-// So many bytes less, down to none.
-fn without(left: u64, n: usize) -> u64
-    requires left_nonzero { 0 < left }
-    requires n_nonzero { 0 < n }
-    ensures { result < left }
-{
-    if left <= n as u64 {
-        return 0;
+impl ByParts for Reader {
+    fn after(self, bytes: &[u8]) -> Reader {
+        self.feed(bytes)
     }
-    left - n as u64
+
+    fn is_done(self) -> bool {
+        self.is_settled()
+    }
 }
 
-// One read, of up to 64 KiB.
-fn read_some(file: &mut File, reading: Reading) -> Reading
-    requires { 0 < reading.left }
-    ensures { result.left < reading.left }
-{
-    let mut buffer = io::large_buffer();
-    let before = reading.reader;
-    let Ok(n) = file.read(&mut buffer) else {
-        return Reading {
-            reader: before,
-            left: 0,
-            found: Found::Failed,
+// The file in reads of up to 64 KiB, to its end, or until all is said; what became of it.
+fn take_all<T: ByParts>(file: &mut File, before: T) -> (T, Result<(), Unread>) {
+    let mut taken = before;
+    let mut left = MOST_BYTES + 1;
+    // Stays a while: each read takes as many bytes off as the file gave
+    while 0 < left {
+        let mut buffer = io::large_buffer();
+        let Ok(n) = file.read(&mut buffer) else {
+            return (taken, Err(Unread::Failed));
         };
-    };
-    let reader = before.feed(&buffer[..n]);
-    if (n == 0) | reader.is_settled() {
-        return Reading {
-            reader,
-            left: 0,
-            found: Found::Whole,
-        };
+        taken = taken.after(&buffer[..n]);
+        if n == 0 || taken.is_done() {
+            return (taken, Ok(()));
+        }
+        left = left.saturating_sub(n as u64);
     }
-    Reading {
-        reader,
-        left: without(reading.left, n),
-        found: Found::TooLong,
-    }
-}
-
-fn read_all(file: &mut File, reader: Reader) -> Reading {
-    let mut reading = Reading {
-        reader,
-        left: MOST_BYTES + 1,
-        found: Found::TooLong,
-    };
-    while 0 < reading.left {
-        reading = read_some(file, reading);
-    }
-    reading
-}
-
-// Nothing was read, and why.
-fn nothing(reader: Reader, found: Found) -> HoursFile {
-    let hours = reader.finish();
-    HoursFile { hours, found }
-}
-
-fn read_open(file: &mut File, first: Reader) -> HoursFile {
-    let reading = read_all(file, first);
-    let found = reading.found;
-    let reader = reading.reader;
-    let hours = reader.finish();
-    HoursFile { hours, found }
+    (taken, Err(Unread::TooLong))
 }
 
 // Why a file could not be opened. A name that is there is a file: only where nothing has it is there none.
-fn unopened(rt: HostRuntime, path: &[u8], error: Error) -> Found {
+fn unopened(rt: HostRuntime, path: &[u8], error: Error) -> Unread {
     if error.kind() != ErrorKind::NotFound {
-        return Found::Failed;
+        return Unread::Failed;
     }
     if node::is_absent(rt, path) {
-        return Found::Missing;
+        return Unread::Missing;
     }
     if node::is_link(rt, path) {
-        return Found::Nowhere;
+        return Unread::Nowhere;
     }
-    Found::Failed
+    Unread::Failed
 }
 
 // The file of that name, of a member, in a month of so many hours.
 pub fn read_file(rt: HostRuntime, path: &[u8], member: Member, hours: u16) -> HoursFile {
     let reader = Reader::start(member, hours);
-    match node::open(rt, path) {
-        Ok(mut file) => read_open(&mut file, reader),
-        Err(error) => nothing(reader, unopened(rt, path, error)),
+    let (reader, found) = match node::open(rt, path) {
+        Ok(mut file) => take_all(&mut file, reader),
+        Err(error) => (reader, Err(unopened(rt, path, error))),
+    };
+    HoursFile {
+        hours: reader.finish(),
+        found,
     }
 }

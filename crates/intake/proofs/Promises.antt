@@ -25,6 +25,7 @@ use Rattle.year.proofs.Statements.{goes_on_lem, on_goes}
 use Rattle.year.proofs.Taking.{bad_behind, year_with_lem}
 use Rattle.year.proofs.Orders.{accepted_all, all_accepted}
 use Rattle.intake.specs.declared.Intake.{Intake}
+use Rattle.std.specs.Prelude.{Option}
 use Rattle.intake.specs.declared.Reason.{Reason}
 use Rattle.intake.specs.Limits.{statement_is_within}
 use Rattle.intake.specs.Intake.{month_statement, is_whole, area_after, is_taken, as_statement, statements_from, area_from, intake_of, no_texts, intake_with, TakesText}
@@ -80,7 +81,7 @@ texts_one_by_one ts r (took before t g _ k h) =
 pub text_determined : {t : List ℕ} {g r s : Intake} → TakesText t g r → TakesText t g s → r ≡ s
 text_determined {g = g} f h = f.is ∙ ap (intake_with g) (posted_determined f.read h.read) ∙ sym h.is
 
-pub reason_determined : {t : List ℕ} {g : Intake} {r s : Reason} → GivesReason t g r → GivesReason t g s → r ≡ s
+pub reason_determined : {t : List ℕ} {g : Intake} {r s : Option Reason} → GivesReason t g r → GivesReason t g s → r ≡ s
 reason_determined {g = g} f h = f.is ∙ ap (reason_of g) (posted_determined f.read h.read) ∙ sym h.is
 
 -- Which texts stand for their own numbers

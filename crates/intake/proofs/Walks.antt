@@ -5,8 +5,9 @@ use mathlib.Core.List.{List, ◌∷◌}
 use Prim.Native.Nat.{ℕ, suc, ◌+◌, ◌≤◌, ◌<◌}
 use native.Mathlib.Omega.{arith}
 use borrow.Author.Tests.{lt-ltb, le-ltb}
-use lib.ListN.{length, get_or, take, drop}
-use Rattle.share.proofs.Lists.{part_step, part_end}
+use native.Mathlib.Numerals.{add-one}
+use lib.ListN.{length, get_or, take, drop, drop_of_length-le}
+use lib.Seq.{drop-cons}
 use Rattle.month.specs.declared.Row.{Row}
 use Rattle.month.specs.declared.Statement.{Statement}
 use Rattle.year.specs.Year.{is_within}
@@ -20,30 +21,29 @@ pub row_stop : (before : ℕ) (r : Row) (rs : List Row) → row_is_within before
 unfolding first_beyond
 row_stop before r rs e = rw e
 
-module _ (rows : List Row) (count : ℕ) (few : count ≤ length rows) where
-  -- the rows that are left at a place
-  abbrev left : ℕ → List Row
-  left i = drop i (take count rows)
-
+module _ (rows : List Row) where
   abbrev all : ℕ
-  all = first_beyond 0 (take count rows)
+  all = first_beyond 0 rows
 
-  module _ (i : ℕ) (more : i < count) (d : Row) where
-    pub beyond_on : (before : ℕ) → row_is_within before (get_or rows i d) ≡ true → i + first_beyond before (left i) ≡ all
-        → i + 1 + first_beyond (get_or rows i d).number (left (i + 1)) ≡ all
+  module _ (i : ℕ) (more : i < length rows) (d : Row) where
+    next : drop i rows ≡ get_or rows i d ∷ drop (i + 1) rows
+    next = rw add-one (drop-cons rows i d more)
+
+    pub beyond_on : (before : ℕ) → row_is_within before (get_or rows i d) ≡ true → i + first_beyond before (drop i rows) ≡ all
+        → i + 1 + first_beyond (get_or rows i d).number (drop (i + 1) rows) ≡ all
     beyond_on before s k =
-        let e = ap (first_beyond before) (part_step rows count i d more few) ∙ row_step before (get_or rows i d) (left (i + 1)) s in
+        let e = ap (first_beyond before) next ∙ row_step before (get_or rows i d) (drop (i + 1) rows) s in
         omega (arith, e, k)
 
-    pub beyond_off : (before : ℕ) → row_is_within before (get_or rows i d) ≡ false → i + first_beyond before (left i) ≡ all → i ≡ all
+    pub beyond_off : (before : ℕ) → row_is_within before (get_or rows i d) ≡ false → i + first_beyond before (drop i rows) ≡ all → i ≡ all
     beyond_off before s k =
-        let e = ap (first_beyond before) (part_step rows count i d more few) ∙ row_stop before (get_or rows i d) (left (i + 1)) s in
+        let e = ap (first_beyond before) next ∙ row_stop before (get_or rows i d) (drop (i + 1) rows) s in
         omega (arith, e, k)
 
-  pub beyond_end : (i before : ℕ) → count ≤ i → i + first_beyond before (left i) ≡ all → i ≡ all
+  pub beyond_end : (i before : ℕ) → length rows ≤ i → i + first_beyond before (drop i rows) ≡ all → i ≡ all
   unfolding first_beyond
   beyond_end i before h k =
-      let e = ap (first_beyond before) (part_end rows count i h few) in
+      let e = ap (first_beyond before) (drop_of_length-le rows {i = i} h) in
       omega (arith, e, k)
 
 -- The lines of the text, one kind after another

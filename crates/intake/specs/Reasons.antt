@@ -1,5 +1,5 @@
 -- Why a text is not taken, for people. Assumes nothing.
-use Rattle.std.specs.Prelude.{◌≡◌, cond, not, ◌&&◌, List, ℕ, eqb, leb}
+use Rattle.std.specs.Prelude.{◌≡◌, cond, not, ◌&&◌, List, ℕ, Option, Some, None, eqb, leb}
 use Rattle.month.specs.declared.Statement.{Statement}
 use Rattle.posted.specs.declared.Posted.{Posted}
 use Rattle.posted.specs.declared.Reading.{Reading}
@@ -8,32 +8,32 @@ use Rattle.posted.specs.Reading.{ReadPosted}
 use Rattle.year.specs.Year.{lines_in, adds_to_zero}
 use Rattle.intake.specs.declared.Intake.{Intake}
 use Rattle.intake.specs.declared.Reason.{Reason}
-use Rattle.intake.specs.declared.Reason.TheVariants.{Nothing, NotLine, Beyond, OtherArea, OtherYear, NotLater, NotZero}
+use Rattle.intake.specs.declared.Reason.TheVariants.{NotLine, Beyond, OtherArea, OtherYear, NotLater, NotZero}
 use Rattle.intake.specs.Limits.{line_beyond, statement_is_within}
 use Rattle.intake.specs.Intake.{month_statement}
 
--- of a statement within the limits, behind those that were taken: its area, its year, its month, its amounts
-unfoldable pub reason_in : Intake → Statement → Reason
+-- of a statement within the limits, behind those that were taken: its area, its year, its month, its amounts; or nothing is wrong
+unfoldable pub reason_in : Intake → Statement → Option Reason
 reason_in g s =
-    cond (not (eqb g.area 0) && not (eqb s.header.area g.area)) (OtherArea s.header.area)
-    (cond (not (eqb g.year.count 0) && not (eqb s.header.year g.year.year)) (OtherYear s.header.year)
-    (cond (leb s.header.month g.year.month) (NotLater s.header.month)
-    (cond (adds_to_zero (lines_in (month_statement s)) s.user.0) Nothing NotZero)))
+    cond (not (eqb g.area 0) && not (eqb s.header.area g.area)) (Some (OtherArea s.header.area))
+    (cond (not (eqb g.year.count 0) && not (eqb s.header.year g.year.year)) (Some (OtherYear s.header.year))
+    (cond (leb s.header.month g.year.month) (Some (NotLater s.header.month))
+    (cond (adds_to_zero (lines_in (month_statement s)) s.user.0) None (Some NotZero))))
 
 -- of a statement
-unfoldable pub reason_whole : Intake → Statement → Reason
-reason_whole g s = cond (statement_is_within s) (reason_in g s) (Beyond (line_beyond s))
+unfoldable pub reason_whole : Intake → Statement → Option Reason
+reason_whole g s = cond (statement_is_within s) (reason_in g s) (Some (Beyond (line_beyond s)))
 
 -- of a text that was read: the line that is none of a statement, or what is wrong with the statement
-unfoldable pub reason_by : Intake → Statement → Reading → Reason
+unfoldable pub reason_by : Intake → Statement → Reading → Option Reason
 reason_by g s Whole = reason_whole g s
-reason_by g s (BadLine line) = NotLine line
+reason_by g s (BadLine line) = Some (NotLine line)
 
-unfoldable pub reason_of : Intake → Posted → Reason
+unfoldable pub reason_of : Intake → Posted → Option Reason
 reason_of g p = reason_by g p.statement p.reading
 
--- a text has a reason: it reads so, and this is wrong with it
-pub record GivesReason (text : List ℕ) (g : Intake) (r : Reason) : Type 0 where
+-- a text has a reason, or none: it reads so, and this is wrong with it
+pub record GivesReason (text : List ℕ) (g : Intake) (r : Option Reason) : Type 0 where
   pub posted : Posted
   pub read : ReadPosted text posted
   pub is : r ≡ reason_of g posted

@@ -1,10 +1,10 @@
 -- Why a text is not taken, in words. Assumes nothing.
-use Rattle.std.specs.Prelude.{List, [], ◌++◌, ℕ, ◌+◌, ◌-◌, ◌*◌, ◌^◌, min}
+use Rattle.std.specs.Prelude.{List, ◌++◌, ℕ, ◌+◌, ◌-◌, ◌*◌, ◌^◌, min}
 use Rattle.render.specs.Decimal.{word, decimal}
 use Rattle.render.specs.Room.{most_decimal}
 use Rattle.names.specs.Names.{month_word, most_word}
 use Rattle.intake.specs.declared.Reason.{Reason}
-use Rattle.intake.specs.declared.Reason.TheVariants.{Nothing, NotLine, Beyond, OtherArea, OtherYear, NotLater, NotZero}
+use Rattle.intake.specs.declared.Reason.TheVariants.{NotLine, Beyond, OtherArea, OtherYear, NotLater, NotZero}
 
 -- a line of the text, as people count it, from 1 on, and what is wrong with it
 unfoldable pub line_text : ℕ → List ℕ → List ℕ
@@ -20,7 +20,6 @@ not_later_text own before = month_word own ++ word " does not come after " ++ mo
 
 -- the reason, behind statements of an area and a year, the last of them of a month
 unfoldable pub reason_text : ℕ → ℕ → ℕ → Reason → List ℕ
-reason_text area year month Nothing = []
 reason_text area year month (NotLine line) = line_text line (word " is not a line of a statement")
 reason_text area year month (Beyond line) = line_text line (word " has a number beyond its limit")
 reason_text area year month (OtherArea own) = other_text (word "area ") own area

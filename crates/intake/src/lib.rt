@@ -28,10 +28,9 @@ pub struct Intake {
 }
 
 // Why a text is not taken: a line of it, counted from 0, is none of a statement; a number of a line is beyond its limit; it is of another area, of another year, of a
-// month that does not come after the last; its amounts do not add up to zero. Or nothing is wrong with it.
+// month that does not come after the last; its amounts do not add up to zero.
 #[derive(Clone, Copy)]
 pub enum Reason {
-    Nothing,
     NotLine(usize),
     Beyond(usize),
     OtherArea(u8),
@@ -83,8 +82,8 @@ fn as_statement(area: u8, p: Posted) -> MonthStatement
     month_statement(s)
 }
 
-// What is wrong with a statement within the limits, behind those that were taken.
-fn reason_in(g: Intake, s: Statement) -> Reason
+// What is wrong with a statement within the limits, behind those that were taken, if anything is.
+fn reason_in(g: Intake, s: Statement) -> Option<Reason>
     requires count_le_most_entries { s.count ≤ most_entries }
     requires s_value { statement_is_within s ≡ true }
     ensures { result ≡ reason_in g s }
@@ -92,31 +91,31 @@ fn reason_in(g: Intake, s: Statement) -> Reason
     let header = s.header;
     let y = g.year;
     if (g.area != 0) & (header.area != g.area) {
-        return Reason::OtherArea(header.area);
+        return Some(Reason::OtherArea(header.area));
     }
     if (y.count != 0) & (header.year != y.year) {
-        return Reason::OtherYear(header.year);
+        return Some(Reason::OtherYear(header.year));
     }
     if header.month <= y.month {
-        return Reason::NotLater(header.month);
+        return Some(Reason::NotLater(header.month));
     }
     if !statement_is_sound(month_statement(s)) {
-        return Reason::NotZero;
+        return Some(Reason::NotZero);
     }
-    Reason::Nothing
+    None
 }
 
-fn reason_of(g: Intake, p: Posted) -> Reason
+fn reason_of(g: Intake, p: Posted) -> Option<Reason>
     requires { p.statement.count ≤ most_entries }
     ensures { result ≡ reason_of g p }
 {
     let reading = p.reading;
     if let Reading::BadLine(line) = reading {
-        return Reason::NotLine(line);
+        return Some(Reason::NotLine(line));
     }
     let s = p.statement;
     if !statement_is_within(s) {
-        return Reason::Beyond(line_beyond(s));
+        return Some(Reason::Beyond(line_beyond(s)));
     }
     reason_in(g, s)
 }
@@ -142,8 +141,8 @@ impl Intake {
         Intake { year, area }
     }
 
-    // Why a text is not taken behind those before it.
-    pub fn reason(self, text: &[u8]) -> Reason
+    // Why a text is not taken behind those before it, if there is a reason.
+    pub fn reason(self, text: &[u8]) -> Option<Reason>
         ensures { GivesReason text.now self result }
     {
         let p = read_posted(text);

@@ -1,11 +1,10 @@
 // The lines of a statement's text held to their limits.
-ghost use Rattle.std.specs.Prelude.{◌≡◌, ◌≤◌, take};
+ghost use Rattle.std.specs.Prelude.{◌≡◌, ◌≤◌, length};
 ghost use Rattle.register.specs.Register.{most_entries};
 ghost use Rattle.intake.specs.Limits.{head_is_within, row_is_within, gap_is_within, first_beyond, line_beyond, statement_is_within};
 
 use book::{Header, MOST_RECORDS};
 use month::{Row, Statement};
-use register::MOST_ENTRIES;
 use render::size;
 use share::limits::{MOST_COMPENSATION, MOST_PART, numbers_are_sound};
 use units::SignedFen;
@@ -38,12 +37,12 @@ fn row_is_within(before: u16, r: Row) -> bool
     let compensation = r.compensation;
     let assessment = r.assessment;
     let is_line = numbers_are_sound(
-        before as u64,
-        r.number as u64,
+        u64::from(before),
+        u64::from(r.number),
         0,
-        energy.0 as u64,
+        u64::from(energy.0),
         compensation.0,
-        assessment.0 as u64,
+        u64::from(assessment.0),
     );
     is_line
         & (r.hours <= MOST_HOURS)
@@ -55,23 +54,18 @@ fn row_is_within(before: u16, r: Row) -> bool
         & is_within(r.amount)
 }
 
-// The place of the first of so many lines that is beyond a limit, or their number where none is.
-fn first_beyond(rows: [Row; MOST_ENTRIES], count: usize) -> usize
-    requires { count ≤ most_entries }
-    ensures value { result ≡ first_beyond 0 (take count rows) }
-    ensures upper_bound { result ≤ count }
+// The place of the first line that is beyond a limit, or their number where none is.
+fn first_beyond(rows: &[Row]) -> usize
+    ensures { result ≡ first_beyond 0 rows.now }
 {
     let mut before: u16 = 0;
-    let mut i: usize = 0;
-    while i < count {
-        let r = rows[i];
-        if !row_is_within(before, r) {
+    for (i, r) in rows.iter().enumerate() {
+        if !row_is_within(before, *r) {
             return i;
         }
         before = r.number;
-        i += 1;
     }
-    i
+    rows.len()
 }
 
 fn gap_is_within(gap: SignedFen) -> bool
@@ -91,7 +85,7 @@ pub fn line_beyond(s: Statement) -> usize
     }
     let rows = s.rows;
     let count = s.count;
-    let bad = first_beyond(rows, count);
+    let bad = first_beyond(&rows[..count]);
     if bad < count {
         return 1 + bad;
     }

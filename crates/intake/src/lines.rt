@@ -61,11 +61,8 @@ fn year_lines(rows: [Row; MOST_MEMBERS]) -> [YearLine; MOST_MEMBERS]
     ensures { result ≡ year_lines rows }
 {
     let mut lines = blank_lines();
-    let mut i: usize = 0;
-    while i < MOST_MEMBERS {
-        let r = rows[i];
-        lines[i] = year_line(r);
-        i += 1;
+    for (i, r) in rows.iter().enumerate() {
+        lines[i] = year_line(*r);
     }
     lines
 }

@@ -1,5 +1,5 @@
 // Why a text is not taken, in words, as bytes in a buffer that the caller lends.
-ghost use Rattle.std.specs.Prelude.{◌≡◌, ◌+◌, ◌-◌, ◌*◌, ◌^◌, ◌≤◌, min, length};
+ghost use Rattle.std.specs.Prelude.{◌≡◌, ◌+◌, ◌*◌, ◌≤◌, length};
 ghost use Rattle.io.specs.Counts.{IsPrefixLen};
 ghost use Rattle.render.specs.Inner.{Puts};
 ghost use Rattle.render.specs.Room.{Renders};
@@ -12,25 +12,14 @@ use render::{put_decimal, put_field, put_word};
 // The most bytes of a reason.
 pub const MOST_REASON: usize = 84;
 
-// The top of 64 bits.
-const LARGEST: u64 = 0xffff_ffff_ffff_ffff;
-
-// A line as people count it, from 1 on.
-fn from_one(line: u64) -> u64
-    ensures { result ≡ min (line + 1) (2 ^ 64 - 1) }
-{
-    if line == LARGEST {
-        return line;
-    }
-    line + 1
-}
-
+// A line as people count it, from 1 on, and why it is not taken.
+// Stays two functions: fitting has the same, and intake and fitting share no crate that tells lines; line_text stands in the specs of each
 fn put_line(out: &mut [u8], line: u64, why: &[u8]) -> usize
     requires { most_line + length why.now ≤ length out.old }
     ensures { Puts (most_line + length why.now) out.old 0 (line_text line why.now) out.new result }
 {
     let a = put_word(out, 0, b"line ");
-    let b = put_decimal(out, a, from_one(line));
+    let b = put_decimal(out, a, line.saturating_add(1));
     put_word(out, b, why)
 }
 
@@ -57,11 +46,10 @@ fn put_reason(out: &mut [u8], area: u8, year: u16, month: u8, reason: Reason) ->
     ensures { Puts most_reason out.old 0 (reason_text area year month reason) out.new result }
 {
     match reason {
-        Reason::Nothing => 0,
         Reason::NotLine(line) => put_line(out, line as u64, b" is not a line of a statement"),
         Reason::Beyond(line) => put_line(out, line as u64, b" has a number beyond its limit"),
-        Reason::OtherArea(own) => put_other(out, b"area ", own as u64, area as u64),
-        Reason::OtherYear(own) => put_other(out, b"year ", own as u64, year as u64),
+        Reason::OtherArea(own) => put_other(out, b"area ", u64::from(own), u64::from(area)),
+        Reason::OtherYear(own) => put_other(out, b"year ", u64::from(own), u64::from(year)),
         Reason::NotLater(own) => put_not_later(out, own, month),
         Reason::NotZero => put_word(out, 0, b"its amounts do not add up to zero"),
     }

@@ -3,15 +3,15 @@ ghost use Rattle.std.specs.Prelude.{◌≡◌, ◌<◌, ◌≤◌};
 ghost use Rattle.book.specs.Book.{count_at};
 ghost use Rattle.book.specs.Check.{accepted, check};
 
-use crate::pages::{Page, Run, leave, no_page, page_at, put_run, with_page};
+use crate::pages::{Run, leave, no_page, page_at, put_run, with_page};
 use crate::turns::{keep_turns, no_turns, put_turns};
 use book::{HEADER_SIZE, SECOND_VERSION, call_of, header_of, version_at};
 use call::RECORD_SIZE;
 use call::layout::call_at;
-use clerk::args::{Held, Long, Short, first, is_word_at, long_at, short_at};
+use clerk::args::{first, is_word_at, long_at, short_at};
 use clerk::print;
 use clerk::shelf::{
-    Compared, Mark, compared_at, hold_at, is_held, load_at, mark_at, note_at, open, opened_at,
+    Compared, Mark, compared_at, hold_at, load_at, mark_at, note_at, open, opened_at,
     other_month_at, put_note_at, refused_at, tell_failed,
 };
 use files::Hold;
@@ -20,50 +20,31 @@ use pair::screen;
 use say::Terminal;
 use tabs::page::PAGE_SIZE;
 
-// Whose call, and which; or nothing, and one line has said why.
-#[derive(Clone, Copy)]
-pub enum Key {
-    Of(u16, u32),
-    Nothing,
-}
-
-// The books that were read, joined, or nothing, and one line has said why; whether one of those that were read is of the second version, and whether a page was brought forward.
+// The books that were read, joined: how many bytes they are; whether one of those that were read is of the second version, and whether a page was brought forward.
 #[derive(Clone, Copy)]
 pub struct Joined {
-    pub held: Held,
+    pub size: usize,
     pub second: bool,
     pub brought: bool,
 }
 
-// A second book joined to a first, or nothing, and one line has said why; and the turns that the join took.
+// A second book joined to a first: how many bytes they are; and the turns that the join took.
 #[derive(Clone, Copy)]
 pub struct Added {
-    pub held: Held,
+    pub size: usize,
     pub turns: usize,
 }
 
-// Whether a file is one of those that arguments name: it is, it is none, or that is unknown since the one at a place cannot be looked at.
-#[derive(Clone, Copy)]
-enum Named {
-    One,
-    None,
-    Unknown(usize),
-}
-
-// The key that arguments 4 and 5 say.
-pub fn whose(terminal: &Terminal) -> Key {
-    let Short::Number(member) = short_at(terminal, 4) else {
-        return Key::Nothing;
-    };
-    let Long::Number(call) = long_at(terminal, 5) else {
-        return Key::Nothing;
-    };
-    Key::Of(member, call)
+// Whose call, and which: the key that arguments 4 and 5 say.
+pub fn whose(terminal: &Terminal) -> Option<(u16, u32)> {
+    let member = short_at(terminal, 4)?;
+    let call = long_at(terminal, 5)?;
+    Some((member, call))
 }
 
 pub fn check_book(terminal: &Terminal) {
     let mut book = io::large_buffer();
-    if let Held::Bytes(_) = open(terminal, 2, &mut book) {
+    if open(terminal, 2, &mut book).is_some() {
         print::done(terminal);
     }
 }
@@ -81,10 +62,8 @@ pub fn show_calls(
     requires end_bound { end ≤ count_at book.now }
 {
     let mut at = start;
-    let mut i = from;
-    while i < end {
+    for i in from..end {
         at = print::put_call(terminal, page, at, call_of(book, i));
-        i += 1;
     }
     at
 }
@@ -102,26 +81,22 @@ fn show(terminal: &Terminal, book: &[u8]) {
 
 pub fn show_book(terminal: &Terminal) {
     let mut book = io::large_buffer();
-    if let Held::Bytes(n) = load_at(terminal, 2, &mut book) {
+    if let Some(n) = load_at(terminal, 2, &mut book) {
         show(terminal, first(&book, n));
     }
 }
 
 // The bytes to the front of a buffer that has room for them.
-fn keep(bytes: &[u8], all: &mut [u8]) -> Held {
+fn keep(bytes: &[u8], all: &mut [u8]) -> Option<usize> {
     if all.len() < bytes.len() {
-        return Held::Nothing;
+        return None;
     }
-    Held::Bytes(node::copy(bytes, all))
+    Some(node::copy(bytes, all))
 }
 
 // Of which month a sound book is, and of which the one before it; argument i names it.
 fn tell_other_month(terminal: &Terminal, i: usize, one: &[u8], two: &[u8]) {
-    let before = header_of(one);
-    let this = header_of(two);
-    let h = this.header;
-    let earlier = before.header;
-    other_month_at(terminal, i, h, earlier);
+    other_month_at(terminal, i, header_of(two).header, header_of(one).header);
 }
 
 // Why two sound books are not joined, in words; argument i names the second.
@@ -157,6 +132,7 @@ fn join_with(one: &[u8], two: &[u8], out: &mut [u8], page: &mut [u8]) -> join::J
 
 // A second book joined into the first n bytes of `all`, and the page brought forward where one is brought. Argument i is what a refusal is about: a book of another month, or one too
 // many.
+// Stays by hand: the buffer has room behind the n bytes, which a join needs.
 pub fn join_bytes(
     terminal: &Terminal,
     i: usize,
@@ -164,20 +140,19 @@ pub fn join_bytes(
     n: usize,
     second: &[u8],
     page: &mut [u8],
-) -> Added {
+) -> Option<Added> {
     let mut out = io::large_buffer();
     let w = join_with(first(all, n), second, &mut out, page);
-    let turns = w.turns;
     if w.number != 0 {
         tell_unjoined(terminal, i, w.number, first(all, n), second);
         refused_at(terminal, w.number, w.place, i);
-        return Added {
-            held: Held::Nothing,
-            turns,
-        };
+        return None;
     }
-    let held = keep(first(&out, w.length), all);
-    Added { held, turns }
+    let size = keep(first(&out, w.length), all)?;
+    Some(Added {
+        size,
+        turns: w.turns,
+    })
 }
 
 // Whether a book is of the second version.
@@ -188,26 +163,14 @@ pub fn is_second(book: &[u8]) -> bool {
     version_at(book) == SECOND_VERSION
 }
 
-// No books: one line has said why.
-pub fn none_joined() -> Joined {
-    Joined {
-        held: Held::Nothing,
-        second: false,
-        brought: false,
-    }
-}
-
 // The book of argument i alone.
-fn join_first(terminal: &Terminal, i: usize, all: &mut [u8]) -> Joined {
-    let Held::Bytes(n) = open(terminal, i, all) else {
-        return none_joined();
-    };
-    let second = is_second(first(all, n));
-    Joined {
-        held: Held::Bytes(n),
-        second,
+fn join_first(terminal: &Terminal, i: usize, all: &mut [u8]) -> Option<Joined> {
+    let size = open(terminal, i, all)?;
+    Some(Joined {
+        size,
+        second: is_second(first(all, size)),
         brought: false,
-    }
+    })
 }
 
 // The book of argument i joined to those before it, and its turns kept.
@@ -218,25 +181,17 @@ fn join_next(
     lasts: &mut [usize],
     page: &mut [u8],
     before: Joined,
-) -> Joined {
-    let held = before.held;
-    let Held::Bytes(n) = held else {
-        return none_joined();
-    };
+) -> Option<Joined> {
     let mut book = io::large_buffer();
-    let Held::Bytes(m) = open(terminal, i, &mut book) else {
-        return none_joined();
-    };
+    let m = open(terminal, i, &mut book)?;
     let second = before.second | is_second(first(&book, m));
-    let added = join_bytes(terminal, i, all, n, first(&book, m), page);
+    let added = join_bytes(terminal, i, all, before.size, first(&book, m), page)?;
     keep_turns(lasts, i, added.turns);
-    let held = added.held;
-    let brought = is_brought(page);
-    Joined {
-        held,
+    Some(Joined {
+        size: added.size,
         second,
-        brought,
-    }
+        brought: is_brought(page),
+    })
 }
 
 // The books that are named behind argument `from`, joined to that one, and the turns of each join kept.
@@ -247,26 +202,21 @@ fn join_others(
     lasts: &mut [usize],
     page: &mut [u8],
     one: Joined,
-) -> Joined
+) -> Option<Joined>
     requires { from < 10 }
 {
-    let count = say::arguments(terminal);
-    let held = one.held;
-    let brought = is_brought(page);
     let mut joined = Joined {
-        held,
+        size: one.size,
         second: one.second,
-        brought,
+        brought: is_brought(page),
     };
-    let mut i = from + 1;
-    while i < count {
-        joined = join_next(terminal, i, all, lasts, page, joined);
-        i += 1;
+    for i in from + 1..say::arguments(terminal) {
+        joined = join_next(terminal, i, all, lasts, page, joined)?;
     }
-    joined
+    Some(joined)
 }
 
-// All books that are named from argument `from` on, joined, and the page of the first brought forward where it has one.
+// All books that are named from argument `from` on, joined, and the page of the first brought forward where it has one; or none, and one line has said why.
 fn join_read(
     terminal: &Terminal,
     from: usize,
@@ -274,28 +224,21 @@ fn join_read(
     lasts: &mut [usize],
     has: bool,
     page: &mut [u8],
-) -> Joined
+) -> Option<Joined>
     requires { from < 10 }
 {
-    let one = join_first(terminal, from, all);
-    let held = one.held;
-    let Held::Bytes(n) = held else {
-        return none_joined();
-    };
-    match page_at(terminal, from, has, first(all, n), page) {
-        Page::Brought => join_others(terminal, from, all, lasts, page, one),
-        Page::None => join_others(terminal, from, all, lasts, &mut [], one),
-        Page::Nothing => none_joined(),
-    }
+    let one = join_first(terminal, from, all)?;
+    let own = page_at(terminal, from, has, first(all, one.size), page)?;
+    join_others(terminal, from, all, lasts, own, one)
 }
 
 // The same, where nobody asks for the versions of those that were read, nor for the turns, nor for a page.
-pub fn join_all(terminal: &Terminal, from: usize, all: &mut [u8]) -> Held
+pub fn join_all(terminal: &Terminal, from: usize, all: &mut [u8]) -> Option<usize>
     requires { from < 10 }
 {
     let mut lasts = no_turns();
-    let joined = join_read(terminal, from, all, &mut lasts, false, &mut []);
-    joined.held
+    let joined = join_read(terminal, from, all, &mut lasts, false, &mut [])?;
+    Some(joined.size)
 }
 
 // Call i of a sound book, on a page.
@@ -349,35 +292,22 @@ fn put_written(terminal: &Terminal, page: &mut [u8], at: usize, book: &[u8]) -> 
     print::put_book(terminal, page, at, o.version, o.header, o.calls)
 }
 
-// Whether argument i names the file that is held, or one before it does. The first that cannot be looked at is kept.
-fn named_next(terminal: &Terminal, hold: &Hold, i: usize, before: Named) -> Named {
-    match compared_at(terminal, hold, i) {
-        Compared::Same => Named::One,
-        Compared::Other => before,
-        Compared::Unknown => {
-            if let Named::None = before {
-                return Named::Unknown(i);
-            }
-            before
-        }
-    }
-}
-
-// Whether one of the arguments from `from` on names the file that is held.
-fn named_in(terminal: &Terminal, hold: &Hold, from: usize) -> Named
+// Whether one of the arguments from `from` on names the file that is held; where none does and the one at a place cannot be looked at, that is not known, and this is the first such place.
+fn named_in(terminal: &Terminal, hold: &Hold, from: usize) -> Result<bool, usize>
     requires { from < 10 }
 {
-    let count = say::arguments(terminal);
-    let mut named = Named::None;
-    let mut i = from;
-    while i < count {
-        named = named_next(terminal, hold, i, named);
-        if let Named::One = named {
-            return named;
+    let mut unknown = None;
+    for i in from..say::arguments(terminal) {
+        match compared_at(terminal, hold, i) {
+            Compared::Same => return Ok(true),
+            Compared::Other => {}
+            Compared::Unknown => unknown = unknown.or(Some(i)),
         }
-        i += 1;
     }
-    named
+    match unknown {
+        Some(i) => Err(i),
+        None => Ok(false),
+    }
 }
 
 // The turns of the joins, what the book has that argument `out` names and that was written, and `ok`.
@@ -398,21 +328,20 @@ fn join_run(terminal: &Terminal, run: Run, out: usize)
     let mut all = io::large_buffer();
     let mut lasts = no_turns();
     let mut page = no_page();
-    let joined = join_read(
+    let Some(joined) = join_read(
         terminal,
         out + 1,
         &mut all,
         &mut lasts,
         run.first,
         &mut page,
-    );
-    let held = joined.held;
-    let Held::Bytes(n) = held else {
+    ) else {
         leave(terminal, run);
         return;
     };
-    if put_run(terminal, run, out, first(&all, n), joined.brought, &page) {
-        tell_joined(terminal, out, &lasts, joined.second, first(&all, n));
+    let book = first(&all, joined.size);
+    if put_run(terminal, run, out, book, joined.brought, &page) {
+        tell_joined(terminal, out, &lasts, joined.second, book);
     }
 }
 
@@ -420,8 +349,7 @@ fn join_run(terminal: &Terminal, run: Run, out: usize)
 fn join_held(terminal: &Terminal, hold: Hold, out: usize)
     requires { out < 9 }
 {
-    let run = with_page(terminal, hold, out + 1);
-    if is_held(&run.book) {
+    if let Some(run) = with_page(terminal, hold, out + 1) {
         join_run(terminal, run, out);
     }
 }
@@ -450,27 +378,21 @@ fn join_there(terminal: &Terminal, hold: Hold, out: usize, forced: bool)
     requires { out < 9 }
 {
     match named_in(terminal, &hold, out + 1) {
-        Named::One => {
-            join_held(terminal, hold, out);
-            return;
+        Ok(true) => join_held(terminal, hold, out),
+        Ok(false) if forced => join_over(terminal, hold, out),
+        Ok(false) => {
+            tell_failed(
+                terminal,
+                out,
+                b"is there already, and is none of the books (join -f writes over a book)",
+            );
+            files::release(terminal.system(), hold);
         }
-        Named::Unknown(i) => {
+        Err(i) => {
             tell_failed(terminal, i, b"cannot be looked at");
             files::release(terminal.system(), hold);
-            return;
         }
-        Named::None => {}
     }
-    if forced {
-        join_over(terminal, hold, out);
-        return;
-    }
-    tell_failed(
-        terminal,
-        out,
-        b"is there already, and is none of the books (join -f writes over a book)",
-    );
-    files::release(terminal.system(), hold);
 }
 
 // The books behind argument `out`, joined as the file that it names, which is held from before they are read; it may be there only where it is one of them, or where it is a book and
@@ -482,12 +404,10 @@ fn join_to(terminal: &Terminal, out: usize, forced: bool)
         print::failed(terminal, b"", b"no book to join");
         return;
     }
-    let hold = hold_at(terminal, out, false);
-    if !is_held(&hold) {
+    let Some(hold) = hold_at(terminal, out, false) else {
         return;
-    }
-    let node = hold.node;
-    if node.there {
+    };
+    if hold.node.is_there() {
         join_there(terminal, hold, out, forced);
         return;
     }
@@ -504,31 +424,15 @@ pub fn join_books(terminal: &Terminal) {
 
 // Where joining would refuse two books, nothing is found in them. The paper gives no number here, so that words say which book is at fault, on a page.
 fn put_refused(terminal: &Terminal, page: &mut [u8], number: u32) -> usize {
-    if number < 7 {
-        return put_note_at(
-            terminal,
-            page,
-            0,
-            2,
-            b"not a sound book, so nothing is found",
-        );
-    }
-    if number == 7 {
-        return put_note_at(
-            terminal,
-            page,
-            0,
+    let (i, why): (usize, &[u8]) = match number {
+        0..=6 => (2, b"not a sound book, so nothing is found"),
+        7 => (
             3,
             b"of another month or area than the first book, so nothing is found",
-        );
-    }
-    put_note_at(
-        terminal,
-        page,
-        0,
-        3,
-        b"not a sound book, so nothing is found",
-    )
+        ),
+        _ => (3, b"not a sound book, so nothing is found"),
+    };
+    put_note_at(terminal, page, 0, i, why)
 }
 
 // Whether a book has a record of the key: of a book and itself it stands.
@@ -536,33 +440,7 @@ fn has(book: &[u8], member: u16, call: u32) -> bool {
     RECORD_SIZE <= lookup::find(book, book, member, call).len()
 }
 
-// Why no record stands, on a page: neither book has the call, or both have it and contradict each other.
-fn put_why_none(
-    terminal: &Terminal,
-    page: &mut [u8],
-    one: &[u8],
-    two: &[u8],
-    member: u16,
-    call: u32,
-) -> usize {
-    if has(one, member, call) & has(two, member, call) {
-        return put_note_at(
-            terminal,
-            page,
-            0,
-            3,
-            b"both books have the call at one revision and contradict each other, so that neither stands",
-        );
-    }
-    put_note_at(
-        terminal,
-        page,
-        0,
-        3,
-        b"neither this book nor the first has the call",
-    )
-}
-
+// That no record stands, on a page, and why: neither book has the call, or both have it and contradict each other.
 fn put_none(
     terminal: &Terminal,
     page: &mut [u8],
@@ -571,16 +449,21 @@ fn put_none(
     member: u16,
     call: u32,
 ) -> usize {
-    let at = put_why_none(terminal, page, one, two, member, call);
+    let why: &[u8] = if has(one, member, call) & has(two, member, call) {
+        b"both books have the call at one revision and contradict each other, so that neither stands"
+    } else {
+        b"neither this book nor the first has the call"
+    };
+    let at = put_note_at(terminal, page, 0, 3, why);
     print::put_none(terminal, page, at)
 }
 
 // The record that stands for a key: which book has it, and its 32 bytes as they lie there, on a page.
-fn put_found<'a>(
+fn put_found(
     terminal: &Terminal,
     page: &mut [u8],
-    first: &'a [u8],
-    second: &'a [u8],
+    first: &[u8],
+    second: &[u8],
     member: u16,
     call: u32,
 ) -> usize {
@@ -596,11 +479,11 @@ fn put_found<'a>(
 }
 
 // The same where the books may be joined; else why not.
-fn put_answer<'a>(
+fn put_answer(
     terminal: &Terminal,
     page: &mut [u8],
-    one: &'a [u8],
-    two: &'a [u8],
+    one: &[u8],
+    two: &[u8],
     member: u16,
     call: u32,
 ) -> usize {
@@ -614,7 +497,7 @@ fn put_answer<'a>(
 
 fn find_in(terminal: &Terminal, one: &[u8], member: u16, call: u32) {
     let mut book = io::large_buffer();
-    if let Held::Bytes(n) = load_at(terminal, 3, &mut book) {
+    if let Some(n) = load_at(terminal, 3, &mut book) {
         let mut page = io::large_buffer();
         let at = put_answer(terminal, &mut page, one, first(&book, n), member, call);
         print::finish(terminal, &mut page, at);
@@ -622,11 +505,11 @@ fn find_in(terminal: &Terminal, one: &[u8], member: u16, call: u32) {
 }
 
 pub fn find_call(terminal: &Terminal) {
-    let Key::Of(member, call) = whose(terminal) else {
+    let Some((member, call)) = whose(terminal) else {
         return;
     };
     let mut book = io::large_buffer();
-    if let Held::Bytes(n) = load_at(terminal, 2, &mut book) {
+    if let Some(n) = load_at(terminal, 2, &mut book) {
         find_in(terminal, first(&book, n), member, call);
     }
 }

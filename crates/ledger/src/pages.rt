@@ -1,11 +1,11 @@
 // The page of tabs beside a book: made, read, brought forward by the runs that write a book; and a member's calls, found by it.
-use crate::books::show_calls;
+use crate::books::{is_brought, show_calls};
 use call::MOST_PARTICIPANT;
-use clerk::args::{Held, Short, first, short_at};
+use clerk::args::{first, short_at};
 use clerk::print;
 use clerk::shelf::{
-    Found, has_page_at, hold_at, hold_page, is_held, load_page_at, open, opened_at, put, put_both,
-    put_page, refused_at, unfit_at,
+    has_page_at, hold_at, hold_page, load_page_at, open, opened_at, put, put_both, put_page,
+    refused_at, unfit_at,
 };
 use clerk::wrong::tell_number;
 use files::Hold;
@@ -20,21 +20,11 @@ const BOOK: usize = 2;
 // Whose calls are asked for.
 const MEMBER: usize = 3;
 
-// The page of a book that is read: it fits and is brought along, there is none, or nothing, and one line has said why.
-#[derive(Clone, Copy)]
-pub enum Page {
-    Brought,
-    None,
-    Nothing,
-}
-
-// What a run that writes a book holds: the book, and its page where one takes part, that of this book or of the first that is read; and whether the first has one. Where nothing is held
-// one line has said why.
+// What a run that writes a book holds: the book, and its page where one takes part, that of this book or of the first that is read; and whether the first has one.
 #[derive(Drop)]
 pub struct Run {
     pub book: Hold,
-    pub page: Hold,
-    pub paged: bool,
+    pub page: Option<Hold>,
     pub first: bool,
 }
 
@@ -44,64 +34,59 @@ pub fn no_page() -> [u8; PAGE_SIZE] {
 }
 
 // A book without a page.
-pub fn alone(terminal: &Terminal, book: Hold) -> Run {
+pub fn alone(book: Hold) -> Run {
     Run {
         book,
-        page: files::nothing_held(terminal.system()),
-        paged: false,
+        page: None,
         first: false,
     }
 }
 
-// A run that holds the book which it writes, with the page that takes part; argument i names the first book that is read. A page that comes later is not looked at.
-pub fn with_page(terminal: &Terminal, book: Hold, i: usize) -> Run {
+// A run that holds the book which it writes, with the page that takes part; argument i names the first book that is read. A page that comes later is not looked at. Where the page is not
+// held nothing is, and one line has said why.
+pub fn with_page(terminal: &Terminal, book: Hold, i: usize) -> Option<Run> {
     let own = is_paged(terminal.system(), &book);
     let first = has_page_at(terminal, i);
     if !(own | first) {
-        return alone(terminal, book);
+        return Some(alone(book));
     }
     let page = hold_page(terminal, &book);
-    if is_held(&page) {
-        return Run {
-            book,
-            page,
-            paged: true,
-            first,
-        };
+    if page.is_none() {
+        files::release(terminal.system(), book);
+        return None;
     }
-    files::release(terminal.system(), book);
-    alone(terminal, files::nothing_held(terminal.system()))
+    Some(Run { book, page, first })
 }
 
 // Nothing is held any longer, and nothing is written.
 pub fn leave(terminal: &Terminal, run: Run) {
-    if run.paged {
-        release_both(terminal.system(), run.book, run.page);
-        return;
+    let Run { book, page, .. } = run;
+    match page {
+        Some(page) => release_both(terminal.system(), book, page),
+        None => files::release(terminal.system(), book),
     }
-    files::release(terminal.system(), run.book);
 }
 
-// Whether a page fits the sound book that argument i names; where it does not, that is told.
-fn fitting_at(terminal: &Terminal, i: usize, book: &[u8], page: &[u8]) -> Page {
-    let v = tabs::fitting(book, page);
-    if v.number == 0 {
-        return Page::Brought;
-    }
-    unfit_at(terminal, i, v.number, v.place);
-    Page::Nothing
-}
-
-// The page of the sound book that argument i names, where the book has one.
-pub fn page_at(terminal: &Terminal, i: usize, has: bool, book: &[u8], page: &mut [u8]) -> Page {
+// The page of the sound book that argument i names, which is brought along: empty where the book has none. One that cannot be read or does not fit is none, and one line has said why.
+pub fn page_at<'a>(
+    terminal: &Terminal,
+    i: usize,
+    has: bool,
+    book: &[u8],
+    page: &'a mut [u8],
+) -> Option<&'a mut [u8]> {
     if !has {
-        return Page::None;
+        return Some(&mut []);
     }
-    match load_page_at(terminal, i, page) {
-        Found::Bytes(n) => fitting_at(terminal, i, book, first(page, n)),
-        Found::Missing => Page::None,
-        Found::Nothing => Page::Nothing,
+    let Some(n) = load_page_at(terminal, i, page)? else {
+        return Some(&mut []);
+    };
+    let v = tabs::fitting(book, first(page, n));
+    if v.number != 0 {
+        unfit_at(terminal, i, v.number, v.place);
+        return None;
     }
+    Some(page)
 }
 
 // The page of the sound book that argument i names, made afresh.
@@ -115,12 +100,12 @@ fn make_page(terminal: &Terminal, i: usize, book: &[u8], page: &mut [u8]) -> boo
 }
 
 // The book stored, and its page made afresh.
-fn put_afresh(terminal: &Terminal, run: Run, out: usize, book: &[u8]) -> bool {
+fn put_afresh(terminal: &Terminal, hold: Hold, beside: Hold, out: usize, book: &[u8]) -> bool {
     let mut page = no_page();
     if make_page(terminal, out, book, &mut page) {
-        return put_both(terminal, run.book, run.page, out, book, &page);
+        return put_both(terminal, hold, beside, out, book, &page);
     }
-    leave(terminal, run);
+    release_both(terminal.system(), hold, beside);
     false
 }
 
@@ -133,18 +118,22 @@ pub fn put_run(
     brought: bool,
     page: &[u8],
 ) -> bool {
-    if !run.paged {
-        return put(terminal, run.book, out, book);
-    }
+    let Run {
+        book: hold,
+        page: beside,
+        ..
+    } = run;
+    let Some(beside) = beside else {
+        return put(terminal, hold, out, book);
+    };
     if brought {
-        return put_both(terminal, run.book, run.page, out, book, page);
+        return put_both(terminal, hold, beside, out, book, page);
     }
-    let old = run.page.node;
-    if old.there {
-        return put_afresh(terminal, run, out, book);
+    if beside.node.is_there() {
+        return put_afresh(terminal, hold, beside, out, book);
     }
-    files::release(terminal.system(), run.page);
-    put(terminal, run.book, out, book)
+    files::release(terminal.system(), beside);
+    put(terminal, hold, out, book)
 }
 
 // A member's line, behind the first `at` bytes of the lines.
@@ -173,10 +162,8 @@ fn put_if_any(terminal: &Terminal, lines: &mut [u8], at: usize, member: u16, tab
 fn tell_tabs(terminal: &Terminal, page: &[u8]) {
     let mut lines = io::buffer();
     let mut at: usize = 0;
-    let mut member: u16 = 1;
-    while member <= MOST_PARTICIPANT {
+    for member in 1..=MOST_PARTICIPANT {
         at = put_if_any(terminal, &mut lines, at, member, tab_of(page, member));
-        member += 1;
     }
     print::finish(terminal, &mut lines, at);
 }
@@ -184,7 +171,7 @@ fn tell_tabs(terminal: &Terminal, page: &[u8]) {
 // The page of the book that argument 2 names, made afresh, where the book is sound.
 fn make_sound(terminal: &Terminal, page: &mut [u8]) -> bool {
     let mut book = io::large_buffer();
-    let Held::Bytes(n) = open(terminal, BOOK, &mut book) else {
+    let Some(n) = open(terminal, BOOK, &mut book) else {
         return false;
     };
     make_page(terminal, BOOK, first(&book, n), page)
@@ -203,16 +190,13 @@ fn make_held(terminal: &Terminal, book: Hold, page: Hold) {
 }
 
 pub fn make_tabs(terminal: &Terminal) {
-    let book = hold_at(terminal, BOOK, false);
-    if !is_held(&book) {
+    let Some(book) = hold_at(terminal, BOOK, false) else {
         return;
+    };
+    match hold_page(terminal, &book) {
+        Some(page) => make_held(terminal, book, page),
+        None => files::release(terminal.system(), book),
     }
-    let page = hold_page(terminal, &book);
-    if is_held(&page) {
-        make_held(terminal, book, page);
-        return;
-    }
-    files::release(terminal.system(), book);
 }
 
 // The member's line by a page that fits the book, and its calls.
@@ -222,9 +206,9 @@ fn tell_calls(terminal: &Terminal, book: &[u8], page: &[u8], member: u16) {
         return;
     }
     let tab = tab_of(page, member);
-    let from = tab.index as usize;
-    let behind = from + tab.count as usize;
-    let end = if behind <= o.calls { behind } else { o.calls };
+    let from = usize::from(tab.index);
+    let behind = from + usize::from(tab.count);
+    let end = behind.min(o.calls);
     let mut lines = io::large_buffer();
     let at = put_line(terminal, &mut lines, 0, member, tab);
     let all = show_calls(terminal, book, from, end, &mut lines, at);
@@ -233,17 +217,19 @@ fn tell_calls(terminal: &Terminal, book: &[u8], page: &[u8], member: u16) {
 
 // The page of a sound book: its own where it has one, or one made afresh.
 fn page_or_made(terminal: &Terminal, book: &[u8], page: &mut [u8]) -> bool {
-    match page_at(terminal, BOOK, has_page_at(terminal, BOOK), book, page) {
-        Page::Brought => true,
-        Page::None => make_page(terminal, BOOK, book, page),
-        Page::Nothing => false,
+    let Some(own) = page_at(terminal, BOOK, has_page_at(terminal, BOOK), book, page) else {
+        return false;
+    };
+    if is_brought(own) {
+        return true;
     }
+    make_page(terminal, BOOK, book, page)
 }
 
 // The calls of a member in the book that argument 2 names.
 fn list_of(terminal: &Terminal, member: u16) {
     let mut book = io::large_buffer();
-    let Held::Bytes(n) = open(terminal, BOOK, &mut book) else {
+    let Some(n) = open(terminal, BOOK, &mut book) else {
         return;
     };
     let mut page = no_page();
@@ -253,14 +239,12 @@ fn list_of(terminal: &Terminal, member: u16) {
 }
 
 pub fn list_calls(terminal: &Terminal) {
-    let Short::Number(member) = short_at(terminal, MEMBER) else {
+    let Some(member) = short_at(terminal, MEMBER) else {
         return;
     };
-    if 1 <= member {
-        if member <= MOST_PARTICIPANT {
-            list_of(terminal, member);
-            return;
-        }
+    if (1..=MOST_PARTICIPANT).contains(&member) {
+        list_of(terminal, member);
+        return;
     }
     tell_number(terminal, member);
     print::refused(terminal, 10, 0, b"member");

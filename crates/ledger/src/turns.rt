@@ -10,9 +10,6 @@ use say::Terminal;
 // The numbers of turns that a join may take: none, and up to one for each record of a book.
 const NUMBERS: usize = MOST_RECORDS + 1;
 
-// The highest sum that is told.
-const HIGHEST: usize = 0xffff_ffff_ffff_ffff;
-
 // How far the telling has come: so many bytes stand on the page; the turns of the join before, and of all so far.
 #[derive(Clone, Copy)]
 struct Telling {
@@ -37,23 +34,12 @@ pub fn keep_turns(lasts: &mut [usize], i: usize, turns: usize) {
 
 // The turns of the join of argument i, where that before it took `from`: the lowest number from there on that a join took which is not before it.
 fn turns_of(lasts: &[usize], i: usize, from: usize) -> usize {
-    let mut turns = from;
-    while turns < lasts.len() {
+    for turns in from..lasts.len() {
         if i <= lasts[turns] {
             return turns;
         }
-        turns += 1;
     }
-    turns
-}
-
-// The turns of one join more, held at the highest.
-fn with_turns(all: usize, turns: usize) -> usize {
-    if turns < HIGHEST - all {
-        all + turns
-    } else {
-        HIGHEST
-    }
+    from.max(lasts.len())
 }
 
 // The turns of the join of argument i, on a page.
@@ -66,7 +52,7 @@ fn put_next(
 ) -> Telling {
     let turns = turns_of(lasts, i, before.turns);
     let at = put_turns_at(terminal, page, before.at, i, turns);
-    let all = with_turns(before.all, turns);
+    let all = before.all.saturating_add(turns);
     Telling { at, turns, all }
 }
 
@@ -88,10 +74,8 @@ pub fn put_turns(terminal: &Terminal, page: &mut [u8], from: usize, lasts: &[usi
         turns: 0,
         all: 0,
     };
-    let mut i = from + 1;
-    while i < count {
+    for i in from + 1..count {
         told = put_next(terminal, page, lasts, i, told);
-        i += 1;
     }
     put_all(terminal, page, from + 2 < count, told)
 }

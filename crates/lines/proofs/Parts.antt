@@ -1,6 +1,6 @@
 -- The part's line, and what stands behind it. Assumes nothing.
 use mathlib.Core.Path.{◌≡◌, refl, ap, sym, ◌∙◌}
-use mathlib.Core.Bool.{true, false, true≢false}
+use mathlib.Core.Bool.{true, false}
 use mathlib.Core.List.{List, [], ◌∷◌, ◌++◌, map}
 use Prim.Native.Nat.{ℕ, suc, ◌+◌, ◌≤◌, ◌<◌}
 use native.Mathlib.Decide.{dec_le}
@@ -18,6 +18,7 @@ use Rattle.lines.specs.declared.body.Listed.{Listed}
 use Rattle.lines.specs.declared.part.FirstLine.{FirstLine}
 use Rattle.lines.specs.declared.Head.{Head}
 use Rattle.lines.specs.declared.Reader.{Reader}
+use Rattle.std.proofs.Common.{Some, None}
 use Rattle.lines.specs.Text.{space, part_in, text_part, text_lines, with_part, part_refused, part_then, read_text}
 use Rattle.lines.specs.Meaning.{body_outcome, body_meaning, BodyFresh, part_when, fair_part, first_says, FirstLineIs, HeadIs, meaning}
 
@@ -99,64 +100,71 @@ module _ (row : Row) (bytes : List ℕ) where
 
 module _ (s : Reader) (bytes : List ℕ) where
   -- behind the part
-  pub head_behind : s.ahead ≡ false → HeadIs s bytes (record { first = s.first; next = 0; part = s.part; ahead = false })
+  pub head_behind : (part : ℕ) → s.part ≡ Some part → HeadIs s bytes (record { first = s.first; next = 0; part = Some part })
   unfolding meaning
-  head_behind e = record { within = omega arith; still = λ f. absurd (true≢false (sym f)); behind = λ f rest. rw e }
+  head_behind part e =
+      record {
+        within = omega arith;
+        still = λ f. absurd (cc);
+        behind = λ p f rest. let same : s.part ≡ Some p = e ∙ f in rw same;
+      }
 
-  module _ (ahead : s.ahead ≡ true) (l : FirstLine) (f : FirstLineIs s.first bytes l) where
+  module _ (ahead : s.part ≡ None) (l : FirstLine) (f : FirstLineIs s.first bytes l) where
     -- within its line
-    pub head_still : length bytes ≤ l.next → HeadIs s bytes (record { first = l.row; next = 0; part = s.part; ahead = true })
+    pub head_still : length bytes ≤ l.next → HeadIs s bytes (record { first = l.row; next = 0; part = None })
     unfolding meaning
     head_still over =
         record {
           within = omega arith;
           still = λ e rest.
               rw ahead (ap (λ (xs : List ℕ). first_says l.row s.body (xs ++ rest)) (sym (drop_of_length-le bytes {i = l.next} over)) ∙ f.says s.body rest);
-          behind = λ e. absurd (true≢false e);
+          behind = λ p e. absurd (cc);
         }
 
     -- across its end
-    pub head_past : (part : ℕ) → l.next < length bytes → part ≡ fair_part (part_when l.row []) → HeadIs s bytes (record { first = l.row; next = l.next + 1; part = part; ahead = false })
+    pub head_past : (part : ℕ) → l.next < length bytes → part ≡ fair_part (part_when l.row []) → HeadIs s bytes (record { first = l.row; next = l.next + 1; part = Some part })
     unfolding meaning
     head_past part less e =
         record {
           within = omega arith;
-          still = λ k. absurd (true≢false (sym k));
-          behind = λ k rest.
+          still = λ k. absurd (cc);
+          behind = λ p k rest.
               let x = drop (l.next + 1) bytes ++ rest in
+              let same : p ≡ part = cc in
               rw ahead
-              (part_told part (part_when l.row []) (body_meaning s.body x) e
+              (ap (λ (n : ℕ). part_then n (body_meaning s.body x)) same
+              ∙ part_told part (part_when l.row []) (body_meaning s.body x) e
               ∙ sym (first_ends l.row s.body (get_or bytes l.next 0) x (f.ends less))
               ∙ ap (λ (xs : List ℕ). first_says l.row s.body (xs ++ rest)) (sym (next_byte bytes l.next less)) ∙ f.says s.body rest);
         }
 
   module _ (h : Head) (k : HeadIs s bytes h) where
-    pub fed_still : h.ahead ≡ true → (rest : List ℕ) → meaning (record { first = h.first; body = s.body; part = h.part; ahead = true }) rest ≡ meaning s (bytes ++ rest)
+    pub fed_still : h.part ≡ None → (rest : List ℕ) → meaning (record { first = h.first; body = s.body; part = None }) rest ≡ meaning s (bytes ++ rest)
     unfolding meaning
     fed_still e rest = k.still e rest
 
-    pub fed_behind : (b : Body) → h.ahead ≡ false → ((rest : List ℕ) → body_meaning b rest ≡ body_meaning s.body (drop h.next bytes ++ rest))
-        → (rest : List ℕ) → meaning (record { first = h.first; body = b; part = h.part; ahead = false }) rest ≡ meaning s (bytes ++ rest)
+    pub fed_behind : (b : Body) (part : ℕ) → h.part ≡ Some part → ((rest : List ℕ) → body_meaning b rest ≡ body_meaning s.body (drop h.next bytes ++ rest))
+        → (rest : List ℕ) → meaning (record { first = h.first; body = b; part = Some part }) rest ≡ meaning s (bytes ++ rest)
     unfolding meaning
-    fed_behind b e f rest = ap (λ (y : Listed). part_then h.part y) (f rest) ∙ k.behind e rest
+    fed_behind b part e f rest = ap (λ (y : Listed). part_then part y) (f rest) ∙ k.behind part e rest
 
 -- the start
-pub starts_reader : (first : Row) (body : Body) (part : ℕ) → RowFresh first → BodyFresh body
-    → (text : List ℕ) → meaning (record { first = first; body = body; part = part; ahead = true }) text ≡ read_text text
+pub starts_reader : (first : Row) (body : Body) → RowFresh first → BodyFresh body
+    → (text : List ℕ) → meaning (record { first = first; body = body; part = None }) text ≡ read_text text
 unfolding meaning first_says read_text text_part part_in text_lines numbers_of
-starts_reader first body part f h text =
+starts_reader first body f h text =
     let l = get_or (lines_of text) 0 [] in
     (λ i. part_then (get_or (f.line space 0 l i) 0 (suc most_part)) (h.says (drop 1 (lines_of text)) i))
     ∙ held_part (numbers_in 1 (parts_of space l)) _
 
 -- the end
-pub ends_ahead : (s : Reader) (part : ℕ) (l : Listed) → s.ahead ≡ true → part ≡ fair_part (part_when s.first []) → l ≡ body_meaning s.body [] → part_then part l ≡ meaning s []
+pub ends_ahead : (s : Reader) (part : ℕ) (l : Listed) → s.part ≡ None → part ≡ fair_part (part_when s.first []) → l ≡ body_meaning s.body [] → part_then part l ≡ meaning s []
 unfolding meaning first_says body_meaning
 ends_ahead s part l a e f = rw a (part_told part (part_when s.first []) l e ∙ ap (λ (y : Listed). part_then (part_when s.first []) y) f)
 
-pub ends_behind : (s : Reader) (l : Listed) → s.ahead ≡ false → l ≡ body_meaning s.body [] → part_then s.part l ≡ meaning s []
+pub ends_behind : (s : Reader) (part : ℕ) (l : Listed) → s.part ≡ Some part → l ≡ body_meaning s.body [] → part_then part l ≡ meaning s []
 unfolding meaning
-ends_behind s l a f = rw a (ap (λ (y : Listed). part_then s.part y) f)
+ends_behind s part l a f = rw a (ap (λ (y : Listed). part_then part y) f)
 
 -- The part, where its line ends
 

@@ -17,6 +17,7 @@ use Rattle.row.proofs.Rows.{foreign}
 use Rattle.share.specs.Sharing.{most_part}
 use Rattle.lines.specs.declared.body.Listed.{Listed}
 use Rattle.lines.specs.declared.Reader.{Reader}
+use Rattle.std.proofs.Common.{Some, None}
 use Rattle.lines.specs.declared.Taken.{Taken}
 use Rattle.lines.specs.Text.{space, with_part, part_refused, part_then}
 use Rattle.lines.specs.Meaning.{body_outcome, body_meaning, BodyStays, part_when, first_says, part_is_past, meaning}
@@ -83,7 +84,7 @@ module _ (row : Row) (b : row.bad ≡ false) (a : row.at ≡ 0) where
   spoilt : part_when row (0 ∷ []) ≡ suc most_part
   spoilt = ap (λ (ns : List ℕ). get_or ns 0 (suc most_part)) (foreign space 0 row 0 (λ e. omega arith) refl [])
 
-module _ (s : Reader) (ahead : s.ahead ≡ true) where
+module _ (s : Reader) (ahead : s.part ≡ None) where
   says_part : (rest : List ℕ) (p : ℕ) → part_when s.first (get_or (lines_of rest) 0 []) ≡ p → p ≤ most_part → (meaning s rest).part ≡ p
   unfolding meaning first_says
   says_part rest p e h =
@@ -142,22 +143,22 @@ module _ (s : Reader) (ahead : s.ahead ≡ true) where
 listed_same : (p : ℕ) (x y : Listed) → with_part p x ≡ with_part p y → x ≡ y
 listed_same p x y q = λ i. record { number = (q i).number; place = (q i).place; count = (q i).count; lines = (q i).lines }
 
-module _ (s : Reader) (behind : s.ahead ≡ false) where
-  pub tells_past : most_part < s.part → Tells (Stays s) true
+module _ (s : Reader) (part : ℕ) (behind : s.part ≡ Some part) where
+  pub tells_past : most_part < part → Tells (Stays s) true
   unfolding meaning
   tells_past h =
       record {
-        yes = λ e rest. rw behind (part_past s.part (body_meaning s.body rest) h ∙ sym (part_past s.part (body_meaning s.body []) h));
+        yes = λ e rest. rw behind (part_past part (body_meaning s.body rest) h ∙ sym (part_past part (body_meaning s.body []) h));
         no = λ e. absurd (true≢false e);
       }
 
-  says_lines : s.part ≤ most_part → (rest : List ℕ) → meaning s rest ≡ with_part s.part (body_meaning s.body rest)
+  says_lines : part ≤ most_part → (rest : List ℕ) → meaning s rest ≡ with_part part (body_meaning s.body rest)
   unfolding meaning
-  says_lines h rest = rw behind (part_fair s.part (body_meaning s.body rest) h)
+  says_lines h rest = rw behind (part_fair part (body_meaning s.body rest) h)
 
-  pub tells_lines : (t : Bool) → s.part ≤ most_part → Tells (BodyStays s.body) t → Tells (Stays s) t
+  pub tells_lines : (t : Bool) → part ≤ most_part → Tells (BodyStays s.body) t → Tells (Stays s) t
   tells_lines t h k =
       record {
-        yes = λ e rest. says_lines h rest ∙ ap (λ (l : Listed). with_part s.part l) (k.yes e rest) ∙ sym (says_lines h []);
-        no = λ e same. k.no e (λ rest. listed_same s.part _ _ (sym (says_lines h rest) ∙ same rest ∙ says_lines h []));
+        yes = λ e rest. says_lines h rest ∙ ap (λ (l : Listed). with_part part l) (k.yes e rest) ∙ sym (says_lines h []);
+        no = λ e same. k.no e (λ rest. listed_same part _ _ (sym (says_lines h rest) ∙ same rest ∙ says_lines h []));
       }

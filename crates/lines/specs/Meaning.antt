@@ -1,6 +1,6 @@
 -- What a reader's state says: the answer of a text of which it has read all but the rest. It serves the contracts of the reader's parts
 -- alone; what a text says is in Text. Assumes nothing.
-use Rattle.std.specs.Prelude.{◌≡◌, Bool, true, false, cond, ◌||◌, List, [], ◌∷◌, ◌++◌, map, ℕ, zero, suc, min, ◌-◌, ◌/◌, ◌≤◌, ◌<◌, ltb, eqb, length, get_or, take, drop}
+use Rattle.std.specs.Prelude.{◌≡◌, Bool, true, cond, ◌||◌, List, [], ◌∷◌, ◌++◌, map, ℕ, zero, suc, min, ◌-◌, ◌/◌, ◌≤◌, ◌<◌, ltb, eqb, length, get_or, take, drop, Option, Some, None}
 use Rattle.row.specs.declared.Row.{Row}
 use Rattle.row.specs.Numbers.{digit_byte, line_feed, lines_of, numbers_of}
 use Rattle.row.specs.Meaning.{row_is_begun, row_numbers}
@@ -119,12 +119,17 @@ part_is_past row = row.bad || ltb 0 row.at || ltb (cond row.digit most_part (mos
 
 -- The whole text
 
+-- the answer where all but the rest is read: while the first line is not read, that line and what is behind it say; then the part and the lines
+abbrev pub meaning_with : Option ℕ → Row → Body → List ℕ → Taken
+meaning_with None first body rest = first_says first body rest
+meaning_with (Some part) first body rest = part_then part (body_meaning body rest)
+
 -- the answer of a text of which the reader has read all but the rest
 unfoldable pub meaning : Reader → List ℕ → Taken
-meaning reader rest = cond reader.ahead (first_says reader.first reader.body rest) (part_then reader.part (body_meaning reader.body rest))
+meaning reader rest = meaning_with reader.part reader.first reader.body rest
 
--- what some bytes have of the first line: it stays ahead, or the lines behind it begin at a place of theirs
+-- what some bytes have of the first line: it is not read to its end, or the lines behind it begin at a place of theirs
 pub record HeadIs (s : Reader) (bytes : List ℕ) (h : Head) : Type 0 where
   pub within : h.next ≤ length bytes
-  pub still : h.ahead ≡ true → (rest : List ℕ) → first_says h.first s.body rest ≡ meaning s (bytes ++ rest)
-  pub behind : h.ahead ≡ false → (rest : List ℕ) → part_then h.part (body_meaning s.body (drop h.next bytes ++ rest)) ≡ meaning s (bytes ++ rest)
+  pub still : h.part ≡ None → (rest : List ℕ) → first_says h.first s.body rest ≡ meaning s (bytes ++ rest)
+  pub behind : (part : ℕ) → h.part ≡ Some part → (rest : List ℕ) → part_then part (body_meaning s.body (drop h.next bytes ++ rest)) ≡ meaning s (bytes ++ rest)

@@ -42,9 +42,7 @@ impl Body {
     {
         let mut row = self.row;
         let mut sheet = self.sheet;
-        let mut i: usize = 0;
-        while i < bytes.len() {
-            let b = bytes[i];
+        for &b in bytes {
             if is_digit(b) {
                 row.digit = true;
                 row.value = grown(row.value, b);
@@ -71,7 +69,6 @@ impl Body {
             } else {
                 row.bad = true;
             }
-            i += 1;
         }
         Body { row, sheet }
     }

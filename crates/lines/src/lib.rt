@@ -32,22 +32,20 @@ pub struct Taken {
     pub part: u32,
 }
 
-// All that is kept of the text so far: the first line while it is `ahead` of the others, then the part; and the lines.
+// All that is kept of the text so far: the first line, the part once that line is read, and the lines.
 #[derive(Clone, Copy)]
 pub struct Reader {
     first: Row,
     body: Body,
-    part: u32,
-    ahead: bool,
+    part: Option<u32>,
 }
 
-// What some bytes have of the first line: it as far as it is read, whether it is still ahead, otherwise the part and where the lines begin.
+// What some bytes have of the first line: it as far as it is read; and once it is, the part and where the lines begin.
 #[derive(Clone, Copy)]
 pub struct Head {
     pub first: Row,
     pub next: usize,
-    pub part: u32,
-    pub ahead: bool,
+    pub part: Option<u32>,
 }
 
 // What the lines say, with the part; or that the part is none.
@@ -86,8 +84,7 @@ impl Reader {
         Reader {
             first,
             body,
-            part: 0,
-            ahead: true,
+            part: None,
         }
     }
 
@@ -100,17 +97,16 @@ impl Reader {
         self.feed(&one)
     }
 
-    // What the bytes have of the first line, if it is ahead.
+    // What the bytes have of the first line, if it is not read yet.
     fn head(self, bytes: &[u8]) -> Head
         ensures { HeadIs self bytes.now result }
     {
         let first = self.first;
-        if !self.ahead {
+        if let Some(part) = self.part {
             return Head {
                 first,
                 next: 0,
-                part: self.part,
-                ahead: false,
+                part: Some(part),
             };
         }
         let line = first_line(first, bytes);
@@ -119,15 +115,13 @@ impl Reader {
             return Head {
                 first: row,
                 next: 0,
-                part: self.part,
-                ahead: true,
+                part: None,
             };
         }
         Head {
             first: row,
             next: line.next + 1,
-            part: part_in(row),
-            ahead: false,
+            part: Some(part_in(row)),
         }
     }
 
@@ -138,21 +132,18 @@ impl Reader {
     {
         let head = self.head(bytes);
         let first = head.first;
-        let next = head.next;
         let body = self.body;
-        if head.ahead {
+        let Some(part) = head.part else {
             return Reader {
                 first,
                 body,
-                part: head.part,
-                ahead: true,
+                part: None,
             };
-        }
+        };
         Reader {
             first,
-            body: body.feed(&bytes[next..]),
-            part: head.part,
-            ahead: false,
+            body: body.feed(&bytes[head.next..]),
+            part: Some(part),
         }
     }
 
@@ -161,10 +152,10 @@ impl Reader {
         ensures by_index { (text : List ℕ) → HasRead self text → Tells (Settled text) result }
         ensures tells { Tells (Stays self) result }
     {
-        if self.ahead {
+        let Some(part) = self.part else {
             return is_past(self.first);
-        }
-        if MOST_PART < self.part {
+        };
+        if MOST_PART < part {
             return true;
         }
         let body = self.body;
@@ -178,10 +169,10 @@ impl Reader {
     {
         let body = self.body;
         let listed = body.finish();
-        if self.ahead {
-            return part_then(part_in(self.first), listed);
+        match self.part {
+            Some(part) => part_then(part, listed),
+            None => part_then(part_in(self.first), listed),
         }
-        part_then(self.part, listed)
     }
 }
 

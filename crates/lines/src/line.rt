@@ -50,11 +50,9 @@ pub fn best(start: Row) -> Row
     ensures { row_line result [] ≡ row_line start (best_bytes start) }
 {
     let mut row = numbered(start);
-    let mut i = start.at;
-    while i < LAST {
+    for _column in start.at..LAST {
         let parted = stepped(row, b' ');
         row = stepped(parted, b'0');
-        i += 1;
     }
     row
 }

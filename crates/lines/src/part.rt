@@ -17,16 +17,16 @@ pub fn first_line(start: Row, bytes: &[u8]) -> FirstLine
     ensures { FirstLineIs start bytes.now result }
 {
     let mut row = start;
-    let mut next: usize = 0;
-    while next < bytes.len() {
-        let b = bytes[next];
-        if b == b'\n' {
+    for (next, b) in bytes.iter().enumerate() {
+        if *b == b'\n' {
             return FirstLine { row, next };
         }
-        row = row.step(b' ', 0, b);
-        next += 1;
+        row = row.step(b' ', 0, *b);
     }
-    FirstLine { row, next }
+    FirstLine {
+        row,
+        next: bytes.len(),
+    }
 }
 
 // The part, if its line ends here; one above the limit where it is none.

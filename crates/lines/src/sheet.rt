@@ -14,6 +14,7 @@ use share::Line;
 use share::array::blank_lines;
 
 // How many lines were sound, the number of the last of them (else 0), and the lines; `refused`: the one after them was not.
+// Stays a flag: the lines before a refused one still count, since their number is the place that is told.
 #[derive(Clone, Copy)]
 pub struct Sheet {
     pub refused: bool,

@@ -31,7 +31,7 @@ use Rattle.join.specs.Trees.{written}
 use Rattle.join.proofs.Books.{has}
 use Rattle.join.proofs.Copies.{record_part}
 use Rattle.join.proofs.Accepted.{accepts, reads_joined}
-use Rattle.lookup.specs.declared.Index.{Index}
+use Rattle.std.specs.Prelude.{Option as Maybe}
 use Rattle.lookup.specs.declared.Place.{Place}
 use Rattle.lookup.specs.declared.Place.TheVariants.{Nowhere, InFirst, InSecond}
 use Rattle.lookup.specs.Lookup.{index_of, stands_at, choose, which, LiesAt, Found}
@@ -86,8 +86,8 @@ module _ (a b : List ℕ) (z : (screen a b).number ≡ 0) (participant number : 
       joined_is : {o p : Option Call} → record_of k (calls_of a) ≡ o → record_of k (calls_of b) ≡ p → record_of k (joined_of a b) ≡ joined_at o p
       joined_is e f = join_find (calls_of a) (calls_of b) k ∙ ap₂ joined_at e f
 
-      place_is : {x y : Index} → index_of k a ≡ x → index_of k b ≡ y → place ≡ choose a x b y
-      place_is e f = sym (which_chosen a b participant number z) ∙ ap₂ (λ (x y : Index). choose a x b y) e f
+      place_is : {x y : Maybe ℕ} → index_of k a ≡ x → index_of k b ≡ y → place ≡ choose a x b y
+      place_is e f = sym (which_chosen a b participant number z) ∙ ap₂ (λ (x y : Maybe ℕ). choose a x b y) e f
 
       both : (i j : ℕ) → i < count_at a → j < count_at b → record_of k (calls_of a) ≡ some (record_at a i) → record_of k (calls_of b) ≡ some (record_at b j)
           → (d : Decision) → decide (record_at a i) (record_at b j) ≡ d → record_of k (joined_of a b) ≡ some (given d (record_at a i) (record_at b j))

@@ -11,6 +11,7 @@ use borrow.Author.Tests.{eq-eqb, ne_eqb}
 use borrow.Rule.Slice.PartAt.{sl_partˢ}
 use borrow.Rule.Slice.Shared.{by_byte}
 use denote.Ref.{Bor}
+use Rattle.std.specs.Prelude.{Option, Some, None}
 use Rattle.call.specs.declared.Call.{Call}
 use Rattle.call.specs.Key.{key_of, call_key}
 use Rattle.call.specs.Layout.{record_size}
@@ -28,8 +29,6 @@ use Rattle.rule.proofs.Keyed.{find_hit, find_miss}
 use Rattle.pair.specs.Screening.{IsAccepted, screen}
 use Rattle.pair.proofs.Screening.{passed_screen}
 use Rattle.join.proofs.Books.{few, size, keys_rise}
-use Rattle.lookup.specs.declared.Index.{Index}
-use Rattle.lookup.specs.declared.Index.TheVariants.{Missing, At}
 use Rattle.lookup.specs.declared.Place.{Place}
 use Rattle.lookup.specs.declared.Place.TheVariants.{Nowhere, InFirst, InSecond}
 use Rattle.lookup.specs.Lookup.{index_from, index_of, stands_at, choose, which, Lies, LiesAt}
@@ -39,14 +38,14 @@ use Rattle.lookup.specs.Inner.{HasIndex, Parts}
 
 module _ (b : List ℕ) (k i n : ℕ) where
   -- what is left to be searched
-  pub left_at : Index
+  pub left_at : Option ℕ
   left_at = index_from k i (calls_from b i (n - i))
 
-  pub at_hit : i < n → call_key (record_at b i) ≡ k → At i ≡ left_at
+  pub at_hit : i < n → call_key (record_at b i) ≡ k → Some i ≡ left_at
   unfolding left_at index_from calls_from
   at_hit l e = let h : n - i ≡ suc (n - (i + 1)) = omega arith in rw (h, eq-eqb (call_key (record_at b i)) k e) refl
 
-  pub at_end : n ≤ i → Missing ≡ left_at
+  pub at_end : n ≤ i → None ≡ left_at
   unfolding left_at index_from calls_from
   at_end h = let e : n - i ≡ 0 = omega arith in rw e refl
 
@@ -110,7 +109,7 @@ skips b k n (suc i) l f =
     ap (λ (j : ℕ). left_at b k j n) s ∙ at_miss b k i n (omega arith) (λ e. omega arith) ∙ skips b k n i (omega arith) (λ j h. f j (omega arith))
 
 -- and those from a place on
-none_left : (b : List ℕ) (k n left i : ℕ) → i + left ≡ n → ((j : ℕ) → i ≤ j → j < n → k < call_key (record_at b j)) → Missing ≡ left_at b k i n
+none_left : (b : List ℕ) (k n left i : ℕ) → i + left ≡ n → ((j : ℕ) → i ≤ j → j < n → k < call_key (record_at b j)) → None ≡ left_at b k i n
 none_left b k n zero i e f = at_end b k i n (omega arith)
 none_left b k n (suc left) i e f =
     let higher = f i (omega arith) (omega arith) in
@@ -121,10 +120,10 @@ module _ (b : List ℕ) (e : IsAccepted b) (k i : ℕ) (p : Parts b k i i) where
   from_lowest = skips b k (count_at b) i p.ordered.1 p.below ∙ at_start b k (count_at b) refl
 
   -- the record behind the lower ones has the key, or none has
-  pub lowest_hit : i < count_at b → call_key (record_at b i) ≡ k → At i ≡ index_of k b
+  pub lowest_hit : i < count_at b → call_key (record_at b i) ≡ k → Some i ≡ index_of k b
   lowest_hit l h = at_hit b k i (count_at b) l h ∙ from_lowest
 
-  pub lowest_other : i < count_at b → (call_key (record_at b i) ≡ k → ⊥) → Missing ≡ index_of k b
+  pub lowest_other : i < count_at b → (call_key (record_at b i) ≡ k → ⊥) → None ≡ index_of k b
   lowest_other l n = none_left b k (count_at b) (count_at b - i) i (omega arith) above ∙ from_lowest
     where
       own : k < call_key (record_at b i)
@@ -137,14 +136,14 @@ module _ (b : List ℕ) (e : IsAccepted b) (k i : ℕ) (p : Parts b k i i) where
           go (yes q) = rw (sym q) own
           go (no q) = let r = key_rises b e i j (omega arith) l' in omega (arith, own)
 
-  pub lowest_end : count_at b ≤ i → Missing ≡ index_of k b
+  pub lowest_end : count_at b ≤ i → None ≡ index_of k b
   lowest_end h = at_end b k i (count_at b) h ∙ from_lowest
 
 -- What is found: nothing, or a record of the book, as the calls have it for the key
 
-pub data Finds (b : List ℕ) (k most : ℕ) (x : Index) (cs : List Call) : Type 0 where
-  missing : x ≡ Missing → record_of k cs ≡ none → Finds b k most x cs
-  found : (i : ℕ) → i < most → x ≡ At i → record_of k cs ≡ some (record_at b i) → Finds b k most x cs
+pub data Finds (b : List ℕ) (k most : ℕ) (x : Option ℕ) (cs : List Call) : Type 0 where
+  missing : x ≡ None → record_of k cs ≡ none → Finds b k most x cs
+  found : (i : ℕ) → i < most → x ≡ Some i → record_of k cs ≡ some (record_at b i) → Finds b k most x cs
 
 finds : (b : List ℕ) (k n i : ℕ) → Finds b k (i + n) (index_from k i (calls_from b i n)) (calls_from b i n)
 unfolding index_from calls_from record_of
@@ -188,12 +187,12 @@ module _ (a b : List ℕ) where
   stands p q i j h l Second = (q, l)
   stands p q i j h l Struck = tt
 
-  chosen : IsAccepted a → IsAccepted b → (x y : Index) → HasIndex a x → HasIndex b y → InBooks a b (choose a x b y)
+  chosen : IsAccepted a → IsAccepted b → (x y : Option ℕ) → HasIndex a x → HasIndex b y → InBooks a b (choose a x b y)
   unfolding choose
-  chosen p q Missing Missing h l = tt
-  chosen p q (At i) Missing h l = (p, h)
-  chosen p q Missing (At j) h l = (q, l)
-  chosen p q (At i) (At j) h l = stands p q i j h l (decide (record_at a i) (record_at b j))
+  chosen p q None None h l = tt
+  chosen p q (Some i) None h l = (p, h)
+  chosen p q None (Some j) h l = (q, l)
+  chosen p q (Some i) (Some j) h l = stands p q i j h l (decide (record_at a i) (record_at b j))
 
   module _ (p k : ℕ) where
     pub which_refused : (v : Verdict) → v ≡ screen a b → (v.number ≡ 0 → ⊥) → Nowhere ≡ which a b p k

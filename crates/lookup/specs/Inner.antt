@@ -1,14 +1,12 @@
 -- What inner contracts speak of, and no sentence of the paper. Assumes nothing.
-use Rattle.std.specs.Prelude.{List, ℕ, ◌≤◌, ◌<◌}
+use Rattle.std.specs.Prelude.{List, ℕ, ◌≤◌, ◌<◌, Option, Some, None}
 use Rattle.call.specs.Key.{call_key}
 use Rattle.book.specs.Book.{count_at, record_at}
-use Rattle.lookup.specs.declared.Index.{Index}
-use Rattle.lookup.specs.declared.Index.TheVariants.{Missing, At}
 
 -- a book has the record of an index, where there is one
-abbrev pub HasIndex : List ℕ → Index → Type 0
-HasIndex b Missing = Unit {0}
-HasIndex b (At i) = i < count_at b
+abbrev pub HasIndex : List ℕ → Option ℕ → Type 0
+HasIndex b None = Unit {0}
+HasIndex b (Some i) = i < count_at b
 
 -- the records before `low` have lower keys than k, and those from `high` on have not
 pub record Parts (b : List ℕ) (k low high : ℕ) : Type 0 where

@@ -1,5 +1,5 @@
 -- One key in two books: the record that stands, as it lies in the first or the second. Assumes nothing.
-use Rattle.std.specs.Prelude.{◌≡◌, cond, List, [], ◌∷◌, ℕ, suc, ◌+◌, eqb, take, drop}
+use Rattle.std.specs.Prelude.{◌≡◌, cond, List, [], ◌∷◌, ℕ, suc, ◌+◌, eqb, take, drop, Option, Some, None}
 use Rattle.std.specs.Borrow.{Bor}
 use Rattle.call.specs.declared.Call.{Call}
 use Rattle.call.specs.Key.{key_of, call_key}
@@ -9,18 +9,16 @@ use Rattle.rule.specs.declared.Decision.{Decision}
 use Rattle.rule.specs.declared.Decision.TheVariants.{First, Second, Struck}
 use Rattle.rule.specs.Standing.{decide}
 use Rattle.pair.specs.Screening.{passes, screen}
-use Rattle.lookup.specs.declared.Index.{Index}
-use Rattle.lookup.specs.declared.Index.TheVariants.{Missing, At}
 use Rattle.lookup.specs.declared.Place.{Place}
 use Rattle.lookup.specs.declared.Place.TheVariants.{Nowhere, InFirst, InSecond}
 
 -- the index of the record with a key, among calls of which the first is record i
-unfoldable pub index_from : ℕ → ℕ → List Call → Index
-index_from k i [] = Missing
-index_from k i (c ∷ cs) = cond (eqb (call_key c) k) (At i) (index_from k (suc i) cs)
+unfoldable pub index_from : ℕ → ℕ → List Call → Option ℕ
+index_from k i [] = None
+index_from k i (c ∷ cs) = cond (eqb (call_key c) k) (Some i) (index_from k (suc i) cs)
 
 -- the same of a book
-unfoldable pub index_of : ℕ → List ℕ → Index
+unfoldable pub index_of : ℕ → List ℕ → Option ℕ
 index_of k b = index_from k 0 (calls_of b)
 
 -- where the record that stands lies, of record i of the first book and record j of the second; a struck one stands in neither
@@ -30,11 +28,11 @@ stands_at Second i j = InSecond j
 stands_at Struck i j = Nowhere
 
 -- a key that neither book has is nowhere; in one book only, it is there; in both, it is where the record that stands lies
-unfoldable pub choose : List ℕ → Index → List ℕ → Index → Place
-choose first Missing second Missing = Nowhere
-choose first (At i) second Missing = InFirst i
-choose first Missing second (At j) = InSecond j
-choose first (At i) second (At j) = stands_at (decide (record_at first i) (record_at second j)) i j
+unfoldable pub choose : List ℕ → Option ℕ → List ℕ → Option ℕ → Place
+choose first None second None = Nowhere
+choose first (Some i) second None = InFirst i
+choose first None second (Some j) = InSecond j
+choose first (Some i) second (Some j) = stands_at (decide (record_at first i) (record_at second j)) i j
 
 -- nowhere, where joining would refuse with 1 to 7 or 21 to 26
 unfoldable pub which : List ℕ → List ℕ → ℕ → ℕ → Place

@@ -14,14 +14,8 @@ use call::layout::{call_number_at, participant_at};
 use pair::screen;
 use rule::{Decision, decide_at};
 
-// The index of a record, where a book has it.
-#[derive(Clone, Copy)]
-pub enum Index {
-    Missing,
-    At(usize),
-}
-
 // Where a record lies: in neither book, or at an index of the first or the second.
+// Stays an enum: the three are told side by side, and an Option of a second enum would have two layers for them.
 #[derive(Clone, Copy)]
 pub enum Place {
     Nowhere,
@@ -33,7 +27,7 @@ pub enum Place {
 pub fn key_of(participant: u16, number: u32) -> u64
     ensures { result ≡ key_of participant number }
 {
-    (participant as u64) * 0x1_0000_0000 + (number as u64)
+    u64::from(participant) * 0x1_0000_0000 + u64::from(number)
 }
 
 // The key of record i.
@@ -55,6 +49,7 @@ fn lower_than(key: u64, b: &[u8]) -> usize
 {
     let mut low = 0;
     let mut high = count_at(b);
+    // Stays a while: the part that is left is halved, so that no step is one.
     while low < high {
         let middle = low + (high - low) / 2;
         if key_at(b, middle) < key {
@@ -67,17 +62,17 @@ fn lower_than(key: u64, b: &[u8]) -> usize
 }
 
 // The index of the record with a key: that behind all lower ones, if it has it.
-pub fn index_of(key: u64, b: &[u8]) -> Index
+pub fn index_of(key: u64, b: &[u8]) -> Option<usize>
     requires { IsAccepted b.now }
     ensures { result ≡ index_of key b.now }
 {
     let i = lower_than(key, b);
     if i < count_at(b) {
         if key_at(b, i) == key {
-            return Index::At(i);
+            return Some(i);
         }
     }
-    Index::Missing
+    None
 }
 
 fn stands_at(decision: Decision, i: usize, j: usize) -> Place
@@ -90,22 +85,18 @@ fn stands_at(decision: Decision, i: usize, j: usize) -> Place
     }
 }
 
-fn choose(first: &[u8], i: Index, second: &[u8], j: Index) -> Place
+fn choose(first: &[u8], i: Option<usize>, second: &[u8], j: Option<usize>) -> Place
     requires accepted { IsAccepted first.now }
     requires accepted_2 { IsAccepted second.now }
     requires has_index { HasIndex first.now i }
     requires has_index_2 { HasIndex second.now j }
     ensures { result ≡ choose first.now i second.now j }
 {
-    match i {
-        Index::Missing => match j {
-            Index::Missing => Place::Nowhere,
-            Index::At(q) => Place::InSecond(q),
-        },
-        Index::At(p) => match j {
-            Index::Missing => Place::InFirst(p),
-            Index::At(q) => stands_at(decide_at(first, place_of(p), second, place_of(q)), p, q),
-        },
+    match (i, j) {
+        (None, None) => Place::Nowhere,
+        (Some(p), None) => Place::InFirst(p),
+        (None, Some(q)) => Place::InSecond(q),
+        (Some(p), Some(q)) => stands_at(decide_at(first, place_of(p), second, place_of(q)), p, q),
     }
 }
 

@@ -1,27 +1,21 @@
 -- Calls of members without a line, one by one. Assumes nothing.
-use mathlib.Core.Path.{◌≡◌, refl}
-use mathlib.Core.Bool.{true, false}
+use mathlib.Core.Path.{◌≡◌, refl, ap}
+use mathlib.Core.Bool.{Bool, true, false, ◌||◌}
 use mathlib.Core.List.{List, [], ◌∷◌}
 use Prim.Native.Nat.{ℕ, suc, ◌+◌, ◌-◌, ◌≤◌, ◌<◌}
 use native.Mathlib.Numerals.{add-one}
 use native.Mathlib.Omega.{arith}
-use borrow.Author.Tests.{eq-eqb, ne_eqb}
+use lib.Dec.{eqb}
+use Rattle.std.specs.List.{list_any}
 use Rattle.book.specs.Book.{record_at, calls_from}
 use Rattle.register.specs.declared.Entry.{Entry}
 use Rattle.month.specs.Settling.{is_listed, is_unlisted, first_unlisted}
 
-module _ (e : Entry) (es : List Entry) (number : ℕ) where
-  pub listed_here : e.member.number ≡ number → is_listed (e ∷ es) number ≡ true
-  unfolding is_listed
-  listed_here h = rw (eq-eqb _ _ h) refl
-
-  pub listed_next : (e.member.number ≡ number → ⊥) → is_listed (e ∷ es) number ≡ is_listed es number
-  unfolding is_listed
-  listed_next h = rw (ne_eqb _ _ h) refl
-
-pub listed_none : (number : ℕ) → is_listed [] number ≡ false
+-- a member has a line where any line is its own
+pub listed_any : (es : List Entry) (number : ℕ) → is_listed es number ≡ list_any (λ (e : Entry). eqb e.member.number number) es
 unfolding is_listed
-listed_none number = refl
+listed_any [] number = refl
+listed_any (e ∷ es) number = ap (λ (t : Bool). eqb e.member.number number || t) (listed_any es number)
 
 module _ (es : List Entry) (b : List ℕ) where
   calls_step : (i n : ℕ) → i < n → calls_from b i (n - i) ≡ record_at b i ∷ calls_from b (i + 1) (n - (i + 1))

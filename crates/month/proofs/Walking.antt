@@ -9,7 +9,7 @@ use native.Mathlib.Decide.{dec_le}
 use native.Mathlib.Omega.{arith}
 use borrow.Author.Tests.{eq-eqb, ne_eqb}
 use lib.ListN.{length, get_or, take, drop, set, length-drop, length-map, drop_of_length-le}
-use lib.Seq.{get_or-take, drop-cons, get_or-drop, drop-drop, take_all, take-suc, take-suc-set}
+use lib.Seq.{drop-cons, get_or-drop, drop-drop, take_all, take-suc, take-suc-set}
 use Rattle.units.specs.declared.Grains.{Grains}
 use Rattle.units.specs.declared.Fen.{Fen}
 use Rattle.units.specs.Money.{grains_plus, grains_to_fen}
@@ -124,13 +124,10 @@ module _ (es : List Entry) (book series lengths : List ℕ) (ramped : List Rampe
   abbrev pub turn_of : ℕ → ℕ → MemberEarned
   turn_of at i = earned_with (grains_earned (get_or es i blank_entry).member book (take (get_or lengths i 0) (drop at series))) (get_or ramped i no_ramping)
 
-  -- the same, of an array that holds the lines first
-  pub turn_is : (entries : List Entry) (count at i : ℕ) (part : List ℕ) (x : MemberEarned) → es ≡ take count entries → i < count
-      → part ≡ take (get_or lengths i 0) (drop at series)
-      → x ≡ earned_with (grains_earned (get_or entries i blank_entry).member book part) (get_or ramped i no_ramping) → turn_of at i ≡ x
-  turn_is entries count at i part x e h p is =
-      let m : get_or es i blank_entry ≡ get_or entries i blank_entry = ap (λ (l : List Entry). get_or l i blank_entry) e ∙ get_or-take count entries i blank_entry h in
-      sym (is ∙ rw (p, m) refl)
+  -- the same, over a part that is those values
+  pub turn_is : (at i : ℕ) (part : List ℕ) (x : MemberEarned) → part ≡ take (get_or lengths i 0) (drop at series)
+      → x ≡ earned_with (grains_earned (get_or es i blank_entry).member book part) (get_or ramped i no_ramping) → turn_of at i ≡ x
+  turn_is at i part x p is = sym (is ∙ rw p refl)
 
   -- the walk before line i, whose values begin at `at`
   pub record Walk (grains : List Grains) (at i : ℕ) : Type 0 where

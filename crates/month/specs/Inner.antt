@@ -1,20 +1,20 @@
 -- What inner contracts speak of, and no sentence of the paper. Assumes nothing.
-use Rattle.std.specs.Prelude.{◌≡◌, Bool, true, false, List, [], ◌∷◌, map, ℕ, ◌<◌, length, get_or, take, drop}
+use Rattle.std.specs.Prelude.{◌≡◌, Bool, List, [], ◌∷◌, map, ℕ, ◌<◌, Result, Ok, Err, length, get_or, take, drop}
 use Rattle.units.specs.declared.Grains.{Grains}
 use Rattle.ceiling.specs.declared.LimitedLine.{LimitedLine}
 use Rattle.ceiling.specs.Ceiling.{CeiledPart}
+use Rattle.month.specs.declared.Fault.{Fault}
 use Rattle.month.specs.declared.Ramped.{Ramped}
 use Rattle.month.specs.declared.Row.{Row}
 use Rattle.month.specs.declared.members.MemberEarned.{MemberEarned}
 use Rattle.month.specs.declared.members.MemberEarned.TheVariants.{NotScored}
-use Rattle.month.specs.declared.members.Members.{Members}
 use Rattle.month.specs.Settling.{first_refused_member, member_fault, earned_grains, no_ramping, row_of}
 
 -- the members' grains as a loop finds them: the first refusal, or the grains of each
-pub record MembersEarned (earned : List MemberEarned) (count : ℕ) (r : Members) : Type 0 where
-  pub refusal : r.refused ≡ true
-      → (first_refused_member earned < length earned) × (r.fault ≡ member_fault (first_refused_member earned) (get_or earned (first_refused_member earned) (NotScored 0 0)))
-  pub each : r.refused ≡ false → (first_refused_member earned ≡ length earned) × (take count r.grains ≡ map earned_grains earned)
+abbrev pub MembersEarned : List MemberEarned → ℕ → Result (List Grains) Fault → Type 0
+MembersEarned earned count (Ok grains) = (first_refused_member earned ≡ length earned) × (take count grains ≡ map earned_grains earned)
+MembersEarned earned count (Err fault) =
+    (first_refused_member earned < length earned) × (fault ≡ member_fault (first_refused_member earned) (get_or earned (first_refused_member earned) (NotScored 0 0)))
 
 -- what a line got that is filled in
 abbrev pub got_in : LimitedLine → CeiledPart

@@ -148,15 +148,14 @@ fn earned_month(
     requires count_le_most_entries { count ≤ most_entries }
     ensures { result ≡ earned_month part (take count entries) book.now ramped (earnings (take count entries) book.now series.now lengths ramped) }
 {
-    let earned = members_earned(entries, count, book, series, lengths, ramped);
-    if earned.refused {
-        let fault = earned.fault;
-        return month_refused(fault);
+    match members_earned(&entries[..count], book, series, lengths, ramped) {
+        Ok(grains) => {
+            let fens = compensations(grains);
+            let lines = limited_for(entries, fens);
+            shared_month(part, book, lines, grains, ramped, count)
+        }
+        Err(fault) => month_refused(fault),
     }
-    let grains = earned.grains;
-    let fens = compensations(grains);
-    let lines = limited_for(entries, fens);
-    shared_month(part, book, lines, grains, ramped, count)
 }
 
 // The month: the part, the register, the book, calls of members without a line, the members in turn, sharing. The first of them that is at fault is told.
@@ -184,7 +183,8 @@ pub fn settle(
         return month_refused(Fault::InBook(number, verdict.place));
     }
     let n = count_at(book);
-    let call = first_unlisted(entries, count, book, n);
+    let lines = &entries[..count];
+    let call = first_unlisted(lines, book, n);
     if call < n {
         return month_refused(Fault::Unlisted(call));
     }

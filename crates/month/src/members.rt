@@ -1,5 +1,5 @@
 // The members in turn: each one's grains over the book and its own part of the series, and those of its ramping file.
-ghost use Rattle.std.specs.Prelude.{◌≡◌, ◌+◌, ◌-◌, ◌≤◌, min, length, take};
+ghost use Rattle.std.specs.Prelude.{◌≡◌, ◌+◌, ◌-◌, ◌≤◌, min, length};
 ghost use Rattle.score.specs.declared.answer.Earned.TheVariants.{Accepted};
 ghost use Rattle.score.specs.Scoring.{grains_earned};
 ghost use Rattle.register.specs.Register.{most_entries};
@@ -21,33 +21,12 @@ pub enum MemberEarned {
     NotRamped(u32, usize),
 }
 
-// What the members earned: whether one is refused, and its refusal; else the grains of each.
-#[derive(Clone, Copy)]
-pub struct Members {
-    pub grains: [Grains; MOST_ENTRIES],
-    pub fault: Fault,
-    pub refused: bool,
-}
-
-fn no_grains() -> [Grains; MOST_ENTRIES]
-    ensures { length result ≡ most_entries }
-{
-    [Grains(0); MOST_ENTRIES]
-}
-
-fn no_fens() -> [Fen; MOST_ENTRIES]
-    ensures { length result ≡ most_entries }
-{
-    [Fen(0); MOST_ENTRIES]
-}
-
 // Where the part of a member ends that begins at `at` and has so many values, of so many in all.
 fn part_end(at: usize, values: usize, all: usize) -> usize
     requires { at ≤ all }
     ensures { (result ≡ at + min values (all - at)) × (at ≤ result) × (result ≤ all) }
 {
-    let left = all - at;
-    if values < left { at + values } else { all }
+    at + values.min(all - at)
 }
 
 // The grains of a score and of a ramping file together; or the file's refusal.
@@ -104,55 +83,38 @@ fn member_fault(line: usize, earned: MemberEarned) -> Fault
     }
 }
 
-// The members in turn, each with the next so many values of the series.
+// The members in turn, each with the next so many values of the series: the grains of each, or what is told of the first that is refused.
 pub fn members_earned(
-    entries: [Entry; MOST_ENTRIES],
-    count: usize,
+    entries: &[Entry],
     book: &[u8],
     series: &[u32],
     lengths: [usize; MOST_ENTRIES],
     ramped: [Ramped; MOST_ENTRIES],
-) -> Members
-    requires { count ≤ most_entries }
-    ensures { MembersEarned (earnings (take count entries) book.now series.now lengths ramped) count result }
+) -> Result<[Grains; MOST_ENTRIES], Fault>
+    requires { length entries.now ≤ most_entries }
+    ensures { MembersEarned (earnings entries.now book.now series.now lengths ramped) (length entries.now) result }
 {
-    let mut grains = no_grains();
+    let mut grains = [Grains(0); MOST_ENTRIES];
     let mut at: usize = 0;
-    let mut i: usize = 0;
-    while i < count {
+    for (i, e) in entries.iter().enumerate() {
         let end = part_end(at, lengths[i], series.len());
-        let e = entries[i];
-        let x = ramped[i];
-        let earned = member_earned(e.member, book, &series[at..end], x);
+        let earned = member_earned(e.member, book, &series[at..end], ramped[i]);
         let MemberEarned::ScoreAndHours(g) = earned else {
-            let fault = member_fault(i, earned);
-            return Members {
-                grains,
-                fault,
-                refused: true,
-            };
+            return Err(member_fault(i, earned));
         };
         grains[i] = g;
         at = end;
-        i += 1;
     }
-    Members {
-        grains,
-        fault: Fault::NoFault,
-        refused: false,
-    }
+    Ok(grains)
 }
 
 // The fen of grains, once for each member: the compensations.
 pub fn compensations(grains: [Grains; MOST_ENTRIES]) -> [Fen; MOST_ENTRIES]
     ensures { result ≡ compensations grains }
 {
-    let mut fens = no_fens();
-    let mut i: usize = 0;
-    while i < MOST_ENTRIES {
-        let g = grains[i];
+    let mut fens = [Fen(0); MOST_ENTRIES];
+    for (i, g) in grains.iter().enumerate() {
         fens[i] = g.to_fen();
-        i += 1;
     }
     fens
 }

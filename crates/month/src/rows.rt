@@ -87,13 +87,8 @@ pub fn filled_rows(
     ensures { result ≡ filled_rows (rows_in negative (take count lines) (take count grains) ramped) }
 {
     let mut rows = blank_rows();
-    let mut i: usize = 0;
-    while i < count {
-        let l = lines[i];
-        let g = grains[i];
-        let x = ramped[i];
-        rows[i] = row_in(negative, l, g, x.hours);
-        i += 1;
+    for i in 0..count {
+        rows[i] = row_in(negative, lines[i], grains[i], ramped[i].hours);
     }
     rows
 }

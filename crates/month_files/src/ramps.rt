@@ -7,7 +7,7 @@ use book::header_of;
 use clerk::args::first;
 use hours::name::ramping_name;
 use hours_file::given::{hours_of, ramped_of};
-use hours_file::{Found, HoursFile, read_file};
+use hours_file::{HoursFile, Unread, read_file};
 use month::Ramped;
 use pay::Member;
 use register::{Entry, MOST_ENTRIES};
@@ -15,6 +15,7 @@ use say::Terminal;
 use units::Grains;
 
 // What each member's ramping file gives; which could not be read, and how many these are: of each one line has said why.
+// Stays a flag: month::settle takes the Ramped of all members as they stand, and Options of them would be copied for it
 #[derive(Clone, Copy)]
 pub struct Ramps {
     pub each: [Ramped; MOST_ENTRIES],
@@ -51,8 +52,9 @@ pub fn read_ramping(terminal: &Terminal, member: Member, hours: u16, goes_on: bo
     let bytes = name.bytes;
     let path = first(&bytes, name.size);
     let file = read_file(terminal.system(), path, member, hours);
-    let found = file.found;
-    tell_unread(terminal, path, goes_on, found);
+    if let Err(unread) = file.found {
+        tell_unread(terminal, path, goes_on, unread);
+    }
     file
 }
 
@@ -87,14 +89,10 @@ fn read_next(
     let mut each = before.each;
     let mut unread = before.unread;
     let file = read_ramping(terminal, e.member, hours, goes_on);
-    let found = file.found;
-    match found {
-        Found::Missing => {}
-        Found::Whole => {
-            let h = file.hours;
-            each[i] = ramped_of(h);
-        }
-        _ => {
+    match file.found {
+        Ok(()) => each[i] = ramped_of(file.hours),
+        Err(Unread::Missing) => {}
+        Err(_) => {
             unread[i] = true;
             return Ramps {
                 each,
@@ -118,11 +116,8 @@ pub fn read_ramps(
     ensures { result.bad ≤ 64 }
 {
     let mut ramps = no_ramps();
-    let mut i: usize = 0;
-    while i < count {
-        let e = entries[i];
-        ramps = read_next(terminal, e, i, hours, goes_on, ramps);
-        i += 1;
+    for (i, e) in entries[..count].iter().enumerate() {
+        ramps = read_next(terminal, *e, i, hours, goes_on, ramps);
     }
     ramps
 }

@@ -1,16 +1,15 @@
 // The members' series: a file each, read one behind the other into one array.
-ghost use Rattle.std.specs.Prelude.{◌≡◌, ◌+◌, ◌*◌, ◌<◌, ◌≤◌, length};
+ghost use Rattle.std.specs.Prelude.{◌≡◌, ◌+◌, ◌<◌, ◌≤◌, length};
 ghost use Rattle.tally.specs.Room.{series_room, ReadsWithin};
 ghost use Rattle.month_files.specs.Room.{all_room};
 
 use crate::places::folder_at;
-use clerk::args::{Held, argument, first, path};
-use clerk::load::load_or;
+use clerk::args::{argument, first, path};
 use clerk::print;
 use register::{Entry, MOST_ENTRIES, blank_entry};
 use say::Terminal;
-use tables::series::{read_series, series_name};
-use tally::outputs::{SERIES_ROOM, Values, part};
+use tables::series::series_name;
+use tally::outputs::{SERIES_ROOM, part, read_or};
 
 // Room for a series of each member.
 pub const ALL_ROOM: usize = MOST_ENTRIES * SERIES_ROOM;
@@ -21,6 +20,7 @@ const MOST_FILE: usize = 15;
 const MOST_FOLDER: usize = node::PATH_MAX - MOST_FILE;
 
 // A file's name in its first bytes; where it has none, one line has said why.
+// Stays a flag: what is told of a file takes its name as its first size bytes, and one that has none is told by the empty name
 #[derive(Clone, Copy)]
 pub struct Name {
     pub bytes: [u8; node::PATH_MAX],
@@ -29,6 +29,7 @@ pub struct Name {
 
 // Where each member's series begins and how many values it has, whether it was read, and how many values there are together; how many series could not
 // be read, of each of which one line has said why.
+// Stays a flag: month::settle takes the lengths of all members as they stand, and Options of them would be copied for it
 #[derive(Clone, Copy)]
 pub struct Lengths {
     pub starts: [usize; MOST_ENTRIES],
@@ -55,17 +56,15 @@ fn put_name(name: &[u8], buf: &mut [u8], n: usize)
 // Whether the folder of the series has a name that leaves room for a file's.
 pub fn folder_is_named(terminal: &Terminal) -> bool {
     let mut bytes = io::buffer();
-    match argument(terminal, folder_at(terminal), &mut bytes) {
-        Held::Bytes(n) => (0 < n) & (n <= MOST_FOLDER),
-        Held::Nothing => false,
-    }
+    argument(terminal, folder_at(terminal), &mut bytes).is_some_and(|n| (0 < n)
+        & (n <= MOST_FOLDER))
 }
 
 // A file in the folder of the series.
 pub fn in_folder(terminal: &Terminal, name: &[u8]) -> Name {
     let folder = folder_at(terminal);
     let mut bytes = io::buffer();
-    let Held::Bytes(n) = path(terminal, folder, &mut bytes) else {
+    let Some(n) = path(terminal, folder, &mut bytes) else {
         return Name { bytes, size: 0 };
     };
     if MOST_FOLDER < n {
@@ -88,25 +87,19 @@ pub fn file_of(terminal: &Terminal, member: u16) -> Name {
     in_folder(terminal, &name)
 }
 
-// The values of a file's lines in the first places of `out`, as many as there is room for.
-fn read_or(terminal: &Terminal, path: &[u8], goes_on: bool, out: &mut [u32]) -> Values
-    ensures { ReadsWithin (length out.old) result }
-{
-    let mut text = io::large_buffer();
-    let Held::Bytes(n) = load_or(terminal, path, goes_on, &mut text) else {
-        return Values::Nothing;
-    };
-    Values::Read(read_series(first(&text, n), out))
-}
-
 // The values of a member's series.
-pub fn read_member(terminal: &Terminal, member: u16, goes_on: bool, out: &mut [u32]) -> Values
+pub fn read_member(
+    terminal: &Terminal,
+    member: u16,
+    goes_on: bool,
+    out: &mut [u32],
+) -> Option<usize>
     ensures { ReadsWithin (length out.old) result }
 {
     let name = file_of(terminal, member);
     let bytes = name.bytes;
     if name.size == 0 {
-        return Values::Nothing;
+        return None;
     }
     read_or(terminal, first(&bytes, name.size), goes_on, out)
 }
@@ -156,7 +149,7 @@ fn read_next(
     let at = before.all;
     let end = at + SERIES_ROOM;
     let taken = read_member(terminal, e.member.number, goes_on, &mut series[at..end]);
-    let Values::Read(n) = taken else {
+    let Some(n) = taken else {
         return one_bad(before);
     };
     let mut starts = before.starts;
@@ -187,11 +180,8 @@ pub fn read_all(
     ensures { result.bad ≤ 64 }
 {
     let mut lengths = none_read();
-    let mut i: usize = 0;
-    while i < count {
-        let e = entries[i];
-        lengths = read_next(terminal, e, i, goes_on, lengths, series);
-        i += 1;
+    for (i, e) in entries[..count].iter().enumerate() {
+        lengths = read_next(terminal, *e, i, goes_on, lengths, series);
     }
     lengths
 }
@@ -206,15 +196,11 @@ pub fn entry_at(entries: [Entry; MOST_ENTRIES], i: usize) -> Entry {
 
 // The line of a member, or count where it has none.
 pub fn line_of(entries: [Entry; MOST_ENTRIES], count: usize, number: u16) -> usize {
-    let mut i: usize = 0;
-    while i < count {
-        let e = entry_at(entries, i);
-        if e.member.number == number {
-            return i;
-        }
-        i += 1;
-    }
-    count
+    entries
+        .iter()
+        .take(count)
+        .position(|e| e.member.number == number)
+        .unwrap_or(count)
 }
 
 // The series of line i's member.

@@ -3,21 +3,20 @@ use crate::places::register_at;
 use clerk::load::tell_of;
 use clerk::print;
 use clerk::shelf::{note_at, put_note_at};
+use hour_faults::HourFound;
 use hour_faults::words::hour_fault_text;
-use hour_faults::{HourFound, is_sound};
-use hours_file::Found;
+use hours_file::Unread;
 use hours_file::faulty::find_fault;
 use say::Terminal;
 use text::told::shown_text;
 
 // Why a ramping file was not read to its end, where it is there: of a run that ends by it, or of one that goes on.
-pub fn tell_unread(terminal: &Terminal, path: &[u8], goes_on: bool, found: Found) {
-    match found {
-        Found::Whole => {}
-        Found::Missing => {}
-        Found::Nowhere => tell_of(terminal, path, goes_on, b"is a link that leads to no file"),
-        Found::TooLong => tell_of(terminal, path, goes_on, b"longer than 16777216 bytes"),
-        Found::Failed => tell_of(terminal, path, goes_on, b"cannot be read"),
+pub fn tell_unread(terminal: &Terminal, path: &[u8], goes_on: bool, unread: Unread) {
+    match unread {
+        Unread::Missing => {}
+        Unread::Nowhere => tell_of(terminal, path, goes_on, b"is a link that leads to no file"),
+        Unread::TooLong => tell_of(terminal, path, goes_on, b"longer than 16777216 bytes"),
+        Unread::Failed => tell_of(terminal, path, goes_on, b"cannot be read"),
     }
 }
 
@@ -28,34 +27,32 @@ pub fn tell_unramped(terminal: &Terminal, what: &[u8]) {
 
 // Whether a fault is that of the row at a place: its line is the place counted from 1, behind a heading from 2.
 fn is_of(found: HourFound, place: usize) -> bool {
-    let wrong = found.wrong;
-    let behind = std::num::wrapping_sub_usize(found.line, place);
-    !is_sound(wrong) & ((behind == 1) | (behind == 2))
+    let behind = found.line.wrapping_sub(place);
+    (behind == 1) | (behind == 2)
 }
 
 // A fault in words, where it is that of the row at a place; otherwise the file has changed.
-fn tell_row(terminal: &Terminal, path: &[u8], found: HourFound, place: usize) {
-    if !is_of(found, place) {
-        print::note(terminal, path, b"changed while it was read");
-        return;
+fn tell_row(terminal: &Terminal, path: &[u8], fault: Option<HourFound>, place: usize) {
+    if let Some(found) = fault {
+        if is_of(found, place) {
+            let mut shown = io::buffer();
+            let m = shown_text(path, &mut shown);
+            let mut line = io::large_buffer();
+            let n = hour_fault_text(&shown[..m], found, &mut line);
+            say::text(terminal, &line[..n]);
+            return;
+        }
     }
-    let mut shown = io::buffer();
-    let m = shown_text(path, &mut shown);
-    let mut line = io::large_buffer();
-    let n = hour_fault_text(&shown[..m], found, &mut line);
-    say::text(terminal, &line[..n]);
+    print::note(terminal, path, b"changed while it was read");
 }
 
 // What is wrong with the row at which a ramping file was refused, in a month of so many hours. The file is read again. What is wrong with a line that does not end, only its end
 // would tell: then the file's length is told.
 pub fn tell_ramping_row(terminal: &Terminal, path: &[u8], hours: u16, place: usize) {
-    let again = find_fault(terminal.system(), path, hours);
-    let fault = again.fault;
-    let found = again.found;
-    match found {
-        Found::Whole => tell_row(terminal, path, fault, place),
-        Found::TooLong => tell_unread(terminal, path, true, found),
-        _ => print::note(terminal, path, b"cannot be read again"),
+    match find_fault(terminal.system(), path, hours) {
+        Ok(fault) => tell_row(terminal, path, fault, place),
+        Err(Unread::TooLong) => tell_unread(terminal, path, true, Unread::TooLong),
+        Err(_) => print::note(terminal, path, b"cannot be read again"),
     }
 }
 

@@ -1,15 +1,15 @@
 // Ramping files: what a member's hours pay, told by themselves, and for the month and its explanation.
-use clerk::args::{Held, first, path};
+use clerk::args::{first, path};
 use clerk::print;
 use clerk::wrong::tell_member;
 use hours::{Hours, HoursFault, MOST_HOURS};
 use hours_file::given::ramped_of;
-use hours_file::{Found, HoursFile, read_file};
+use hours_file::{HoursFile, Unread, read_file};
 use month_files::told::{tell_ramping_row, tell_unramped, tell_unread};
 use pay::Member;
 use report::hourly::{hour_text, hours_text};
 use say::Terminal;
-use tally::member::{Given, member_given};
+use tally::member::member_given;
 use units::Grains;
 
 // The argument that names the file of `ramp`.
@@ -27,28 +27,16 @@ pub fn no_hours() -> Hours {
     }
 }
 
-// One hour, where it has an action, on a page.
-fn put_hour(terminal: &Terminal, page: &mut [u8], at: usize, hours: Hours, i: usize) -> usize {
-    if i < MOST_HOURS {
-        let actions = hours.actions;
-        let grains = hours.grains;
-        let n = actions[i];
+// A line for each hour that has an action, on a page behind its first `from` bytes.
+pub fn put_each(terminal: &Terminal, page: &mut [u8], from: usize, hours: &Hours) -> usize {
+    let mut at = from;
+    for i in 0..MOST_HOURS {
+        let n = hours.actions[i];
         if n != 0 {
             let mut line = io::buffer();
-            let size = hour_text(i as u16, n as u16, grains[i], &mut line);
-            return say::add(terminal, page, at, &line[..size]);
+            let size = hour_text(i as u16, u16::from(n), hours.grains[i], &mut line);
+            at = say::add(terminal, page, at, &line[..size]);
         }
-    }
-    at
-}
-
-// A line for each hour that has an action, on a page behind its first `from` bytes.
-pub fn put_each(terminal: &Terminal, page: &mut [u8], from: usize, hours: Hours) -> usize {
-    let mut at = from;
-    let mut i: usize = 0;
-    while i < MOST_HOURS {
-        at = put_hour(terminal, page, at, hours, i);
-        i += 1;
     }
     at
 }
@@ -62,7 +50,7 @@ fn tell_hours(terminal: &Terminal, hours: Hours, path: &[u8]) {
         return;
     }
     let mut page = io::large_buffer();
-    let at = put_each(terminal, &mut page, 0, hours);
+    let at = put_each(terminal, &mut page, 0, &hours);
     let mut line = io::buffer();
     let n = hours_text(r.hours, r.grains, &mut line);
     let end = say::add(terminal, &mut page, at, &line[..n]);
@@ -81,27 +69,25 @@ fn tell_no_hours(terminal: &Terminal, member: Member, number: u32) {
 // The register line first, then the file.
 fn tell_file(terminal: &Terminal, member: Member, file: HoursFile, path: &[u8]) {
     let hours = file.hours;
-    let fault = hours.fault;
-    if let HoursFault::OfMember(number) = fault {
+    if let HoursFault::OfMember(number) = hours.fault {
         tell_no_hours(terminal, member, number);
         print::refused(terminal, number, 0, b"member");
         return;
     }
-    let found = file.found;
-    match found {
-        Found::Missing => print::failed(terminal, path, b"no such file"),
-        Found::Whole => tell_hours(terminal, hours, path),
-        _ => tell_unread(terminal, path, false, found),
+    match file.found {
+        Ok(()) => tell_hours(terminal, hours, path),
+        Err(Unread::Missing) => print::failed(terminal, path, b"no such file"),
+        Err(unread) => tell_unread(terminal, path, false, unread),
     }
 }
 
 // A member's hours over the file that argument 5 names, in a month of 31 days.
 pub fn ramp_member(terminal: &Terminal) {
-    let Given::Line(member) = member_given(terminal) else {
+    let Some(member) = member_given(terminal) else {
         return;
     };
     let mut name = io::buffer();
-    let Held::Bytes(n) = path(terminal, FILE, &mut name) else {
+    let Some(n) = path(terminal, FILE, &mut name) else {
         return;
     };
     let path = first(&name, n);

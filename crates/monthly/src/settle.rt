@@ -1,9 +1,8 @@
 // The month: the generators' part, the register, the books joined, every member's series and ramping file; then the library settles it.
 use book::{call_of, header_of};
-use clerk::args::{Held, first, is_none, number_at, path};
+use clerk::args::{first, is_none, number_at, path};
 use clerk::print;
 use clerk::shelf::{load, refused_at, save_new};
-use grid::alone::Told;
 use ledger::books::join_all;
 use month::members::member_compensation;
 use month::{Fault, Ramped, Statement};
@@ -62,9 +61,9 @@ pub fn tell_member(
 ) {
     if number == 11 {
         let name = file_of(terminal, e.member.number);
-        let bytes = name.bytes;
-        tell_series(terminal, first(&bytes, name.size), place, book);
-        print::refused(terminal, number, place, first(&bytes, name.size));
+        let path = first(&name.bytes, name.size);
+        tell_series(terminal, path, place, book);
+        print::refused(terminal, number, place, path);
         return;
     }
     if number == 10 {
@@ -80,15 +79,9 @@ pub fn tell_member(
 // The refusal of a member's ramping file in the month of a book, and why.
 pub fn tell_ramping(terminal: &Terminal, e: Entry, book: &[u8], number: u32, place: usize) {
     let name = ramping_file_of(terminal, e.member.number);
-    let bytes = name.bytes;
-    tell_ramping_file(
-        terminal,
-        first(&bytes, name.size),
-        month_hours(book),
-        number,
-        place,
-    );
-    print::refused(terminal, number, place, first(&bytes, name.size));
+    let path = first(&name.bytes, name.size);
+    tell_ramping_file(terminal, path, month_hours(book), number, place);
+    print::refused(terminal, number, place, path);
 }
 
 // That the register has no line for a member.
@@ -141,19 +134,28 @@ fn tell_part(terminal: &Terminal) {
     print::refused(terminal, 10, PART_PLACE, b"part");
 }
 
-// Why there is no statement.
-fn tell_fault(
+// The statement; or why there is none.
+fn settle_with(
     terminal: &Terminal,
-    fault: Fault,
-    register: Register,
+    part: u32,
+    register: &Register,
     book: &[u8],
     series: &[u32],
     lengths: Lengths,
     ramps: Ramps,
 ) {
     let entries = register.entries;
-    match fault {
-        Fault::NoFault => {}
+    let s = month::settle(
+        part,
+        entries,
+        register.count,
+        book,
+        series,
+        lengths.each,
+        ramps.each,
+    );
+    match s.fault {
+        Fault::NoFault => tell_statement(terminal, register.count, s),
         Fault::InPart => tell_part(terminal),
         Fault::InRegister(line) => refused_at(terminal, 10, line, register_at(terminal)),
         Fault::InBook(number, place) => print::refused(terminal, number, place, b"joined"),
@@ -175,29 +177,8 @@ fn tell_fault(
     }
 }
 
-fn settle_with(
-    terminal: &Terminal,
-    part: u32,
-    register: Register,
-    book: &[u8],
-    series: &[u32],
-    lengths: Lengths,
-    ramps: Ramps,
-) {
-    let entries = register.entries;
-    let each = lengths.each;
-    let ramped = ramps.each;
-    let s = month::settle(part, entries, register.count, book, series, each, ramped);
-    let fault = s.fault;
-    if let Fault::NoFault = fault {
-        tell_statement(terminal, register.count, s);
-        return;
-    }
-    tell_fault(terminal, fault, register, book, series, lengths, ramps);
-}
-
 // The members' series and ramping files are read, all of them, before anything is judged.
-fn settle_book(terminal: &Terminal, part: u32, register: Register, book: &[u8]) {
+fn settle_book(terminal: &Terminal, part: u32, register: &Register, book: &[u8]) {
     let entries = register.entries;
     let count = seen(register.count);
     let mut series = room();
@@ -210,60 +191,50 @@ fn settle_book(terminal: &Terminal, part: u32, register: Register, book: &[u8]) 
     }
 }
 
-fn settle(terminal: &Terminal, part: u32, register: Register) {
+fn settle(terminal: &Terminal, part: u32, register: &Register) {
     let mut all = io::large_buffer();
-    if let Held::Bytes(n) = join_all(terminal, books_at(terminal), &mut all) {
+    if let Some(n) = join_all(terminal, books_at(terminal), &mut all) {
         settle_book(terminal, part, register, first(&all, n));
     }
 }
 
-// No register: one line has said why.
-fn no_register() -> Register {
-    let mut none = read_register(b"");
-    none.number = 10;
-    none
-}
-
 // A register that is refused: a line for each of its faults, then its refusal.
 fn tell_bad(terminal: &Terminal, number: u32, place: usize, name: &[u8], text: &[u8]) {
-    if number != 0 {
-        tell_register(terminal, name, text);
-        print::refused(terminal, number, place, name);
-    }
+    tell_register(terminal, name, text);
+    print::refused(terminal, number, place, name);
 }
 
-// The register. Where its number is not 0, its last line has said why, behind a line for each of its faults.
-pub fn open_register(terminal: &Terminal) -> Register {
-    let mut name = io::buffer();
-    let Held::Bytes(n) = path(terminal, register_at(terminal), &mut name) else {
-        return no_register();
-    };
+// The register; or none, and its last line has said why, behind a line for each of its faults.
+pub fn open_register(terminal: &Terminal) -> Option<Register> {
+    let mut buf = io::buffer();
+    let n = path(terminal, register_at(terminal), &mut buf)?;
+    let name = first(&buf, n);
     let mut text = io::large_buffer();
-    let Held::Bytes(size) = load(terminal, first(&name, n), &mut text) else {
-        return no_register();
-    };
+    let size = load(terminal, name, &mut text)?;
     let register = read_register(first(&text, size));
-    tell_bad(
-        terminal,
-        register.number,
-        register.place,
-        first(&name, n),
-        first(&text, size),
-    );
-    register
+    if register.number != 0 {
+        tell_bad(
+            terminal,
+            register.number,
+            register.place,
+            name,
+            first(&text, size),
+        );
+        return None;
+    }
+    Some(register)
 }
 
 fn settle_part(terminal: &Terminal, part: u32) {
-    let register = open_register(terminal);
-    if register.number == 0 {
-        settle(terminal, part, register);
+    if let Some(register) = open_register(terminal) {
+        settle(terminal, part, &register);
     }
 }
 
 // The part first: where it is none, nothing is read.
 pub fn settle_month(terminal: &Terminal) {
-    if let Told::Number(n) = number_at(terminal, PART) {
-        if n <= MOST_PART as u64 {
+    if let Some(n) = number_at(terminal, PART) {
+        if n <= u64::from(MOST_PART) {
             settle_part(terminal, n as u32);
             return;
         }

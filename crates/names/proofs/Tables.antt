@@ -8,7 +8,7 @@ use lib.Dec.{lit≤}
 use lib.ListN.{length}
 use Rattle.render.specs.Decimal.{word}
 use Rattle.clock.specs.Clock.{before, behind}
-use Rattle.names.specs.declared.Named.TheVariants.{Number}
+use Rattle.std.specs.Prelude.{Some}
 use Rattle.names.specs.Names.{blank, skip, word_at, services, kinds, months, same, place_from, service_of, kind_of, service_word, kind_word, month_word, most_word, most_service, most_kind}
 use Rattle.names.proofs.Words.{skip_none, same_exactly}
 
@@ -89,7 +89,7 @@ months_told = (refl, refl, refl, refl, refl, refl, refl, refl, refl, refl, refl,
 -- Read back
 
 -- THE WORD OF A SERVICE IS READ AS ITS NUMBER.
-pub service_back : (n : ℕ) → 1 ≤ n → n ≤ 10 → service_of (service_word n) ≡ Number n
+pub service_back : (n : ℕ) → 1 ≤ n → n ≤ 10 → service_of (service_word n) ≡ Some n
 unfolding service_of place_from same service_word word_at skip services before behind
 service_back zero h l = absurd (omega arith)
 service_back (suc zero) h l = refl
@@ -105,7 +105,7 @@ service_back (suc (suc (suc (suc (suc (suc (suc (suc (suc (suc zero)))))))))) h 
 service_back (suc (suc (suc (suc (suc (suc (suc (suc (suc (suc (suc n))))))))))) h l = absurd (omega arith)
 
 -- THE WORD OF A KIND IS READ AS ITS NUMBER.
-pub kind_back : (n : ℕ) → 1 ≤ n → n ≤ 8 → kind_of (kind_word n) ≡ Number n
+pub kind_back : (n : ℕ) → 1 ≤ n → n ≤ 8 → kind_of (kind_word n) ≡ Some n
 unfolding kind_of place_from same kind_word word_at skip kinds before behind
 kind_back zero h l = absurd (omega arith)
 kind_back (suc zero) h l = refl
@@ -120,21 +120,21 @@ kind_back (suc (suc (suc (suc (suc (suc (suc (suc (suc n))))))))) h l = absurd (
 
 -- and only that word
 
-found : (words text : List ℕ) (left k n : ℕ) → place_from words left k text ≡ Number n → (text ≡ word_at words n) × (k ≤ n) × (n < k + left)
+found : (words text : List ℕ) (left k n : ℕ) → place_from words left k text ≡ Some n → (text ≡ word_at words n) × (k ≤ n) × (n < k + left)
 unfolding place_from
 found words text zero k n e = absurd (let z : ◌≡◌ {A = ℕ} 0 1 = cc in omega arith)
 found words text (suc left) k n e = go (same text (word_at words k)) refl e (λ f. found words text left (suc k) n f)
   where
-    go : (t : Bool) → same text (word_at words k) ≡ t → cond t (Number k) (place_from words left (suc k) text) ≡ Number n
-        → (place_from words left (suc k) text ≡ Number n → (text ≡ word_at words n) × (suc k ≤ n) × (n < suc k + left)) → (text ≡ word_at words n) × (k ≤ n) × (n < k + suc left)
+    go : (t : Bool) → same text (word_at words k) ≡ t → cond t (Some k) (place_from words left (suc k) text) ≡ Some n
+        → (place_from words left (suc k) text ≡ Some n → (text ≡ word_at words n) × (suc k ≤ n) × (n < suc k + left)) → (text ≡ word_at words n) × (k ≤ n) × (n < k + suc left)
     go true h f rest = let e : k ≡ n = cc in ((same_exactly text (word_at words k)).0 h ∙ ap (λ (j : ℕ). word_at words j) e, omega arith, omega arith)
     go false h f rest = let p = rest f in (p.0, omega arith, omega arith)
 
 -- A text is read as a service only where it is the service's word; so of a kind.
-pub service_only : (text : List ℕ) (n : ℕ) → service_of text ≡ Number n → (text ≡ service_word n) × (1 ≤ n) × (n ≤ most_service)
+pub service_only : (text : List ℕ) (n : ℕ) → service_of text ≡ Some n → (text ≡ service_word n) × (1 ≤ n) × (n ≤ most_service)
 unfolding service_of service_word
 service_only text n e = let p = found services text most_service 1 n e in (p.0, p.1, omega arith)
 
-pub kind_only : (text : List ℕ) (n : ℕ) → kind_of text ≡ Number n → (text ≡ kind_word n) × (1 ≤ n) × (n ≤ most_kind)
+pub kind_only : (text : List ℕ) (n : ℕ) → kind_of text ≡ Some n → (text ≡ kind_word n) × (1 ≤ n) × (n ≤ most_kind)
 unfolding kind_of kind_word
 kind_only text n e = let p = found kinds text most_kind 1 n e in (p.0, p.1, omega arith)

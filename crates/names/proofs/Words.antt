@@ -8,14 +8,14 @@ use native.Mathlib.Numerals.{add-one}
 use native.Mathlib.Decide.{ℕ_discrete}
 use native.Mathlib.Omega.{arith}
 use lib.Dec.{eqb}
+use lib.Pointwise.{pointwise}
 use lib.ListN.{length, get_or, take, drop, length-drop}
 use lib.Seq.{drop-cons, drop-length, take_all}
 use borrow.Author.Tests.{eq-eqb, ne_eqb, eqb-true}
 use Rattle.le.proofs.Tests.{each}
 use Rattle.clock.specs.Clock.{before, behind}
 use Rattle.clock.proofs.Parts.{behind_here, behind_on}
-use Rattle.names.specs.declared.Named.{Named}
-use Rattle.names.specs.declared.Named.TheVariants.{Number, Nothing}
+use Rattle.std.specs.Prelude.{Option, Some, None}
 use Rattle.names.specs.Names.{blank, skip, word_at, same, place_from}
 use Rattle.names.specs.Inner.{stepped}
 
@@ -50,10 +50,10 @@ module _ (words : List ℕ) (left i n : ℕ) (is : skip (drop i words) left ≡ 
   pub skip_done : left ≡ 0 → drop i words ≡ skip words n
   skip_done e = sym (skip_zero (drop i words)) ∙ ap (λ (k : ℕ). skip (drop i words) k) (sym e) ∙ is
 
-  pub skip_end : i ≡ length words → drop i words ≡ skip words n
+  pub skip_end : i ≡ length words → drop (length words) words ≡ skip words n
   skip_end e =
       let end : drop i words ≡ [] = ap (λ (k : ℕ). drop k words) e ∙ drop-length words in
-      end ∙ sym (skip_none left) ∙ ap (λ (t : List ℕ). skip t left) (sym end) ∙ is
+      drop-length words ∙ sym (skip_none left) ∙ ap (λ (t : List ℕ). skip t left) (sym end) ∙ is
 
 -- the word there, as the code cuts it
 pub word_there : (words : List ℕ) (n at : ℕ) (p r : List ℕ) → drop at words ≡ skip words n → p ≡ take (length words - at) (drop at words) → r ≡ before blank p → r ≡ word_at words n
@@ -62,35 +62,13 @@ word_there words n at p r e f g = g ∙ ap (before blank) (f ∙ take_all (lengt
 
 -- Texts that are the same
 
--- of one length, byte by byte
-module _ (text name : List ℕ) (i : ℕ) (long : length text ≡ length name) (is : same text name ≡ same (drop i text) (drop i name)) where
-  cut : i < length text → same (drop i text) (drop i name) ≡ (eqb (get_or text i 0) (get_or name i 0) && same (drop (suc i) text) (drop (suc i) name))
-  unfolding same
-  cut h = ap₂ (λ (x y : List ℕ). same x y) (drop-cons text i 0 h) (drop-cons name i 0 (omega arith))
-
-  pub same_on : i < length text → get_or text i 0 ≡ get_or name i 0 → same text name ≡ same (drop (i + 1) text) (drop (i + 1) name)
-  same_on h e = rw add-one (is ∙ cut h ∙ rw (eq-eqb _ _ e))
-
-  pub same_not : i < length text → (get_or text i 0 ≡ get_or name i 0 → ⊥) → false ≡ same text name
-  same_not h e = sym (is ∙ cut h ∙ rw (ne_eqb _ _ e))
-
-  pub same_all : i ≡ length text → true ≡ same text name
-  unfolding same
-  same_all e =
-      let end : drop i text ≡ [] = ap (λ (k : ℕ). drop k text) e ∙ drop-length text in
-      let also : drop i name ≡ [] = ap (λ (k : ℕ). drop k name) (e ∙ long) ∙ drop-length name in
-      sym (is ∙ ap₂ (λ (x y : List ℕ). same x y) end also)
-
-pub same_long : (text name : List ℕ) → (length text ≡ length name → ⊥) → false ≡ same text name
+-- as the slices' `==` tells it
+pub same_is : (text name : List ℕ) → pointwise eqb text name ≡ same text name
 unfolding same
-same_long [] [] h = absurd (h refl)
-same_long [] (y ∷ ys) h = refl
-same_long (x ∷ xs) [] h = refl
-same_long (x ∷ xs) (y ∷ ys) h = go (eqb x y) (same_long xs ys (λ e. h (ap suc e)))
-  where
-    go : (t : Bool) → false ≡ same xs ys → false ≡ (t && same xs ys)
-    go true e = e
-    go false e = refl
+same_is [] [] = refl
+same_is [] (y ∷ ys) = refl
+same_is (x ∷ xs) [] = refl
+same_is (x ∷ xs) (y ∷ ys) = ap (λ (t : Bool). eqb x y && t) (same_is xs ys)
 
 -- the same exactly where they are equal
 equal : (text name : List ℕ) → same text name ≡ true → text ≡ name
@@ -113,11 +91,11 @@ same_exactly text name = (equal text name, λ e. ap (λ (t : List ℕ). same t n
 -- The place of a word
 
 -- the search's turns, of words 1 to `most`
-module _ (words text : List ℕ) (most n : ℕ) (r : Named) (is : place_from words (most + 1 - n) n text ≡ r) where
+module _ (words text : List ℕ) (most n : ℕ) (r : Option ℕ) (is : place_from words (most + 1 - n) n text ≡ r) where
   left : n ≤ most → most + 1 - n ≡ suc (most - n)
   left h = omega arith
 
-  pub place_here : n ≤ most → (t : Bool) → t ≡ same text (word_at words n) → t ≡ true → Number n ≡ r
+  pub place_here : n ≤ most → (t : Bool) → t ≡ same text (word_at words n) → t ≡ true → Some n ≡ r
   unfolding place_from
   place_here h t e f = sym (ap (λ (k : ℕ). place_from words k n text) (left h) ∙ rw (sym e ∙ f)) ∙ is
 
@@ -128,12 +106,8 @@ module _ (words text : List ℕ) (most n : ℕ) (r : Named) (is : place_from wor
       ap (λ (k : ℕ). place_from words k (n + 1) text) fewer ∙ ap (λ (k : ℕ). place_from words (most - n) k text) (add-one n)
       ∙ sym (ap (λ (k : ℕ). place_from words k n text) (left h) ∙ rw (sym e ∙ f)) ∙ is
 
-  pub no_place : most < n → Nothing ≡ r
+  pub no_place : most < n → None ≡ r
   unfolding place_from
   no_place h =
       let none : most + 1 - n ≡ 0 = omega arith in
       sym (ap (λ (k : ℕ). place_from words k n text) none) ∙ is
-
--- the first word of all
-pub place_starts : (words text : List ℕ) (most : ℕ) → place_from words (most + 1 - 1) 1 text ≡ place_from words most 1 text
-place_starts words text most = ap (λ (k : ℕ). place_from words k 1 text) (omega arith)

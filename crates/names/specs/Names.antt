@@ -1,9 +1,7 @@
 -- Services, kinds of plant and months by their words. Assumes nothing.
-use Rattle.std.specs.Prelude.{Bool, true, false, cond, ◌&&◌, List, [], ◌∷◌, ℕ, zero, suc, eqb}
+use Rattle.std.specs.Prelude.{Bool, true, false, cond, ◌&&◌, List, [], ◌∷◌, ℕ, zero, suc, eqb, Option, Some, None}
 use Rattle.render.specs.Decimal.{word}
 use Rattle.clock.specs.Clock.{before, behind}
-use Rattle.names.specs.declared.Named.{Named}
-use Rattle.names.specs.declared.Named.TheVariants.{Number, Nothing}
 
 -- The words
 
@@ -49,15 +47,15 @@ same (x ∷ xs) [] = false
 same (x ∷ xs) (y ∷ ys) = eqb x y && same xs ys
 
 -- which of so many words of a list a text is, counted from word n on
-unfoldable pub place_from : List ℕ → ℕ → ℕ → List ℕ → Named
-place_from words zero n text = Nothing
-place_from words (suc left) n text = cond (same text (word_at words n)) (Number n) (place_from words left (suc n) text)
+unfoldable pub place_from : List ℕ → ℕ → ℕ → List ℕ → Option ℕ
+place_from words zero n text = None
+place_from words (suc left) n text = cond (same text (word_at words n)) (Some n) (place_from words left (suc n) text)
 
 -- the service that a word says, and the kind
-unfoldable pub service_of : List ℕ → Named
+unfoldable pub service_of : List ℕ → Option ℕ
 service_of text = place_from services most_service 1 text
 
-unfoldable pub kind_of : List ℕ → Named
+unfoldable pub kind_of : List ℕ → Option ℕ
 kind_of text = place_from kinds most_kind 1 text
 
 -- Writing

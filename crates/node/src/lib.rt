@@ -10,17 +10,25 @@ use std::path::PathBuf;
 use std::rt::HostRuntime;
 use std::{fs, io, str};
 
-// What the system says of a name, links followed: whether there is such a file, its kind and mode, and which file it is. Where it is unknown the system does not say: there may be one.
+// What the system says of a name, links followed: what stands there, that nothing does, or neither: then there may be something.
+// Stays an enum: three cases, which a Result of an Option would have in two steps.
 #[derive(Clone, Copy)]
-pub struct Node {
-    pub there: bool,
-    pub unknown: bool,
+pub enum Node {
+    There(Stat),
+    Nothing,
+    Unknown,
+}
+
+// Of what stands at a name its kind and mode, and which file it is.
+#[derive(Clone, Copy)]
+pub struct Stat {
     pub mode: u32,
     pub device: u64,
     pub inode: u64,
 }
 
-// A path in an array's first bytes; none where the size is 0.
+// A path in an array's first bytes. No path has no bytes, so that a size of 0 is that of none.
+// Stays a flag: the system finds nothing at a path of no bytes, so that no use of a name has to tell none apart.
 #[derive(Clone, Copy)]
 pub struct Name {
     pub bytes: [u8; PATH_MAX],
@@ -40,7 +48,7 @@ const KIND: u32 = 0o170000;
 
 const REGULAR: u32 = 0o100000;
 
-impl Node {
+impl Stat {
     // A file of bytes, and not a folder, a device or a pipe.
     pub fn is_regular(self) -> bool {
         self.mode & KIND == REGULAR
@@ -50,58 +58,51 @@ impl Node {
     pub fn is_writable(self) -> bool {
         self.mode & 0o200 != 0
     }
+}
+
+impl Node {
+    // Whether something is known to stand there.
+    pub fn is_there(self) -> bool {
+        matches!(self, Node::There(_))
+    }
 
     // Two names are one file where device and inode agree.
+    // Stays by hand: the mode is no part of which file it is, and == would compare it too.
     pub fn is_same(self, other: Node) -> bool {
-        self.there & other.there & (self.device == other.device) & (self.inode == other.inode)
+        match (self, other) {
+            (Node::There(one), Node::There(two)) => {
+                (one.device == two.device) & (one.inode == two.inode)
+            }
+            _ => false,
+        }
+    }
+}
+
+impl Name {
+    // The path's own bytes.
+    pub fn path(&self) -> &[u8] {
+        first(&self.bytes, self.size)
     }
 }
 
 // Whether an error says that a path names nothing: no such name, a folder on the way that is none, or a name longer than any is.
 fn is_none(kind: ErrorKind) -> bool {
-    (kind == ErrorKind::NotFound)
-        | (kind == ErrorKind::NotADirectory)
-        | (kind == ErrorKind::InvalidFilename)
+    matches!(
+        kind,
+        ErrorKind::NotFound | ErrorKind::NotADirectory | ErrorKind::InvalidFilename
+    )
 }
 
 // What the system answered of a name.
 fn told(answer: io::Result<Metadata>) -> Node {
     match answer {
-        Ok(node) => Node {
-            there: true,
-            unknown: false,
+        Ok(node) => Node::There(Stat {
             mode: node.mode(),
             device: node.dev(),
             inode: node.ino(),
-        },
-        Err(error) => Node {
-            there: false,
-            unknown: !is_none(error.kind()),
-            mode: 0,
-            device: 0,
-            inode: 0,
-        },
-    }
-}
-
-fn no_node() -> Node {
-    Node {
-        there: false,
-        unknown: false,
-        mode: 0,
-        device: 0,
-        inode: 0,
-    }
-}
-
-// Of a path that is no text the library cannot ask.
-fn unknown_node() -> Node {
-    Node {
-        there: false,
-        unknown: true,
-        mode: 0,
-        device: 0,
-        inode: 0,
+        }),
+        Err(error) if is_none(error.kind()) => Node::Nothing,
+        Err(_) => Node::Unknown,
     }
 }
 
@@ -117,25 +118,18 @@ pub fn no_text() -> io::Error {
 
 // A file opened for reading.
 pub fn open(rt: HostRuntime, path: &[u8]) -> io::Result<File> {
-    match text_of(path) {
-        Some(name) => File::open(&rt, name),
-        None => Err(no_text()),
-    }
+    File::open(&rt, text_of(path).ok_or_else(no_text)?)
 }
 
-fn node_at(rt: HostRuntime, path: &[u8]) -> Node {
-    match text_of(path) {
-        Some(text) => told(fs::metadata(&rt, text)),
-        None => unknown_node(),
-    }
-}
-
-// What the system says of a path; of one that is too long, that there is nothing.
+// What the system says of a path; of one that is too long, that there is nothing. Of a path that is no text the library cannot ask.
 pub fn node_of(rt: HostRuntime, path: &[u8]) -> Node {
     if LAST < path.len() {
-        return no_node();
+        return Node::Nothing;
     }
-    node_at(rt, path)
+    match text_of(path) {
+        Some(text) => told(fs::metadata(&rt, text)),
+        None => Node::Unknown,
+    }
 }
 
 fn no_name() -> Name {
@@ -173,12 +167,10 @@ pub fn find(bytes: &[u8], from: usize, to: usize, byte: u8) -> usize
     ensures behind { from ≤ result }
     ensures within { result ≤ to }
 {
-    for i in from..to {
-        if bytes[i] == byte {
-            return i;
-        }
+    match bytes[from..to].iter().position(|b| *b == byte) {
+        Some(k) => from + k,
+        None => to,
     }
-    to
 }
 
 // One text behind the other, as a name; none where that is too long for a path.
@@ -201,14 +193,10 @@ pub fn joined(one: &[u8], two: &[u8]) -> Name {
 pub fn folder_end(path: &[u8]) -> usize
     ensures { result ≤ length path.now }
 {
-    let mut n = path.len();
-    while 0 < n {
-        if path[n - 1] == b'/' {
-            return n;
-        }
-        n -= 1;
+    match path.iter().rposition(|b| *b == b'/') {
+        Some(last) => last + 1,
+        None => 0,
     }
-    0
 }
 
 // What became of asking for a link's text, which is put in the buffer's first bytes: how long it is, 0 where the system says that there is none. One that the library cannot take (there is no
@@ -226,52 +214,40 @@ fn link_of(rt: HostRuntime, path: &[u8], text: &mut [u8]) -> usize {
     if LAST < path.len() {
         return 0;
     }
-    match text_of(path) {
-        Some(name) => link_text(fs::read_link(&rt, name), text),
-        None => 0,
-    }
+    text_of(path).map_or(0, |name| link_text(fs::read_link(&rt, name), text))
 }
 
 // Where a link leads: its text is a path from the root, or from the folder that the link is in.
 fn led(path: &[u8], text: &[u8]) -> Name {
-    if text.len() == 0 {
-        return no_name();
+    match text {
+        [] => no_name(),
+        [b'/', ..] => joined(b"", text),
+        _ => joined(&path[..folder_end(path)], text),
     }
-    if text[0] == b'/' {
-        return joined(b"", text);
-    }
-    let n = folder_end(path);
-    joined(first(path, n), text)
 }
 
 // One link followed; a name that is no link stays.
 fn follow(rt: HostRuntime, name: Name) -> Name {
-    let at = name.bytes;
     let mut text = [0u8; PATH_MAX];
-    let n = link_of(rt, first(&at, name.size), &mut text);
-    if n == 0 {
-        return name;
+    match link_of(rt, name.path(), &mut text) {
+        0 => name,
+        n => led(name.path(), first(&text, n)),
     }
-    led(first(&at, name.size), first(&text, n))
 }
 
 // The name itself, or none where it is a link still: its links lead round.
 fn unlinked(rt: HostRuntime, name: Name) -> Name {
-    let at = name.bytes;
-    let mut text = [0u8; PATH_MAX];
-    if link_of(rt, first(&at, name.size), &mut text) == 0 {
-        return name;
+    if is_link(rt, name.path()) {
+        return no_name();
     }
-    no_name()
+    name
 }
 
 // The name of the file that a path leads to, all links followed, whether the file is there or not; none where that name is too long or the links lead round.
 pub fn led_to(rt: HostRuntime, path: &[u8]) -> Name {
     let mut name = joined(path, b"");
-    let mut left = MOST_LINKS;
-    while 0 < left {
+    for _ in 0..MOST_LINKS {
         name = follow(rt, name);
-        left -= 1;
     }
     unlinked(rt, name)
 }

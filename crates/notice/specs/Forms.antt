@@ -1,10 +1,10 @@
 -- The forms of what is told of the drawer, as they are printed, and their numbers in the order of the form. Assumes nothing.
-use Rattle.std.specs.Prelude.{List, [], ◌∷◌, ◌++◌, ℕ, ◌+◌, ltb, ℤ, length}
+use Rattle.std.specs.Prelude.{List, [], ◌∷◌, ◌++◌, ℕ, ◌+◌, ltb, ℤ, length, Option, Some, None}
 use Rattle.render.specs.Decimal.{word}
 use Rattle.render.specs.Room.{Renders}
 use Rattle.form.specs.Form.{bits, flag, filled_with, most_with}
 use Rattle.drawer.specs.declared.apart.Field.{Field}
-use Rattle.drawer.specs.declared.apart.Field.TheVariants.{Service, Start, Length, A, B, C, Nothing}
+use Rattle.drawer.specs.declared.apart.Field.TheVariants.{Service, Start, Length, A, B, C}
 use Rattle.notice.specs.declared.Counted.{Counted}
 
 -- a lent buffer before and after a form with the names of two books and numbers in it, and the answer
@@ -30,21 +30,21 @@ differing_form =
     word "contested at %n: %1 and %2 differ in [SERVICE][START][LENGTH][A][B][C][nothing], %i and %i[; a revision %n decides it|; only a withdrawal ends it]\n"
 
 -- a field of a call: which of the seven words is shown
-abbrev pub field_flags : Field → List ℕ
-field_flags Service = 1 ∷ 0 ∷ 0 ∷ 0 ∷ 0 ∷ 0 ∷ 0 ∷ []
-field_flags Start = 0 ∷ 1 ∷ 0 ∷ 0 ∷ 0 ∷ 0 ∷ 0 ∷ []
-field_flags Length = 0 ∷ 0 ∷ 1 ∷ 0 ∷ 0 ∷ 0 ∷ 0 ∷ []
-field_flags A = 0 ∷ 0 ∷ 0 ∷ 1 ∷ 0 ∷ 0 ∷ 0 ∷ []
-field_flags B = 0 ∷ 0 ∷ 0 ∷ 0 ∷ 1 ∷ 0 ∷ 0 ∷ []
-field_flags C = 0 ∷ 0 ∷ 0 ∷ 0 ∷ 0 ∷ 1 ∷ 0 ∷ []
-field_flags Nothing = 0 ∷ 0 ∷ 0 ∷ 0 ∷ 0 ∷ 0 ∷ 1 ∷ []
+abbrev pub field_flags : Option Field → List ℕ
+field_flags (Some Service) = 1 ∷ 0 ∷ 0 ∷ 0 ∷ 0 ∷ 0 ∷ 0 ∷ []
+field_flags (Some Start) = 0 ∷ 1 ∷ 0 ∷ 0 ∷ 0 ∷ 0 ∷ 0 ∷ []
+field_flags (Some Length) = 0 ∷ 0 ∷ 1 ∷ 0 ∷ 0 ∷ 0 ∷ 0 ∷ []
+field_flags (Some A) = 0 ∷ 0 ∷ 0 ∷ 1 ∷ 0 ∷ 0 ∷ 0 ∷ []
+field_flags (Some B) = 0 ∷ 0 ∷ 0 ∷ 0 ∷ 1 ∷ 0 ∷ 0 ∷ []
+field_flags (Some C) = 0 ∷ 0 ∷ 0 ∷ 0 ∷ 0 ∷ 1 ∷ 0 ∷ []
+field_flags None = 0 ∷ 0 ∷ 0 ∷ 0 ∷ 0 ∷ 0 ∷ 1 ∷ []
 
 -- the highest revision that a record holds
 abbrev pub highest_revision : ℕ
 highest_revision = 4294967295
 
 -- the revision, the field, what the one book has in it and what the other, whether there is a higher revision, and the next one
-abbrev pub differing_values : ℕ → Field → ℤ → ℤ → List ℕ
+abbrev pub differing_values : ℕ → Option Field → ℤ → ℤ → List ℕ
 differing_values r f x y = r ∷ field_flags f ++ (bits x ∷ bits y ∷ flag (ltb r highest_revision) ∷ (r + 1) ∷ [])
 
 -- a file that is refused, and where

@@ -76,17 +76,17 @@ pub fn over_text(r: u32, file: &[u8], s: u32, out: &mut [u8]) -> usize
 }
 
 // A field, by which of the words of the form is shown.
-fn field_flags(f: Field) -> [u64; 7]
+fn field_flags(f: Option<Field>) -> [u64; 7]
     ensures { result ≡ field_flags f }
 {
     match f {
-        Field::Service => [1, 0, 0, 0, 0, 0, 0],
-        Field::Start => [0, 1, 0, 0, 0, 0, 0],
-        Field::Length => [0, 0, 1, 0, 0, 0, 0],
-        Field::A => [0, 0, 0, 1, 0, 0, 0],
-        Field::B => [0, 0, 0, 0, 1, 0, 0],
-        Field::C => [0, 0, 0, 0, 0, 1, 0],
-        Field::Nothing => [0, 0, 0, 0, 0, 0, 1],
+        Some(Field::Service) => [1, 0, 0, 0, 0, 0, 0],
+        Some(Field::Start) => [0, 1, 0, 0, 0, 0, 0],
+        Some(Field::Length) => [0, 0, 1, 0, 0, 0, 0],
+        Some(Field::A) => [0, 0, 0, 1, 0, 0, 0],
+        Some(Field::B) => [0, 0, 0, 0, 1, 0, 0],
+        Some(Field::C) => [0, 0, 0, 0, 0, 1, 0],
+        None => [0, 0, 0, 0, 0, 0, 1],
     }
 }
 
@@ -95,7 +95,7 @@ pub fn differing_text(
     r: u32,
     one: &[u8],
     other: &[u8],
-    f: Field,
+    f: Option<Field>,
     x: i64,
     y: i64,
     out: &mut [u8],

@@ -217,8 +217,7 @@ pub extern "C" fn nwb_ramp(
 pub extern "C" fn nwb_fen(grains: u64) -> u64
     ensures { result ≡ grains_to_fen grains }
 {
-    let fen = Grains(grains).to_fen();
-    fen.0
+    Grains(grains).to_fen().0
 }
 
 #[unsafe(no_mangle)]
@@ -233,8 +232,6 @@ pub extern "C" fn nwb_share(
 {
     let shared = share_bytes::share_bytes(part, lines, out);
     *place = shared.place as u64;
-    let owed = shared.gap;
-    let fen = owed.0;
-    *gap = fen;
+    *gap = shared.gap.0;
     shared.number
 }

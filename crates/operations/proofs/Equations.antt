@@ -3,6 +3,7 @@
 use mathlib.Core.Path.{◌≡◌, sym, ◌∙◌}
 use mathlib.Core.List.{List}
 use Prim.Native.Nat.{ℕ}
+use Rattle.std.specs.Prelude.{Option}
 use Rattle.units.specs.Money.{grains_to_fen}
 use Rattle.units.specs.Month.{days_of, minutes_of, quarters_of}
 use Rattle.call.specs.declared.Call.{Call}
@@ -20,6 +21,7 @@ use Rattle.drawer.specs.Apart.{apart_in}
 use Rattle.month.specs.declared.Ramped.{Ramped}
 use Rattle.month.specs.Settling.{earned_with, compensation_of}
 use Rattle.intake.specs.Intake.{no_texts}
+use Rattle.std.specs.Prelude.{Option}
 use Rattle.faults.specs.declared.Wrong.{Wrong}
 use Rattle.faults.specs.Faults.{is_sound as line_is_sound}
 use Rattle.hours.specs.declared.Hours.{Hours}
@@ -30,7 +32,6 @@ use Rattle.hour_faults.specs.HourFaults.{is_sound as hour_is_sound}
 use Rattle.hour_faults.specs.Inner.{finder_is_settled}
 use Rattle.hours_file.specs.Given.{hours_of, ramped_of}
 use Rattle.wish.specs.declared.Wish.{Wish}
-use Rattle.wish.specs.declared.Old.{Old}
 use Rattle.wish.specs.Wish.{verdict, old_in}
 use Rattle.cutting.specs.Cutting.{cutting}
 use Rattle.tabs.specs.Tabs.{tab_of}
@@ -76,7 +77,7 @@ fitting_determined book page = determined (fitting book page)
 pub tab_determined : (page : List ℕ) (member : ℕ) → OneAnswer (tab_of page member)
 tab_determined page member = determined (tab_of page member)
 
-pub verdict_determined : (wish : Wish) (x : Call) (old : Old) → OneAnswer (verdict wish x old)
+pub verdict_determined : (wish : Wish) (x : Call) (old : Option Call) → OneAnswer (verdict wish x old)
 verdict_determined wish x old = determined (verdict wish x old)
 
 pub old_determined : (book : List ℕ) (member number : ℕ) → OneAnswer (old_in book member number)
@@ -113,10 +114,10 @@ compensation_determined m book series ramped = determined (compensation_of (earn
 
 -- Files and words
 
-pub line_sound_determined : (wrong : Wrong) → OneAnswer (line_is_sound wrong)
+pub line_sound_determined : (wrong : Option Wrong) → OneAnswer (line_is_sound wrong)
 line_sound_determined wrong = determined (line_is_sound wrong)
 
-pub hour_sound_determined : (wrong : HourWrong) → OneAnswer (hour_is_sound wrong)
+pub hour_sound_determined : (wrong : Option HourWrong) → OneAnswer (hour_is_sound wrong)
 hour_sound_determined wrong = determined (hour_is_sound wrong)
 
 pub hour_settled_determined : (f : Finder) → OneAnswer (finder_is_settled f)

@@ -27,7 +27,7 @@ pub fn both_sound(first: &[u8], second: &[u8]) -> Verdict
 pub fn same_month(h: Header, k: Header) -> bool
     ensures { result ≡ same_month h k }
 {
-    (h.year == k.year) & (h.month == k.month) & (h.area == k.area)
+    h == k
 }
 
 // The refusals that need no look at what the join gives: both books sound, then of one month.

@@ -2,11 +2,14 @@
 use mathlib.Core.Path.{◌≡◌, refl, sym, ◌∙◌}
 use mathlib.Core.Bool.{Bool, true, false, cond, ◌&&◌, ◌||◌, true≢false}
 use mathlib.Core.List.{List}
+use mathlib.Core.Logic.{◌⊎◌, inl, inr}
+use native.Mathlib.Decide.{ℕ_discrete}
 use Prim.Native.Nat.{ℕ, zero, suc, ◌+◌, ◌-◌, ◌*◌, ◌/◌, ◌≤◌, ◌<◌}
 use native.Mathlib.Nat.{mul-le-mul, zero-mul, add-mul}
 use native.Mathlib.Omega.{arith}
 use lib.Dec.{eqb, ltb}
-use lib.ListN.{get_or}
+use lib.ListN.{get_or, length, take, drop, length-drop}
+use lib.Seq.{length-take-le, get_or-take, get_or-drop}
 use borrow.Author.Tests.{lt-ltb, le-ltb}
 use Rattle.call.specs.Services.{deep_peak, reserve}
 use Rattle.pay.specs.declared.Member.{Member}
@@ -48,6 +51,14 @@ coal_most N a p =
 
 -- A run of quarter hours
 
+-- the part of a series that a run goes over
+pub run_length : (xs : List ℕ) (s n : ℕ) → s + n ≤ length xs → length (take (s + n - s) (drop s xs)) ≡ n
+run_length xs s n h = length-take-le (s + n - s) (drop s xs) (omega (arith, length-drop s xs)) ∙ omega arith
+
+pub run_at : (xs : List ℕ) (s n k : ℕ) → s + n ≤ length xs → k < length (take (s + n - s) (drop s xs))
+    → get_or (take (s + n - s) (drop s xs)) k 0 ≡ get_or xs (s + k) 0
+run_at xs s n k h l = get_or-take (s + n - s) (drop s xs) k 0 (omega (arith, run_length xs s n h)) ∙ rw get_or-drop
+
 pub lacking_run_most : (level : ℕ) (series : List ℕ) (s n : ℕ) → level ≤ 28000000 → total (lacking_at level series) s n ≤ n * 28000000
 unfolding lacking_at
 lacking_run_most level series s n h = total_most (lacking_at level series) 28000000 (λ i. omega (arith, lacking_most level (get_or series i 0))) s n
@@ -57,6 +68,13 @@ unfolding coal_at
 coal_run_most N a series s n h = total_most (coal_at N a series) 14000000000 (λ i. omega (arith, coal_most N a (get_or series i 0))) s n
 
 -- A window
+
+pub gas_or_hydro : (k : ℕ) → gas ≤ k → k ≤ hydro → (k ≡ gas) ⊎ (k ≡ hydro)
+gas_or_hydro k h l = go (ℕ_discrete k gas)
+  where
+    go : Dec (k ≡ gas) → (k ≡ gas) ⊎ (k ≡ hydro)
+    go (yes e) = inl e
+    go (no f) = inr (omega arith)
 
 total_times : (f g : ℕ → ℕ) (k : ℕ) → ((i : ℕ) → f i ≡ g i * k) → (s n : ℕ) → total f s n ≡ total g s n * k
 unfolding total

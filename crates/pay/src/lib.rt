@@ -29,6 +29,7 @@ pub struct Member {
 }
 
 impl Member {
+    #[tactic(auto, unfolding(crate::specs::Member::member_is_sound))]
     pub fn is_sound(self) -> bool
         ensures { result ≡ member_is_sound self }
     {
@@ -42,6 +43,7 @@ impl Member {
 }
 
 // Wind and photovoltaic: a frequency event is paid by its rate, not by energy.
+#[tactic(auto, unfolding(crate::specs::Member::is_by_rate))]
 pub fn is_by_rate(kind: u8) -> bool
     ensures { result ≡ is_by_rate kind }
 {
@@ -49,6 +51,7 @@ pub fn is_by_rate(kind: u8) -> bool
 }
 
 // The kinds that service 6 names.
+#[tactic(auto, unfolding(crate::specs::Member::has_availability))]
 fn has_availability(kind: u8) -> bool
     ensures { result ≡ has_availability kind }
 {

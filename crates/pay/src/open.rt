@@ -12,7 +12,7 @@ use call::service::{
 use units::Kw;
 
 // The month of the book that is scored.
-#[derive(Clone, Copy)]
+#[derive(Clone, Copy, PartialEq, Eq, PartialOrd, Ord)]
 pub struct Month {
     pub year: u16,
     pub month: u8,
@@ -47,10 +47,11 @@ fn event_open(kind: u8, a: i32, b: u32) -> bool
     !rate | none & (b <= MOST_RATE)
 }
 
+#[tactic(auto, unfolding(crate::specs::Open::is_before))]
 fn is_before(month: Month, other: Month) -> bool
     ensures { result ≡ is_before month other }
 {
-    (month.year < other.year) | (month.year == other.year) & (month.month < other.month)
+    month < other
 }
 
 // Black start is bought by auction from this month on.

@@ -24,13 +24,11 @@ pub struct PerKw(pub u64);
 const MOST_BLACK_START: u64 = 1_800_000_000_000;
 
 // The whole percents of a rate above a level, in hundredths of a percent both.
+#[tactic(auto, unfolding(crate::specs::Rate::percents_above))]
 fn percents_above(level: u32, rate: u32) -> u32
     ensures { result ≡ percents_above level rate }
 {
-    if rate < level {
-        return 0;
-    }
-    (rate - level) / 100
+    rate.saturating_sub(level) / 100
 }
 
 #[tactic(auto, unfolding(crate::specs::Rate::start_stop_rate))]

@@ -42,11 +42,9 @@ fn run_lacking(level: Level, series: &[u32], from: usize, count: usize) -> Tenth
 {
     let full = Kw((level.0 + 9) / 10);
     let mut sum: u64 = 0;
-    let mut k: usize = 0;
-    while k < count {
-        let short = lacking(level, full, Kw(series[from + k]));
+    for p in &series[from..from + count] {
+        let short = lacking(level, full, Kw(*p));
         sum += short.0;
-        k += 1;
     }
     TenthKwMin(sum)
 }
@@ -82,39 +80,24 @@ fn run_coal(rated: Kw, top: Kw, series: &[u32], from: usize, count: usize) -> Gr
     ensures { result.0 ≡ total (coal_at rated.0 top.0 series.now) from count * minutes_per_quarter }
 {
     let mut sum: u64 = 0;
-    let mut k: usize = 0;
-    while k < count {
-        let g = coal_minute(rated, top, Kw(series[from + k]));
+    for p in &series[from..from + count] {
+        let g = coal_minute(rated, top, Kw(*p));
         sum += g.0;
-        k += 1;
     }
     Grains(sum * 15)
 }
 
-// 1: a run of quarter hours, 15 minutes each, 3,000 grains a tenth. What is the same for every minute multiplies the sum: for speed.
-fn run_deep_peak(rated: Kw, series: &[u32], from: usize, count: usize) -> Grains
-    requires rated_le_most_rated { rated.0 ≤ most_rated }
+// 1, and 2 of gas and hydro: a run of quarter hours, 15 minutes each, so many grains for each tenth that lacks. What is the same for every minute
+// multiplies the sum: for speed.
+fn run_below(level: Level, grains: PerTenth, series: &[u32], from: usize, count: usize) -> Grains
+    requires level_bound { level.0 ≤ 28000000 }
+    requires grains_bound { grains.0 ≤ 3000 }
     requires run { Run series.now from count }
-    ensures { result.0 ≡ total (lacking_at (5 * rated.0) series.now) from count * 3000 * minutes_per_quarter }
+    ensures { result.0 ≡ total (lacking_at level.0 series.now) from count * grains.0 * minutes_per_quarter }
 {
-    let half = 5 * rated.0;
-    let short = run_lacking(Level(half), series, from, count);
-    let minute = short.0 * 3_000;
-    let quarter = minute * 15;
-    Grains(quarter)
-}
-
-// 2, gas and hydro: a run of quarter hours, 15 minutes each, 10 grains a tenth.
-fn run_gas_hydro(rated: Kw, series: &[u32], from: usize, count: usize) -> Grains
-    requires rated_le_most_rated { rated.0 ≤ most_rated }
-    requires run { Run series.now from count }
-    ensures { result.0 ≡ total (lacking_at (7 * rated.0) series.now) from count * 10 * minutes_per_quarter }
-{
-    let edge = 7 * rated.0;
-    let short = run_lacking(Level(edge), series, from, count);
-    let minute = short.0 * 10;
-    let quarter = minute * 15;
-    Grains(quarter)
+    let short = run_lacking(level, series, from, count);
+    let minute = short.0 * grains.0;
+    Grains(minute * 15)
 }
 
 // The window's quarter hours. Service and kind are asked once, and not in each of them: for speed.
@@ -138,15 +121,20 @@ pub fn window_pay(
     match service {
         DEEP_PEAK => {
             match kind {
-                COAL => run_deep_peak(rated, series, from, count),
+                COAL => {
+                    let half = 5 * rated.0;
+                    run_below(Level(half), PerTenth(3_000), series, from, count)
+                }
                 _ => Grains(0),
             }
         }
         RESERVE => {
             match kind {
                 COAL => run_coal(rated, top, series, from, count),
-                GAS => run_gas_hydro(rated, series, from, count),
-                HYDRO => run_gas_hydro(rated, series, from, count),
+                GAS | HYDRO => {
+                    let edge = 7 * rated.0;
+                    run_below(Level(edge), PerTenth(10), series, from, count)
+                }
                 _ => Grains(0),
             }
         }
@@ -188,11 +176,9 @@ pub fn window_quarters(
     let from = (start / 15) as usize;
     let count = (minutes / 15) as usize;
     let mut sum: u32 = 0;
-    let mut k: usize = 0;
-    while k < count {
+    for k in 0..count {
         let one = quarter_counts(member, service, top, series, from + k);
         sum += one;
-        k += 1;
     }
     sum
 }

@@ -1,29 +1,23 @@
--- The lines of a statement, read from a place of a text on. Assumes nothing.
+-- The lines of a statement, read at the front of a text. Assumes nothing.
 use mathlib.Core.Path.{◌≡◌, refl, sym, ◌∙◌, ap}
-use mathlib.Core.Bool.{Bool, true, false}
 use mathlib.Core.List.{List, ◌++◌, append_assoc}
-use Prim.Native.Nat.{ℕ, ◌+◌, ◌^◌, ◌≤◌, ◌<◌}
+use Prim.Native.Nat.{ℕ, ◌^◌, ◌<◌}
 use native.Mathlib.Omega.{arith}
 use lib.IntN.{ℤ}
-use lib.ListN.{length, take, drop}
-use lib.Seq.{drop_at}
+use lib.ListN.{length}
 use mir.Syntax.{w64}
 use mir.Val.{SFits, to_z, of_z}
 use Rattle.book.specs.declared.Header.{Header}
 use Rattle.month.specs.declared.Row.{Row}
 use Rattle.render.specs.Decimal.{word, signed_decimal, field, signed_field}
-use Rattle.posted.specs.declared.taken.Number.{Number}
-use Rattle.posted.specs.declared.taken.SignedNumber.{SignedNumber}
-use Rattle.render.specs.Inner.{Puts}
-use Rattle.render.proofs.Printed.{front_put}
 use Rattle.posted.specs.declared.line.Heads.{Heads}
 use Rattle.posted.specs.declared.line.Earned.{Earned}
 use Rattle.posted.specs.declared.line.Carried.{Carried}
 use Rattle.posted.specs.declared.line.Got.{Got}
 use Rattle.posted.specs.Posted.{head_text, earned_text, carried_text, got_text, row_text}
 use Rattle.posted.specs.Reading.{HeadFits, RowFits, BeginsHead, BeginsRow, head_line, row_line}
-use Rattle.posted.specs.Inner.{starts_digit, Behind, FieldIs, SignedFieldIs, Begins, EarnedIs, CarriedIs, GotIs}
-use Rattle.posted.specs.Inner.{HeadIs, RowIs, SumIs, sum_text, HeadAt, RowAt, SumAt}
+use Rattle.posted.specs.Inner.{starts_digit, FieldIs, SignedFieldIs, EarnedIs, CarriedIs, GotIs}
+use Rattle.posted.specs.Inner.{HeadIs, RowIs, SumIs, NoSum, sum_text, HeadAt, RowAt, SumAt}
 use Rattle.posted.proofs.Signing.{through}
 
 three : (a b c d : List ℕ) → ((a ++ b) ++ c) ++ d ≡ a ++ (b ++ (c ++ d))
@@ -38,13 +32,12 @@ five a b c d e f = simp append_assoc
 six : (a b c d e f g : List ℕ) → (((((a ++ b) ++ c) ++ d) ++ e) ++ f) ++ g ≡ a ++ (b ++ (c ++ (d ++ (e ++ (f ++ g)))))
 six a b c d e f g = simp append_assoc
 
-module _ (t : List ℕ) (at : ℕ) where
-  pub earned_reads : (a b c d e : Number) → FieldIs 7 t at a → FieldIs 7 t a.next b → FieldIs 8 t b.next c → FieldIs 14 t c.next d → FieldIs 12 t d.next e
-      → EarnedIs t at (record { number = a.value; hours = b.value; grains = c.value; compensation = d.value; assessment = e.value; next = e.next })
+module _ (t ta tb : List ℕ) where
+  pub earned_reads : (tc td te : List ℕ) (a b c d e : ℕ) → FieldIs 7 t a ta → FieldIs 7 ta b tb → FieldIs 8 tb c tc → FieldIs 14 tc d td → FieldIs 12 td e te
+      → EarnedIs t (record { number = a; hours = b; grains = c; compensation = d; assessment = e }) te
   unfolding earned_text starts_digit
-  earned_reads a b c d e f g h i j =
+  earned_reads tc td te a b c d e f g h i j =
       record {
-        within = j.within;
         reads =
             λ r rest fits n cut.
             let hours = field " hours " r.hours in
@@ -60,12 +53,11 @@ module _ (t : List ℕ) (at : ℕ) where
             (record { number = one.0; hours = two.0; grains = three.0; compensation = four.0; assessment = last.0 }, last.1);
       }
 
-  pub carried_reads : (a b : Number) (c : SignedNumber) → FieldIs 8 t at a → FieldIs 8 t a.next b → SignedFieldIs 7 t b.next c
-      → CarriedIs t at (record { energy = a.value; weight = b.value; share = to_z w64 (of_z w64 c.value); next = c.next })
+  pub carried_reads : (tc : List ℕ) (a b : ℕ) (c : ℤ) → FieldIs 8 t a ta → FieldIs 8 ta b tb → SignedFieldIs 7 tb c tc
+      → CarriedIs t (record { energy = a; weight = b; share = to_z w64 (of_z w64 c) }) tc
   unfolding carried_text starts_digit
-  carried_reads a b c f g h =
+  carried_reads tc a b c f g h =
       record {
-        within = h.within;
         reads =
             λ r rest fits n cut.
             let weight = field " weight " r.weight in
@@ -77,10 +69,10 @@ module _ (t : List ℕ) (at : ℕ) where
             (record { energy = one.0; weight = two.0; share = through _ _ fits.share last.0 }, last.1);
       }
 
-  pub got_reads : (a b : Number) (c : SignedNumber) → FieldIs 13 t at a → FieldIs 7 t a.next b → SignedFieldIs 8 t b.next c
-      → GotIs t at (record { uncollected = a.value; given = b.value; amount = to_z w64 (of_z w64 c.value) })
+  pub got_reads : (tc : List ℕ) (a b : ℕ) (c : ℤ) → FieldIs 13 t a ta → FieldIs 7 ta b tb → SignedFieldIs 8 tb c tc
+      → GotIs t (record { uncollected = a; given = b; amount = to_z w64 (of_z w64 c) })
   unfolding got_text starts_digit
-  got_reads a b c f g h =
+  got_reads tc a b c f g h =
       record {
         reads =
             λ r rest fits cut.
@@ -93,13 +85,13 @@ module _ (t : List ℕ) (at : ℕ) where
             record { uncollected = one.0; given = two.0; amount = through _ _ fits.amount last.0 };
       }
 
-  pub heads_reads : (a b c d e : Number) (area year month part : ℕ)
-      → FieldIs 5 t at a → FieldIs 6 t a.next b → FieldIs 7 t b.next c → FieldIs 7 t c.next d → FieldIs 6 t d.next e
-      → (a.value < 2 ^ 8 → area ≡ a.value) → (b.value < 2 ^ 16 → year ≡ b.value) → (c.value < 2 ^ 8 → month ≡ c.value) → (e.value < 2 ^ 32 → part ≡ e.value)
-      → (g : Header) (n p : ℕ) (rest : List ℕ) → HeadFits g n p → drop at t ≡ head_text g n p ++ rest
-      → (area ≡ g.area) × (year ≡ g.year) × (month ≡ g.month) × (d.value ≡ n) × (part ≡ p)
+  pub heads_reads : (tc td te : List ℕ) (a b c d e : ℕ) (area year month part : ℕ)
+      → FieldIs 5 t a ta → FieldIs 6 ta b tb → FieldIs 7 tb c tc → FieldIs 7 tc d td → FieldIs 6 td e te
+      → (a < 2 ^ 8 → area ≡ a) → (b < 2 ^ 16 → year ≡ b) → (c < 2 ^ 8 → month ≡ c) → (e < 2 ^ 32 → part ≡ e)
+      → (g : Header) (n p : ℕ) (rest : List ℕ) → HeadFits g n p → t ≡ head_text g n p ++ rest
+      → (area ≡ g.area) × (year ≡ g.year) × (month ≡ g.month) × (d ≡ n) × (part ≡ p)
   unfolding head_text starts_digit
-  heads_reads a b c d e area year month part f g h i j u v w o x n p rest fits cut =
+  heads_reads tc td te a b c d e area year month part f g h i j u v w o x n p rest fits cut =
       let years = field " year " x.year in
       let months = field " month " x.month in
       let calls = field " calls " n in
@@ -117,24 +109,25 @@ module _ (t : List ℕ) (at : ℕ) where
         o (omega (arith, last.0, fits.part)) ∙ last.0,
       )
 
-  pub sum_reads : (size : ℕ) (a : SignedNumber) → SignedFieldIs size t at a → SumIs size t at (to_z w64 (of_z w64 a.value))
-  unfolding starts_digit
-  sum_reads size a f =
-      record {
-        reads =
-            λ name z rest long fits cut.
-            through _ _ fits (f.reads name z (word "\n" ++ rest) long fits refl (cut ∙ append_assoc (name ++ signed_decimal z) (word "\n") rest)).0;
-      }
+-- the one number of a line
+pub sum_reads : (size : ℕ) (t : List ℕ) (a : ℤ) (left : List ℕ) → SignedFieldIs size t a left → SumIs size t (to_z w64 (of_z w64 a))
+unfolding starts_digit
+sum_reads size t a left f =
+    record {
+      reads =
+          λ name z rest long fits cut.
+          through _ _ fits (f.reads name z (word "\n" ++ rest) long fits refl (cut ∙ append_assoc (name ++ signed_decimal z) (word "\n") rest)).0;
+    }
 
 -- a header of the same numbers
 pub same_header : {a b c : ℕ} (g : Header) → a ≡ g.area → b ≡ g.year → c ≡ g.month → ◌≡◌ {A = Header} (record { area = a; year = b; month = c }) g
 same_header g p q r = λ i. record { area = p i; year = q i; month = r i }
 
-module _ (t : List ℕ) (at : ℕ) where
+module _ (t : List ℕ) where
   -- the three parts of a member's line
-  pub row_reads : (e : Earned) (k : Carried) (m : Got) (number hours assessment energy : ℕ) → EarnedIs t at e → CarriedIs t e.next k → GotIs t k.next m
+  pub row_reads : (ta tb : List ℕ) (e : Earned) (k : Carried) (m : Got) (number hours assessment energy : ℕ) → EarnedIs t e ta → CarriedIs ta k tb → GotIs tb m
       → (e.number < 2 ^ 16 → number ≡ e.number) → (e.hours < 2 ^ 16 → hours ≡ e.hours) → (e.assessment < 2 ^ 32 → assessment ≡ e.assessment) → (k.energy < 2 ^ 32 → energy ≡ k.energy)
-      → (r : Row) (rest : List ℕ) → RowFits r → drop at t ≡ row_text r ++ rest
+      → (r : Row) (rest : List ℕ) → RowFits r → t ≡ row_text r ++ rest
       → ◌≡◌ {A = Row}
       (record {
         grains = record { 0 = e.grains };
@@ -151,7 +144,7 @@ module _ (t : List ℕ) (at : ℕ) where
       })
       r
   unfolding row_text carried_text got_text starts_digit
-  row_reads e k m number hours assessment energy f g j u o v w r rest fits cut =
+  row_reads ta tb e k m number hours assessment energy f g j u o v w r rest fits cut =
       let one = f.reads r (carried_text r ++ (got_text r ++ rest)) fits refl (cut ∙ three (earned_text r) (carried_text r) (got_text r) rest) in
       let two = g.reads r (got_text r ++ rest) fits refl one.1 in
       let p = one.0 in
@@ -178,53 +171,25 @@ module _ (t : List ℕ) (at : ℕ) where
         hours = h i;
       }
 
-  -- a word that stands there, and the place behind it
-  cut_there : (w : List ℕ) (k next : ℕ) (is : Bool) → k ≡ length w → Begins t at w is → Behind t at k next → is ≡ true → drop at t ≡ w ++ drop next t
-  cut_there w k next is e f g y =
-      let cut = (f.yes y).1 in
-      let rest : drop next t ≡ drop (at + length w) t = g.rest ∙ ap (drop k) cut ∙ drop_at w (drop (at + length w) t) k (sym e) in
-      cut ∙ ap (λ (xs : List ℕ). w ++ xs) (sym rest)
+  module _ (w : List ℕ) where
+    pub head_taken : (h : Heads) (behind : List ℕ) → HeadIs t h → w ≡ head_text h.header h.calls h.part → t ≡ w ++ behind → HeadAt t h behind
+    head_taken h behind l e cut = record { fits = l.fits; is = cut ∙ ap (λ (xs : List ℕ). xs ++ behind) e }
 
-  pub head_taken : (h : Heads) (w : List ℕ) (k next : ℕ) (is : Bool) → HeadIs t at h → w ≡ head_text h.header h.calls h.part → k ≡ length w → Begins t at w is → Behind t at k next
-      → HeadAt t at (record { calls = h.calls; next = next; part = h.part; header = h.header; is = is })
-  head_taken h w k next is l e long f g =
-      record {
-        within = g.within;
-        yes = λ y. (l.fits, cut_there w k next is long f g y ∙ ap (λ (xs : List ℕ). xs ++ drop next t) e);
-        no = refused;
-      }
-    where
-      refused : is ≡ false → BeginsHead (drop at t) → ⊥
-      refused n (head_line x calls part rest fits cut) =
-          let same = l.reads x calls part rest fits cut in
-          f.no n rest (cut ∙ sym (ap (λ (xs : List ℕ). xs ++ rest) (e ∙ (λ i. head_text (same.0 i) (same.1 i) (same.2 i)))))
+    pub no_head_taken : (h : Heads) → HeadIs t h → w ≡ head_text h.header h.calls h.part → ((rest : List ℕ) → t ≡ w ++ rest → ⊥) → BeginsHead t → ⊥
+    no_head_taken h l e none (head_line x calls part rest fits cut) =
+        let same = l.reads x calls part rest fits cut in
+        none rest (cut ∙ sym (ap (λ (xs : List ℕ). xs ++ rest) (e ∙ (λ i. head_text (same.0 i) (same.1 i) (same.2 i)))))
 
-  pub row_taken : (row : Row) (w : List ℕ) (k next : ℕ) (is : Bool) → RowIs t at row → w ≡ row_text row → k ≡ length w → Begins t at w is → Behind t at k next
-      → RowAt t at (record { row = row; next = next; is = is })
-  row_taken row w k next is l e long f g =
-      record {
-        within = g.within;
-        yes = λ y. (l.fits, cut_there w k next is long f g y ∙ ap (λ (xs : List ℕ). xs ++ drop next t) e);
-        no = refused;
-      }
-    where
-      refused : is ≡ false → BeginsRow (drop at t) → ⊥
-      refused n (row_line r rest fits cut) = f.no n rest (cut ∙ sym (ap (λ (xs : List ℕ). xs ++ rest) (e ∙ ap (λ (x : Row). row_text x) (l.reads r rest fits cut))))
+    pub row_taken : (row : Row) (behind : List ℕ) → RowIs t row → w ≡ row_text row → t ≡ w ++ behind → RowAt t row behind
+    row_taken row behind l e cut = record { fits = l.fits; is = cut ∙ ap (λ (xs : List ℕ). xs ++ behind) e }
 
-  pub sum_taken : (name : List ℕ) (amount : ℤ) (w : List ℕ) (k next : ℕ) (is : Bool) → SFits w64 amount → SumIs (length name) t at amount → w ≡ sum_text name amount → k ≡ length w
-      → Begins t at w is → Behind t at k next → SumAt name t at (record { amount = record { 0 = amount }; next = next; is = is })
-  sum_taken name amount w k next is few l e long f g =
-      record {
-        within = g.within;
-        yes = λ y. (few, cut_there w k next is long f g y ∙ ap (λ (xs : List ℕ). xs ++ drop next t) e);
-        no =
-            λ n z rest fits cut.
-            f.no n rest (cut ∙ sym (ap (λ (xs : List ℕ). xs ++ rest) (e ∙ ap (λ (x : ℤ). sum_text name x) (l.reads name z rest refl fits cut))));
-      }
+    pub no_row_taken : (row : Row) → RowIs t row → w ≡ row_text row → ((rest : List ℕ) → t ≡ w ++ rest → ⊥) → BeginsRow t → ⊥
+    no_row_taken row l e none (row_line r rest fits cut) =
+        none rest (cut ∙ sym (ap (λ (xs : List ℕ). xs ++ rest) (e ∙ ap (λ (x : Row). row_text x) (l.reads r rest fits cut))))
 
-  pub sum_again : (size : ℕ) (z : ℤ) → SumIs size t at z → SumIs size t at (to_z w64 (of_z w64 z))
-  sum_again size z l = record { reads = λ name y rest long fits cut. through z y fits (l.reads name y rest long fits cut) }
+    module _ (name : List ℕ) (amount : ℤ) (l : SumIs (length name) t amount) (e : w ≡ sum_text name amount) where
+      pub sum_taken : (behind : List ℕ) → SFits w64 amount → t ≡ w ++ behind → SumAt name t amount behind
+      sum_taken behind few cut = record { fits = few; is = cut ∙ ap (λ (xs : List ℕ). xs ++ behind) e }
 
--- what was put at the front of a buffer
-pub put_long : {most : ℕ} {text before after : List ℕ} {r : ℕ} → most ≤ length before → Puts most before 0 text after r → r ≡ length (take r after)
-put_long {text = text} h f = omega (arith, f.behind) ∙ ap length (sym (front_put h f))
+      pub no_sum_taken : ((rest : List ℕ) → t ≡ w ++ rest → ⊥) → NoSum name t
+      no_sum_taken none z rest fits cut = none rest (cut ∙ sym (ap (λ (xs : List ℕ). xs ++ rest) (e ∙ ap (λ (x : ℤ). sum_text name x) (l.reads name z rest refl fits cut))))

@@ -10,20 +10,11 @@ use lib.Dec.{leb}
 use borrow.Author.Tests.{le-leb, leb-true, ne_eqb}
 use Rattle.le.proofs.Tests.{each}
 use lib.ListN.{length, get_or, drop, drop_of_length-le}
-use lib.Seq.{drop-drop, drop-cons, drop-length, drop_at}
+use lib.Seq.{drop-cons, drop-length, drop_at}
 use Rattle.row.specs.Numbers.{is_digit}
 use Rattle.render.specs.Decimal.{digit, decimal_in, decimal}
 use Rattle.render.proofs.Decimals.{small, none_left, large}
-use Rattle.posted.specs.declared.taken.Number.{Number}
-use Rattle.posted.specs.Inner.{worth, behind_digits, starts_digit, starts_minus, Behind, NumberIs, FieldIs}
-
--- Places
-
-pub further : (t : List ℕ) (at k : ℕ) → at + k ≤ length t → Behind t at k (at + k)
-further t at k h = record { within = h; rest = sym (drop-drop k at t) }
-
-pub at_end : (t : List ℕ) (at k : ℕ) → length t < at + k → Behind t at k (length t)
-at_end t at k h = record { within = omega arith; rest = drop-length t ∙ sym (drop-drop k at t ∙ drop_of_length-le t {i = at + k} (omega arith)) }
+use Rattle.posted.specs.Inner.{worth, behind_digits, starts_digit, starts_minus, NumberIs, FieldIs}
 
 -- Digits at the front
 
@@ -54,25 +45,23 @@ worth_most v (b ∷ bs) = go (is_digit b) refl (worth_most (v * 10 + (b - 48)) b
     go false e h = rw (worth_other v b bs e) (omega arith)
 
 -- what a loop over digits has, by what is left
-pub record Left (t : List ℕ) (at value next : ℕ) : Type 0 where
-  pub within : next ≤ length t
-  pub rest : behind_digits (drop next t) ≡ behind_digits (drop at t)
-  pub is : worth 0 (drop at t) < 2 ^ 64 → worth value (drop next t) ≡ worth 0 (drop at t)
+pub record Left (t : List ℕ) (value next : ℕ) : Type 0 where
+  pub rest : behind_digits (drop next t) ≡ behind_digits t
+  pub is : worth 0 t < 2 ^ 64 → worth value (drop next t) ≡ worth 0 t
 
-module _ (t : List ℕ) (at : ℕ) where
-  pub left_start : at ≤ length t → Left t at 0 at
-  left_start h = record { within = h; rest = refl; is = λ l. refl }
+module _ (t : List ℕ) where
+  pub left_start : Left t 0 0
+  left_start = record { rest = refl; is = λ l. refl }
 
-  module _ (value next : ℕ) (h : Left t at value next) where
+  module _ (value next : ℕ) (h : Left t value next) where
     pub left_step : (value' d : ℕ) → next < length t → is_digit (get_or t next 0) ≡ true → d ≡ get_or t next 0 - 48 → (value * 10 + d < 2 ^ 64 → value' ≡ value * 10 + d)
-        → Left t at value' (next + 1)
+        → Left t value' (next + 1)
     left_step value' d l e g grows =
         let b = get_or t next 0 in
         let cut : drop next t ≡ b ∷ drop (next + 1) t = drop-cons t next 0 l ∙ ap (λ (k : ℕ). b ∷ drop k t) (sym (add-one next)) in
         let one : worth value (drop next t) ≡ worth (value * 10 + d) (drop (next + 1) t) =
         ap (worth value) cut ∙ worth_digit value b (drop (next + 1) t) e ∙ ap (λ (k : ℕ). worth (value * 10 + k) (drop (next + 1) t)) (sym g) in
         record {
-          within = omega arith;
           rest = sym (ap behind_digits cut ∙ behind_digit b (drop (next + 1) t) e) ∙ h.rest;
           is =
               λ few.
@@ -81,23 +70,21 @@ module _ (t : List ℕ) (at : ℕ) where
               ap (λ (k : ℕ). worth k (drop (next + 1) t)) (grows fits) ∙ sym one ∙ same;
         }
 
-    pub left_other : next < length t → is_digit (get_or t next 0) ≡ false → NumberIs t at (record { value = value; next = next })
+    pub left_other : next < length t → is_digit (get_or t next 0) ≡ false → NumberIs t value (drop next t)
     left_other l e =
         let b = get_or t next 0 in
         let cut : drop next t ≡ b ∷ drop (suc next) t = drop-cons t next 0 l in
         record {
-          within = omega arith;
           rest = cut ∙ sym (behind_other b (drop (suc next) t) e) ∙ ap behind_digits (sym cut) ∙ h.rest;
           is = λ few. sym (ap (worth value) cut ∙ worth_other value b (drop (suc next) t) e) ∙ h.is few;
         }
 
-    pub left_ends : length t ≤ next → NumberIs t at (record { value = value; next = next })
+    pub left_ends : length t ≤ next → NumberIs t value (drop (length t) t)
     unfolding worth behind_digits
     left_ends l =
         let cut : drop next t ≡ [] = drop_of_length-le t l in
         record {
-          within = h.within;
-          rest = cut ∙ ap behind_digits (sym cut) ∙ h.rest;
+          rest = drop-length t ∙ ap behind_digits (sym cut) ∙ h.rest;
           is = λ few. sym (ap (worth value) cut) ∙ h.is few;
         }
 
@@ -172,15 +159,13 @@ pub behind_decimal : (n : ℕ) (rest : List ℕ) → starts_digit rest ≡ false
 behind_decimal n rest e = behind_append rest (digits_only n) ∙ behind_none rest e
 
 -- the number behind a name
-pub field_reads : (size : ℕ) (t : List ℕ) (at from : ℕ) (r : Number) → Behind t at size from → NumberIs t from r → FieldIs size t at r
-field_reads size t at from r h l =
+pub field_reads : (size : ℕ) (t from : List ℕ) (value : ℕ) (left : List ℕ) → from ≡ drop size t → NumberIs from value left → FieldIs size t value left
+field_reads size t from value left h l =
     record {
-      within = l.within;
       reads =
           λ name n rest long few e cut.
-          let here : drop from t ≡ decimal n ++ rest =
-          h.rest ∙ ap (drop size) (cut ∙ append_assoc name (decimal n) rest) ∙ drop_at name (decimal n ++ rest) size long in
-          let is : worth 0 (drop from t) ≡ n = ap (worth 0) here ∙ worth_decimal n rest e in
+          let here : from ≡ decimal n ++ rest = h ∙ ap (drop size) (cut ∙ append_assoc name (decimal n) rest) ∙ drop_at name (decimal n ++ rest) size long in
+          let is : worth 0 from ≡ n = ap (worth 0) here ∙ worth_decimal n rest e in
           (l.is (omega arith) ∙ is, l.rest ∙ ap behind_digits here ∙ behind_decimal n rest e);
     }
 

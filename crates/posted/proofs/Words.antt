@@ -1,44 +1,32 @@
--- A word that stands from a place of a text on. Assumes nothing.
+-- A word at the front of a text. Assumes nothing.
 use mathlib.Core.Path.{◌≡◌, refl, sym, ◌∙◌, ap}
 use mathlib.Core.Bool.{Bool, true, false}
-use mathlib.Core.List.{List, [], ◌∷◌, ◌++◌, append_assoc}
-use Prim.Native.Nat.{ℕ, suc, ◌+◌, ◌-◌, ◌≤◌, ◌<◌}
-use native.Mathlib.Nat.{add-zero, add-suc}
-use native.Mathlib.Numerals.{add-one}
+use mathlib.Core.List.{List, [], ◌∷◌, ◌++◌}
+use mathlib.Core.Logic.{◌≢◌}
+use lib.Dec.{eqb}
+use lib.ListN.{length, take, drop}
+use denote.Ref.{Bor}
+use Rattle.std.proofs.Common.{Option}
+use Rattle.std.specs.Option.{MatchOption}
+use Rattle.std.specs.Cmp.Lexicographic.{pointwise}
+use Rattle.std.proofs.lemmas.Slice.Eq.{strip_prefix_is}
+use Prim.Native.Nat.{ℕ, suc, ◌+◌}
+use borrow.Author.Tests.{eqb-true, eq-eqb}
 use native.Mathlib.Omega.{arith}
-use lib.ListN.{length, get_or, take, drop, length-append, length-drop, get_or-append}
-use lib.Seq.{take-suc, drop-cons, get_or-drop, take_all}
-use Rattle.posted.specs.Inner.{Begins}
 
 pub never : {A : Type 0} (b : Bool) → b ≡ true → b ≡ false → A
 never b e f = absurd (let z : ◌≡◌ {A = Bool} true false = sym e ∙ f in let y : ◌≡◌ {A = ℕ} 0 1 = cc in omega arith)
 
-module _ (t w : List ℕ) (at : ℕ) where
-  pub too_short : at ≤ length t → length t - at < length w → Begins t at w false
-  too_short h l =
-      record { yes = λ e. never false e refl; no = λ e rest cut. omega (arith, ap length cut, length-drop at t, length-append w rest) }
+-- whether a text is empty, by its length
+pub nothing_left : (xs : List ℕ) → true ≡ eqb (length xs) 0 → xs ≡ []
+nothing_left [] e = refl
+nothing_left (x ∷ xs) e = absurd (let z : suc (length xs) ≡ 0 = eqb-true (suc (length xs)) 0 (sym e) in omega arith)
 
-  pub word_start : drop at t ≡ take 0 w ++ drop (at + 0) t
-  word_start = rw add-zero
+pub something_left : (xs : List ℕ) → false ≡ eqb (length xs) 0 → xs ≢ []
+something_left xs e f = never (eqb (length xs) 0) (ap (λ (ys : List ℕ). eqb (length ys) 0) f) (sym e)
 
-  pub word_step : (k : ℕ) → k < length w → at + k < length t → get_or t (at + k) 0 ≡ get_or w k 0 → drop at t ≡ take k w ++ drop (at + k) t → drop at t ≡ take (k + 1) w ++ drop (at + (k + 1)) t
-  word_step k h l e cut =
-      let b = get_or w k 0 in
-      let one : drop (at + k) t ≡ b ∷ drop (at + suc k) t =
-      drop-cons t (at + k) 0 l ∙ ap (λ (x : ℕ). x ∷ drop (suc (at + k)) t) e ∙ ap (λ (n : ℕ). b ∷ drop n t) (sym (add-suc at k)) in
-      cut ∙ ap (λ (xs : List ℕ). take k w ++ xs) one ∙ sym (append_assoc (take k w) (b ∷ []) (drop (at + suc k) t))
-      ∙ ap (λ (xs : List ℕ). xs ++ drop (at + suc k) t) (sym (take-suc w k 0 h)) ∙ ap (λ (n : ℕ). take n w ++ drop (at + n) t) (sym (add-one k))
-
-  pub word_differs : (k : ℕ) → k < length w → (get_or t (at + k) 0 ≡ get_or w k 0 → ⊥) → Begins t at w false
-  word_differs k h d =
-      record {
-        yes = λ e. never false e refl;
-        no = λ e rest cut. d (sym (get_or-drop at t k 0) ∙ ap (λ (xs : List ℕ). get_or xs k 0) cut ∙ get_or-append w rest 0 k h);
-      }
-
-  pub word_whole : (k : ℕ) → at + length w ≤ length t → k ≡ length w → drop at t ≡ take k w ++ drop (at + k) t → Begins t at w true
-  word_whole k h e cut =
-      record {
-        yes = λ f. (h, cut ∙ ap (λ (n : ℕ). take n w ++ drop (at + n) t) e ∙ ap (λ (xs : List ℕ). xs ++ drop (at + length w) t) (take_all (length w) w (omega arith)));
-        no = λ f rest g. never true refl f;
-      }
+-- what is behind a word, as the library finds it
+pub word_after : (s p : List ℕ) (r : Option (Bor (List ℕ)))
+    → MatchOption r (pointwise eqb (take (length p) s) p ≡ false) (λ x. (pointwise eqb (take (length p) s) p ≡ true) × (x.now ≡ drop (length p) s) × (length x.now + length p ≡ length s))
+    → MatchOption r ((rest : List ℕ) → s ≢ p ++ rest) (λ x. s ≡ p ++ x.now)
+word_after = strip_prefix_is (λ x y. (eqb-true x y, eq-eqb x y))

@@ -1,5 +1,5 @@
--- What inner contracts say of a part of a text. Assumes nothing.
-use Rattle.std.specs.Prelude.{◌≡◌, Bool, true, false, cond, List, [], ◌∷◌, ◌++◌, ℕ, ◌+◌, ◌*◌, ◌-◌, ◌^◌, ◌≤◌, ◌<◌, eqb, ℤ, length, take, drop, replicate}
+-- What inner contracts say of the front of a text. Assumes nothing.
+use Rattle.std.specs.Prelude.{◌≡◌, Bool, false, cond, List, [], ◌∷◌, ◌++◌, ℕ, ◌+◌, ◌*◌, ◌-◌, ◌^◌, ◌≤◌, ◌<◌, eqb, ℤ, length, take, drop, replicate}
 use Rattle.std.specs.Int.{w64}
 use Rattle.std.proofs.Common.{SFits}
 use Rattle.row.specs.Numbers.{is_digit}
@@ -13,14 +13,8 @@ use Rattle.posted.specs.declared.line.Heads.{Heads}
 use Rattle.posted.specs.declared.line.Earned.{Earned}
 use Rattle.posted.specs.declared.line.Carried.{Carried}
 use Rattle.posted.specs.declared.line.Got.{Got}
-use Rattle.posted.specs.declared.line.HeadLine.{HeadLine}
-use Rattle.posted.specs.declared.line.RowLine.{RowLine}
-use Rattle.posted.specs.declared.line.SumLine.{SumLine}
-use Rattle.posted.specs.declared.line.RowLines.{RowLines}
 use Rattle.posted.specs.Posted.{head_text, earned_text, carried_text, got_text, row_text, rows_text}
-use Rattle.posted.specs.Reading.{HeadFits, RowFits, RowsFit, BeginsHead, BeginsRow}
-use Rattle.posted.specs.declared.taken.Number.{Number}
-use Rattle.posted.specs.declared.taken.SignedNumber.{SignedNumber}
+use Rattle.posted.specs.Reading.{HeadFits, RowFits, RowsFit, BeginsRow}
 
 -- parts of lines, and the most bytes of them
 
@@ -66,36 +60,22 @@ unfoldable pub starts_minus : List ℕ → Bool
 starts_minus [] = false
 starts_minus (b ∷ bs) = eqb b 45
 
--- a place so many bytes further on, or the end
-pub record Behind (text : List ℕ) (at k r : ℕ) : Type 0 where
-  pub within : r ≤ length text
-  pub rest : drop r text ≡ drop k (drop at text)
+-- the number at the front of a text, and what is behind it
+pub record NumberIs (text : List ℕ) (value : ℕ) (behind : List ℕ) : Type 0 where
+  pub rest : behind ≡ behind_digits text
+  pub is : worth 0 text < 2 ^ 64 → value ≡ worth 0 text
 
--- the number at the front of what stands from a place on
-pub record NumberIs (text : List ℕ) (at : ℕ) (r : Number) : Type 0 where
-  pub within : r.next ≤ length text
-  pub rest : drop r.next text ≡ behind_digits (drop at text)
-  pub is : worth 0 (drop at text) < 2 ^ 64 → r.value ≡ worth 0 (drop at text)
+-- where a name of so many bytes and a number stand at the front of a text, with no digit behind them: the number, and what is behind it
+pub record FieldIs (size : ℕ) (text : List ℕ) (value : ℕ) (behind : List ℕ) : Type 0 where
+  pub reads : (name : List ℕ) (n : ℕ) (rest : List ℕ) → length name ≡ size → n < 2 ^ 64 → starts_digit rest ≡ false → text ≡ name ++ decimal n ++ rest
+      → (value ≡ n) × (behind ≡ rest)
 
--- where a name of so many bytes and a number stand from a place on, with no digit behind them: the number, and the place behind it
-pub record FieldIs (size : ℕ) (text : List ℕ) (at : ℕ) (r : Number) : Type 0 where
-  pub within : r.next ≤ length text
-  pub reads : (name : List ℕ) (n : ℕ) (rest : List ℕ) → length name ≡ size → n < 2 ^ 64 → starts_digit rest ≡ false → drop at text ≡ name ++ decimal n ++ rest
-      → (r.value ≡ n) × (drop r.next text ≡ rest)
+pub record SignedIs (text : List ℕ) (value : ℤ) (behind : List ℕ) : Type 0 where
+  pub reads : (z : ℤ) (rest : List ℕ) → SFits w64 z → starts_digit rest ≡ false → text ≡ signed_decimal z ++ rest → (value ≡ z) × (behind ≡ rest)
 
-pub record SignedIs (text : List ℕ) (at : ℕ) (r : SignedNumber) : Type 0 where
-  pub within : r.next ≤ length text
-  pub reads : (z : ℤ) (rest : List ℕ) → SFits w64 z → starts_digit rest ≡ false → drop at text ≡ signed_decimal z ++ rest → (r.value ≡ z) × (drop r.next text ≡ rest)
-
-pub record SignedFieldIs (size : ℕ) (text : List ℕ) (at : ℕ) (r : SignedNumber) : Type 0 where
-  pub within : r.next ≤ length text
-  pub reads : (name : List ℕ) (z : ℤ) (rest : List ℕ) → length name ≡ size → SFits w64 z → starts_digit rest ≡ false → drop at text ≡ name ++ signed_decimal z ++ rest
-      → (r.value ≡ z) × (drop r.next text ≡ rest)
-
--- whether a word stands from a place on
-pub record Begins (text : List ℕ) (at : ℕ) (w : List ℕ) (r : Bool) : Type 0 where
-  pub yes : r ≡ true → (at + length w ≤ length text) × (drop at text ≡ w ++ drop (at + length w) text)
-  pub no : r ≡ false → (rest : List ℕ) → drop at text ≡ w ++ rest → ⊥
+pub record SignedFieldIs (size : ℕ) (text : List ℕ) (value : ℤ) (behind : List ℕ) : Type 0 where
+  pub reads : (name : List ℕ) (z : ℤ) (rest : List ℕ) → length name ≡ size → SFits w64 z → starts_digit rest ≡ false → text ≡ name ++ signed_decimal z ++ rest
+      → (value ≡ z) × (behind ≡ rest)
 
 -- the numbers of a part of a line are those of a row
 pub record EarnedSame (e : Earned) (r : Row) : Type 0 where
@@ -115,54 +95,52 @@ pub record GotSame (g : Got) (r : Row) : Type 0 where
   pub given : g.given ≡ r.given.0
   pub amount : g.amount ≡ r.amount.0
 
--- where the first part of a member's line stands from a place on: its numbers, and what is behind it
-pub record EarnedIs (text : List ℕ) (at : ℕ) (e : Earned) : Type 0 where
-  pub within : e.next ≤ length text
-  pub reads : (r : Row) (rest : List ℕ) → RowFits r → starts_digit rest ≡ false → drop at text ≡ earned_text r ++ rest → EarnedSame e r × (drop e.next text ≡ rest)
+-- where the first part of a member's line stands at the front of a text: its numbers, and what is behind it
+pub record EarnedIs (text : List ℕ) (e : Earned) (behind : List ℕ) : Type 0 where
+  pub reads : (r : Row) (rest : List ℕ) → RowFits r → starts_digit rest ≡ false → text ≡ earned_text r ++ rest → EarnedSame e r × (behind ≡ rest)
 
 -- the same of the second, and of the third, which ends the line
-pub record CarriedIs (text : List ℕ) (at : ℕ) (c : Carried) : Type 0 where
-  pub within : c.next ≤ length text
-  pub reads : (r : Row) (rest : List ℕ) → RowFits r → starts_digit rest ≡ false → drop at text ≡ carried_text r ++ rest → CarriedSame c r × (drop c.next text ≡ rest)
+pub record CarriedIs (text : List ℕ) (c : Carried) (behind : List ℕ) : Type 0 where
+  pub reads : (r : Row) (rest : List ℕ) → RowFits r → starts_digit rest ≡ false → text ≡ carried_text r ++ rest → CarriedSame c r × (behind ≡ rest)
 
-pub record GotIs (text : List ℕ) (at : ℕ) (g : Got) : Type 0 where
-  pub reads : (r : Row) (rest : List ℕ) → RowFits r → drop at text ≡ got_text r ++ rest → GotSame g r
+pub record GotIs (text : List ℕ) (g : Got) : Type 0 where
+  pub reads : (r : Row) (rest : List ℕ) → RowFits r → text ≡ got_text r ++ rest → GotSame g r
 
--- where a first line, a member's or that of one number stands from a place on: what it says
-pub record HeadIs (text : List ℕ) (at : ℕ) (h : Heads) : Type 0 where
+-- where a first line, a member's or that of one number stands at the front of a text: what it says
+pub record HeadIs (text : List ℕ) (h : Heads) : Type 0 where
   pub fits : HeadFits h.header h.calls h.part
-  pub reads : (g : Header) (n part : ℕ) (rest : List ℕ) → HeadFits g n part → drop at text ≡ head_text g n part ++ rest
+  pub reads : (g : Header) (n part : ℕ) (rest : List ℕ) → HeadFits g n part → text ≡ head_text g n part ++ rest
       → (h.header ≡ g) × (h.calls ≡ n) × (h.part ≡ part)
 
-pub record RowIs (text : List ℕ) (at : ℕ) (row : Row) : Type 0 where
+pub record RowIs (text : List ℕ) (row : Row) : Type 0 where
   pub fits : RowFits row
-  pub reads : (r : Row) (rest : List ℕ) → RowFits r → drop at text ≡ row_text r ++ rest → row ≡ r
+  pub reads : (r : Row) (rest : List ℕ) → RowFits r → text ≡ row_text r ++ rest → row ≡ r
 
-pub record SumIs (size : ℕ) (text : List ℕ) (at : ℕ) (amount : ℤ) : Type 0 where
-  pub reads : (name : List ℕ) (z : ℤ) (rest : List ℕ) → length name ≡ size → SFits w64 z → drop at text ≡ sum_text name z ++ rest → amount ≡ z
+pub record SumIs (size : ℕ) (text : List ℕ) (amount : ℤ) : Type 0 where
+  pub reads : (name : List ℕ) (z : ℤ) (rest : List ℕ) → length name ≡ size → SFits w64 z → text ≡ sum_text name z ++ rest → amount ≡ z
 
--- whether such a line stands there, and the place behind it
-pub record HeadAt (text : List ℕ) (at : ℕ) (h : HeadLine) : Type 0 where
-  pub within : h.next ≤ length text
-  pub yes : h.is ≡ true → HeadFits h.header h.calls h.part × (drop at text ≡ head_text h.header h.calls h.part ++ drop h.next text)
-  pub no : h.is ≡ false → ¬ BeginsHead (drop at text)
+-- such a line stands there, and this is behind it
+pub record HeadAt (text : List ℕ) (h : Heads) (behind : List ℕ) : Type 0 where
+  pub fits : HeadFits h.header h.calls h.part
+  pub is : text ≡ head_text h.header h.calls h.part ++ behind
 
-pub record RowAt (text : List ℕ) (at : ℕ) (l : RowLine) : Type 0 where
-  pub within : l.next ≤ length text
-  pub yes : l.is ≡ true → RowFits l.row × (drop at text ≡ row_text l.row ++ drop l.next text)
-  pub no : l.is ≡ false → ¬ BeginsRow (drop at text)
+pub record RowAt (text : List ℕ) (row : Row) (behind : List ℕ) : Type 0 where
+  pub fits : RowFits row
+  pub is : text ≡ row_text row ++ behind
 
-pub record SumAt (name text : List ℕ) (at : ℕ) (l : SumLine) : Type 0 where
-  pub within : l.next ≤ length text
-  pub yes : l.is ≡ true → SFits w64 l.amount.0 × (drop at text ≡ sum_text name l.amount.0 ++ drop l.next text)
-  pub no : l.is ≡ false → (z : ℤ) (rest : List ℕ) → SFits w64 z → drop at text ≡ sum_text name z ++ rest → ⊥
+pub record SumAt (name text : List ℕ) (amount : ℤ) (behind : List ℕ) : Type 0 where
+  pub fits : SFits w64 amount
+  pub is : text ≡ sum_text name amount ++ behind
 
--- the members' lines from a place on
-pub record RowsAt (text : List ℕ) (at : ℕ) (l : RowLines) : Type 0 where
-  pub within : l.next ≤ length text
-  pub few : l.count ≤ most_entries
-  pub long : length l.rows ≡ most_entries
-  pub blank : drop l.count l.rows ≡ replicate (most_entries - l.count) blank_row
-  pub fit : RowsFit (take l.count l.rows)
-  pub is : drop at text ≡ rows_text (take l.count l.rows) ++ drop l.next text
-  pub ends : ¬ (BeginsRow (drop l.next text) × (l.count < most_entries))
+-- no line of that name stands there
+abbrev pub NoSum : List ℕ → List ℕ → Type 0
+NoSum name text = (z : ℤ) (rest : List ℕ) → SFits w64 z → text ≡ sum_text name z ++ rest → ⊥
+
+-- the members' lines at the front of a text, so many, and what is behind them
+pub record RowsAt (text : List ℕ) (rows : List Row) (count : ℕ) (behind : List ℕ) : Type 0 where
+  pub few : count ≤ most_entries
+  pub long : length rows ≡ most_entries
+  pub blank : drop count rows ≡ replicate (most_entries - count) blank_row
+  pub fit : RowsFit (take count rows)
+  pub is : text ≡ rows_text (take count rows) ++ behind
+  pub ends : ¬ (BeginsRow behind × (count < most_entries))

@@ -10,16 +10,18 @@ ghost use Rattle.posted.specs.Reading.{bad_line, ReadPosted};
 use book::Header;
 use month::rows::blank_rows;
 use month::{Fault, Statement};
+use share::array::seen;
 use units::SignedFen;
 
 mod line;
 mod put;
 mod taken;
 
-use line::{head_at, rows_at, sum_at};
+use line::{read_head, read_members, read_sum};
 use put::put_posted;
 
 // How a text reads: whole, or refused at a line, counted from 0.
+// Stays an enum: intake's definitions and theorems say by it how a file reads.
 #[derive(Clone, Copy)]
 pub enum Reading {
     Whole,
@@ -36,19 +38,11 @@ pub struct Posted {
 // The most bytes: 132 of the first line, 27 of R, 26 of the user's amount, and 320 for each of 64 members.
 pub const MOST_POSTED: usize = 20665;
 
+#[tactic(auto, unfolding(crate::specs::Posted::is_settled))]
 fn is_settled(fault: Fault) -> bool
     ensures { result ≡ is_settled fault }
 {
-    match fault {
-        Fault::NoFault => true,
-        Fault::InPart => false,
-        Fault::InRegister(line) => false,
-        Fault::InBook(number, place) => false,
-        Fault::Unlisted(place) => false,
-        Fault::OfMember(line, number, place) => false,
-        Fault::OfRamping(line, number, place) => false,
-        Fault::InSharing(number, place) => false,
-    }
+    matches!(fault, Fault::NoFault)
 }
 
 // The statement as a text; none of a month that was not settled.
@@ -59,15 +53,11 @@ pub fn posted_text(s: Statement, out: &mut [u8]) -> usize
     if out.len() < MOST_POSTED {
         return 0;
     }
-    let fault = s.fault;
-    if !is_settled(fault) {
+    if !is_settled(s.fault) {
         return 0;
     }
-    let header = s.header;
-    let rows = s.rows;
-    let gap = s.gap;
-    let user = s.user;
-    put_posted(out, header, s.calls, s.part, rows, s.count, gap, user)
+    let rows = &s.rows[..seen(s.count)];
+    put_posted(out, s.header, s.calls, s.part, rows, s.gap, s.user)
 }
 
 // Refused at a line, and zeros.
@@ -99,27 +89,21 @@ fn bad_line(line: usize) -> Posted
 pub fn read_posted(text: &[u8]) -> Posted
     ensures { ReadPosted text.now result }
 {
-    let head = head_at(text, 0);
-    if !head.is {
+    let Some((head, rest)) = read_head(text) else {
         return bad_line(0);
-    }
-    let members = rows_at(text, head.next);
+    };
+    let (members, rest) = read_members(rest);
+    let rows = members.rows;
     let count = members.count;
-    let total = sum_at(text, members.next, b"total ");
-    if !total.is {
+    let Some((gap, rest)) = read_sum(rest, b"total ") else {
         return bad_line(count + 1);
-    }
-    let last = sum_at(text, total.next, b"user ");
-    if !last.is {
+    };
+    let Some((user, rest)) = read_sum(rest, b"user ") else {
         return bad_line(count + 2);
-    }
-    if last.next < text.len() {
+    };
+    if !rest.is_empty() {
         return bad_line(count + 3);
     }
-    let header = head.header;
-    let rows = members.rows;
-    let gap = total.amount;
-    let user = last.amount;
     let statement = Statement {
         calls: head.calls,
         gap,
@@ -128,7 +112,7 @@ pub fn read_posted(text: &[u8]) -> Posted
         rows,
         fault: Fault::NoFault,
         part: head.part,
-        header,
+        header: head.header,
     };
     Posted {
         statement,

@@ -1,9 +1,10 @@
-// The lines of a text, each judged by itself: its numbers are taken, what they would be printed as is compared with it.
-ghost use Rattle.std.specs.Prelude.{◌≡◌, ◌^◌, ◌≤◌, ◌<◌, length};
-ghost use Rattle.posted.specs.Inner.{EarnedIs, CarriedIs, GotIs, HeadIs, RowIs, SumIs, HeadAt, RowAt, SumAt, RowsAt};
+// The lines at the front of a text, each judged by itself: its numbers are taken, what they would be printed as is compared with it.
+ghost use Rattle.std.specs.Prelude.{◌≡◌, ◌^◌, ◌≤◌, ◌<◌, length, ℤ, ℕ, List, MatchOption};
+ghost use Rattle.posted.specs.Reading.{BeginsHead, BeginsRow};
+ghost use Rattle.posted.specs.Inner.{EarnedIs, CarriedIs, GotIs, HeadIs, RowIs, SumIs, NoSum, HeadAt, RowAt, SumAt, RowsAt};
 
 use crate::put::{put_head, put_row, put_sum};
-use crate::taken::{begins, behind, field_at, signed_field_at};
+use crate::taken::{after, read_field, read_signed_field};
 use book::Header;
 use month::Row;
 use month::rows::blank_rows;
@@ -26,7 +27,6 @@ pub struct Earned {
     pub grains: u64,
     pub compensation: u64,
     pub assessment: u64,
-    pub next: usize,
 }
 
 #[derive(Clone, Copy)]
@@ -34,7 +34,6 @@ pub struct Carried {
     pub energy: u64,
     pub weight: u64,
     pub share: i64,
-    pub next: usize,
 }
 
 #[derive(Clone, Copy)]
@@ -44,132 +43,84 @@ pub struct Got {
     pub amount: i64,
 }
 
-// A line: whether it is one, what it says, and the place behind it.
+// The members' lines: the first rows, and how many they are.
 #[derive(Clone, Copy)]
-pub struct HeadLine {
-    pub calls: usize,
-    pub next: usize,
-    pub part: u32,
-    pub header: Header,
-    pub is: bool,
-}
-
-#[derive(Clone, Copy)]
-pub struct RowLine {
-    pub row: Row,
-    pub next: usize,
-    pub is: bool,
-}
-
-#[derive(Clone, Copy)]
-pub struct SumLine {
-    pub amount: SignedFen,
-    pub next: usize,
-    pub is: bool,
-}
-
-// The members' lines, and the place behind them.
-#[derive(Clone, Copy)]
-pub struct RowLines {
+pub struct Members {
     pub rows: [Row; MOST_ENTRIES],
     pub count: usize,
-    pub next: usize,
 }
 
-// A number in fewer bits, if it fits.
-fn in_8(v: u64) -> u8
-    ensures { v < 2 ^ 8 → result ≡ v }
+// Where a number does not fit its bits, no line has it: any will do.
+fn read_heads(text: &[u8]) -> Heads
+    ensures { HeadIs text.now result }
 {
-    if v < 256 { v as u8 } else { 0 }
-}
-
-fn in_16(v: u64) -> u16
-    ensures { v < 2 ^ 16 → result ≡ v }
-{
-    if v < 65536 { v as u16 } else { 0 }
-}
-
-fn in_32(v: u64) -> u32
-    ensures { v < 2 ^ 32 → result ≡ v }
-{
-    if v < 4294967296 { v as u32 } else { 0 }
-}
-
-fn heads_at(text: &[u8], at: usize) -> Heads
-    requires { at ≤ length text.now }
-    ensures { HeadIs text.now at result }
-{
-    let a = field_at(text, at, 5);
-    let b = field_at(text, a.next, 6);
-    let c = field_at(text, b.next, 7);
-    let d = field_at(text, c.next, 7);
-    let e = field_at(text, d.next, 6);
+    let (area, rest) = read_field(text, b"area ");
+    let (year, rest) = read_field(rest, b" year ");
+    let (month, rest) = read_field(rest, b" month ");
+    let (calls, rest) = read_field(rest, b" calls ");
+    let (part, _rest) = read_field(rest, b" part ");
     Heads {
-        calls: d.value as usize,
-        part: in_32(e.value),
+        calls: calls as usize,
+        part: u32::try_from(part).unwrap_or(0),
         header: Header {
-            area: in_8(a.value),
-            year: in_16(b.value),
-            month: in_8(c.value),
+            area: u8::try_from(area).unwrap_or(0),
+            year: u16::try_from(year).unwrap_or(0),
+            month: u8::try_from(month).unwrap_or(0),
         },
     }
 }
 
-fn earned_at(text: &[u8], at: usize) -> Earned
-    requires { at ≤ length text.now }
-    ensures { EarnedIs text.now at result }
+fn read_earned(text: &[u8]) -> (Earned, &[u8])
+    ensures { EarnedIs text.now result.0 result.1.now }
 {
-    let a = field_at(text, at, 7);
-    let b = field_at(text, a.next, 7);
-    let c = field_at(text, b.next, 8);
-    let d = field_at(text, c.next, 14);
-    let e = field_at(text, d.next, 12);
-    Earned {
-        number: a.value,
-        hours: b.value,
-        grains: c.value,
-        compensation: d.value,
-        assessment: e.value,
-        next: e.next,
-    }
+    let (number, rest) = read_field(text, b"member ");
+    let (hours, rest) = read_field(rest, b" hours ");
+    let (grains, rest) = read_field(rest, b" grains ");
+    let (compensation, rest) = read_field(rest, b" compensation ");
+    let (assessment, rest) = read_field(rest, b" assessment ");
+    let earned = Earned {
+        number,
+        hours,
+        grains,
+        compensation,
+        assessment,
+    };
+    (earned, rest)
 }
 
-fn carried_at(text: &[u8], at: usize) -> Carried
-    requires { at ≤ length text.now }
-    ensures { CarriedIs text.now at result }
+fn read_carried(text: &[u8]) -> (Carried, &[u8])
+    ensures { CarriedIs text.now result.0 result.1.now }
 {
-    let a = field_at(text, at, 8);
-    let b = field_at(text, a.next, 8);
-    let c = signed_field_at(text, b.next, 7);
-    Carried {
-        energy: a.value,
-        weight: b.value,
-        share: c.value,
-        next: c.next,
-    }
+    let (energy, rest) = read_field(text, b" energy ");
+    let (weight, rest) = read_field(rest, b" weight ");
+    let (share, rest) = read_signed_field(rest, b" share ");
+    let carried = Carried {
+        energy,
+        weight,
+        share,
+    };
+    (carried, rest)
 }
 
-fn got_at(text: &[u8], at: usize) -> Got
-    requires { at ≤ length text.now }
-    ensures { GotIs text.now at result }
+fn read_got(text: &[u8]) -> Got
+    ensures { GotIs text.now result }
 {
-    let a = field_at(text, at, 13);
-    let b = field_at(text, a.next, 7);
-    let c = signed_field_at(text, b.next, 8);
+    let (uncollected, rest) = read_field(text, b" uncollected ");
+    let (given, rest) = read_field(rest, b" given ");
+    let (amount, _rest) = read_signed_field(rest, b" amount ");
     Got {
-        uncollected: a.value,
-        given: b.value,
-        amount: c.value,
+        uncollected,
+        given,
+        amount,
     }
 }
 
-fn numbers_at(text: &[u8], at: usize) -> Row
-    requires { at ≤ length text.now }
-    ensures { RowIs text.now at result }
+fn read_numbers(text: &[u8]) -> Row
+    ensures { RowIs text.now result }
 {
-    let e = earned_at(text, at);
-    let c = carried_at(text, e.next);
-    let g = got_at(text, c.next);
+    let (e, rest) = read_earned(text);
+    let (c, rest) = read_carried(rest);
+    let g = read_got(rest);
     Row {
         grains: Grains(e.grains),
         compensation: Fen(e.compensation),
@@ -178,82 +129,63 @@ fn numbers_at(text: &[u8], at: usize) -> Row
         uncollected: Fen(g.uncollected),
         given: Fen(g.given),
         amount: SignedFen(g.amount),
-        assessment: Thousandths(in_32(e.assessment)),
-        energy: Mwh(in_32(c.energy)),
-        number: in_16(e.number),
-        hours: in_16(e.hours),
+        assessment: Thousandths(u32::try_from(e.assessment).unwrap_or(0)),
+        energy: Mwh(u32::try_from(c.energy).unwrap_or(0)),
+        number: u16::try_from(e.number).unwrap_or(0),
+        hours: u16::try_from(e.hours).unwrap_or(0),
     }
 }
 
-pub fn head_at(text: &[u8], at: usize) -> HeadLine
-    requires { at ≤ length text.now }
-    ensures { HeadAt text.now at result }
+// A first line, and what is behind it.
+pub fn read_head(text: &[u8]) -> Option<(Heads, &[u8])>
+    ensures { MatchOption result (BeginsHead text.now → ⊥) (λ got. HeadAt text.now got.0 got.1.now) }
 {
-    let h = heads_at(text, at);
-    let header = h.header;
+    let h = read_heads(text);
     let mut line = [0u8; 132];
-    let k = put_head(&mut line, 0, header, h.calls, h.part);
-    let is = begins(text, at, &line[..k]);
-    let next = behind(text, at, k);
-    HeadLine {
-        calls: h.calls,
-        next,
-        part: h.part,
-        header,
-        is,
-    }
+    let k = put_head(&mut line, 0, h.header, h.calls, h.part);
+    let rest = after(text, &line[..k])?;
+    Some((h, rest))
 }
 
-pub fn row_at(text: &[u8], at: usize) -> RowLine
-    requires { at ≤ length text.now }
-    ensures { RowAt text.now at result }
+// A member's line.
+pub fn read_row(text: &[u8]) -> Option<(Row, &[u8])>
+    ensures { MatchOption result (BeginsRow text.now → ⊥) (λ got. RowAt text.now got.0 got.1.now) }
 {
-    let row = numbers_at(text, at);
+    let row = read_numbers(text);
     let mut line = [0u8; 320];
     let k = put_row(&mut line, 0, row);
-    let is = begins(text, at, &line[..k]);
-    let next = behind(text, at, k);
-    RowLine { row, next, is }
-}
-
-fn sum_of(text: &[u8], at: usize, name: usize) -> i64
-    requires { at ≤ length text.now }
-    ensures { SumIs name text.now at result }
-{
-    let n = signed_field_at(text, at, name);
-    n.value
+    let rest = after(text, &line[..k])?;
+    Some((row, rest))
 }
 
 // The line of R or of the user's amount, by its name.
-pub fn sum_at(text: &[u8], at: usize, name: &[u8]) -> SumLine
-    requires at_in_bounds { at ≤ length text.now }
+pub fn read_sum<'a>(text: &'a [u8], name: &[u8]) -> Option<(SignedFen, &'a [u8])>
     requires name_len_bound { length name.now ≤ 6 }
-    ensures { SumAt name.now text.now at result }
+    ensures { MatchOption result (NoSum name.now text.now) (λ got. SumAt name.now text.now got.0.0 got.1.now) }
 {
-    let amount = SignedFen(sum_of(text, at, name.len()));
+    let (fen, _rest) = read_signed_field(text, name);
+    let amount = SignedFen(fen);
     let mut line = [0u8; 27];
     let k = put_sum(&mut line, 0, name, amount);
-    let is = begins(text, at, &line[..k]);
-    let next = behind(text, at, k);
-    SumLine { amount, next, is }
+    let rest = after(text, &line[..k])?;
+    Some((amount, rest))
 }
 
-pub fn rows_at(text: &[u8], at: usize) -> RowLines
-    requires { at ≤ length text.now }
-    ensures { RowsAt text.now at result }
+pub fn read_members(text: &[u8]) -> (Members, &[u8])
+    ensures { RowsAt text.now result.0.rows result.0.count result.1.now }
 {
     let mut rows = blank_rows();
-    let mut count: usize = 0;
-    let mut next = at;
-    while count < MOST_ENTRIES {
-        let line = row_at(text, next);
-        if !line.is {
-            return RowLines { rows, count, next };
-        }
-        let row = line.row;
+    let mut rest = text;
+    for count in 0..MOST_ENTRIES {
+        let Some((row, behind)) = read_row(rest) else {
+            return (Members { rows, count }, rest);
+        };
         rows[count] = row;
-        next = line.next;
-        count += 1;
+        rest = behind;
     }
-    RowLines { rows, count, next }
+    let all = Members {
+        rows,
+        count: MOST_ENTRIES,
+    };
+    (all, rest)
 }

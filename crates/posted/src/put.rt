@@ -1,5 +1,5 @@
 // The lines of a statement, from a place of a buffer on. Each answers the place behind what it put.
-ghost use Rattle.std.specs.Prelude.{◌++◌, ◌+◌, ◌*◌, ◌≤◌, length, take};
+ghost use Rattle.std.specs.Prelude.{◌++◌, ◌+◌, ◌*◌, ◌≤◌, length};
 ghost use Rattle.register.specs.Register.{most_entries};
 ghost use Rattle.render.specs.Inner.{Puts};
 ghost use Rattle.render.specs.Room.{most_decimal};
@@ -9,9 +9,7 @@ ghost use Rattle.posted.specs.Posted.{most_head, most_earned, most_carried, most
 
 use book::Header;
 use month::Row;
-use register::MOST_ENTRIES;
 use render::{put_field, put_money, put_word};
-use share::array::seen;
 use units::SignedFen;
 
 fn put_date(out: &mut [u8], at: usize, h: Header) -> usize
@@ -45,21 +43,17 @@ fn put_earned(out: &mut [u8], at: usize, r: Row) -> usize
     requires { at + most_earned ≤ length out.old }
     ensures { Puts most_earned out.old at (earned_text r) out.new result }
 {
-    let grains = r.grains;
-    let compensation = r.compensation;
-    let assessment = r.assessment;
     let a = put_who(out, at, r);
-    let b = put_field(out, a, b" grains ", grains.0);
-    let c = put_field(out, b, b" compensation ", compensation.0);
-    put_field(out, c, b" assessment ", assessment.0 as u64)
+    let b = put_field(out, a, b" grains ", r.grains.0);
+    let c = put_field(out, b, b" compensation ", r.compensation.0);
+    put_field(out, c, b" assessment ", r.assessment.0 as u64)
 }
 
 fn put_load(out: &mut [u8], at: usize, r: Row) -> usize
     requires { at + most_load ≤ length out.old }
     ensures { Puts most_load out.old at (load_text r) out.new result }
 {
-    let energy = r.energy;
-    let a = put_field(out, at, b" energy ", energy.0 as u64);
+    let a = put_field(out, at, b" energy ", r.energy.0 as u64);
     put_field(out, a, b" weight ", r.weight)
 }
 
@@ -67,21 +61,17 @@ fn put_carried(out: &mut [u8], at: usize, r: Row) -> usize
     requires { at + most_carried ≤ length out.old }
     ensures { Puts most_carried out.old at (carried_text r) out.new result }
 {
-    let share = r.share;
     let a = put_load(out, at, r);
-    put_money(out, a, b" share ", share)
+    put_money(out, a, b" share ", r.share)
 }
 
 fn put_got(out: &mut [u8], at: usize, r: Row) -> usize
     requires { at + most_got ≤ length out.old }
     ensures { Puts most_got out.old at (got_text r) out.new result }
 {
-    let uncollected = r.uncollected;
-    let given = r.given;
-    let amount = r.amount;
-    let a = put_field(out, at, b" uncollected ", uncollected.0);
-    let b = put_field(out, a, b" given ", given.0);
-    let c = put_money(out, b, b" amount ", amount);
+    let a = put_field(out, at, b" uncollected ", r.uncollected.0);
+    let b = put_field(out, a, b" given ", r.given.0);
+    let c = put_money(out, b, b" amount ", r.amount);
     put_word(out, c, b"\n")
 }
 
@@ -94,18 +84,14 @@ pub fn put_row(out: &mut [u8], at: usize, r: Row) -> usize
     put_got(out, b, r)
 }
 
-// The first `count` members.
-fn put_rows(out: &mut [u8], at: usize, rows: [Row; MOST_ENTRIES], count: usize) -> usize
-    requires count_le_most_entries { count ≤ most_entries }
+fn put_rows(out: &mut [u8], at: usize, rows: &[Row]) -> usize
+    requires count_le_most_entries { length rows.now ≤ most_entries }
     requires most_row_in_bounds { at + 64 * most_row ≤ length out.old }
-    ensures { Puts (64 * most_row) out.old at (rows_text (take count rows)) out.new result }
+    ensures { Puts (64 * most_row) out.old at (rows_text rows.now) out.new result }
 {
     let mut next = at;
-    let mut i: usize = 0;
-    while i < count {
-        let r = rows[i];
-        next = put_row(out, next, r);
-        i += 1;
+    for row in rows {
+        next = put_row(out, next, *row);
     }
     next
 }
@@ -124,16 +110,16 @@ pub fn put_posted(
     h: Header,
     calls: usize,
     part: u32,
-    rows: [Row; MOST_ENTRIES],
-    count: usize,
+    rows: &[Row],
     gap: SignedFen,
     user: SignedFen,
 ) -> usize
-    requires { most_posted ≤ length out.old }
-    ensures { Puts most_posted out.old 0 (head_text h calls part ++ rows_text (take count rows) ++ total_text gap.0 ++ user_text user.0) out.new result }
+    requires count_le_most_entries { length rows.now ≤ most_entries }
+    requires most_posted_in_bounds { most_posted ≤ length out.old }
+    ensures { Puts most_posted out.old 0 (head_text h calls part ++ rows_text rows.now ++ total_text gap.0 ++ user_text user.0) out.new result }
 {
     let a = put_head(out, 0, h, calls, part);
-    let b = put_rows(out, a, rows, seen(count));
+    let b = put_rows(out, a, rows);
     let c = put_sum(out, b, b"total ", gap);
     put_sum(out, c, b"user ", user)
 }

@@ -1,95 +1,60 @@
-// Numbers taken from a place of a text on. What is told of them holds where the text has what the reader looks for; the reader then
-// compares, so nothing more is asked.
-ghost use Rattle.std.specs.Prelude.{◌≡◌, true, ◌+◌, ◌*◌, ◌-◌, ◌^◌, ◌≤◌, ◌<◌, ℤ, pos, negsuc, length, drop};
+// Numbers taken from the front of a text, each with what is behind it. What is told of them holds where the text has what the reader looks
+// for; the reader then compares, so nothing more is asked.
+ghost use Rattle.std.specs.Prelude.{◌≡◌, ◌≢◌, true, ◌++◌, ◌+◌, ◌*◌, ◌-◌, ◌^◌, ◌≤◌, ◌<◌, List, ℕ, ℤ, pos, negsuc, length, drop, MatchOption};
 ghost use Rattle.row.specs.Numbers.{is_digit};
-ghost use Rattle.posted.specs.Inner.{starts_minus, Behind, NumberIs, FieldIs, SignedIs, SignedFieldIs, Begins};
+ghost use Rattle.posted.specs.Inner.{starts_minus, NumberIs, FieldIs, SignedIs, SignedFieldIs};
 
 use row::is_digit;
-
-const LARGEST: u64 = 18446744073709551615;
-
-const LARGEST_SIGNED: u64 = 9223372036854775807;
-
-// A number and the place behind it.
-#[derive(Clone, Copy)]
-pub struct Number {
-    pub value: u64,
-    pub next: usize,
-}
-
-#[derive(Clone, Copy)]
-pub struct SignedNumber {
-    pub value: i64,
-    pub next: usize,
-}
-
-fn wide(b: u8) -> u64
-    ensures { result ≡ b }
-{
-    b as u64
-}
 
 fn digit_of(b: u8) -> u64
     requires { is_digit b ≡ true }
     ensures { (result ≡ b - 48) × (result ≤ 9) }
 {
-    wide(b - b'0')
+    u64::from(b - b'0')
 }
 
 // What digits are worth with one more behind them, if that is a number of 64 bits.
 fn grown(v: u64, d: u64) -> u64
-    requires { d ≤ 9 }
     ensures { v * 10 + d < 2 ^ 64 → result ≡ v * 10 + d }
 {
-    if (LARGEST - d) / 10 < v {
-        v
-    } else {
-        v * 10 + d
-    }
+    v.saturating_mul(10).saturating_add(d)
 }
 
-fn number_at(text: &[u8], at: usize) -> Number
-    requires { at ≤ length text.now }
-    ensures { NumberIs text.now at result }
+fn read_number(text: &[u8]) -> (u64, &[u8])
+    ensures { NumberIs text.now result.0 result.1.now }
 {
-    let mut value: u64 = 0;
-    let mut next = at;
-    while next < text.len() {
-        let b = text[next];
-        if !is_digit(b) {
-            return Number { value, next };
+    let mut value = 0;
+    for (i, b) in text.iter().enumerate() {
+        if !is_digit(*b) {
+            return (value, &text[i..]);
         }
-        value = grown(value, digit_of(b));
-        next += 1;
+        value = grown(value, digit_of(*b));
     }
-    Number { value, next }
+    (value, &text[text.len()..])
 }
 
-// The place so many bytes further on, or the end.
-pub fn behind(text: &[u8], at: usize, k: usize) -> usize
-    requires { at ≤ length text.now }
-    ensures { Behind text.now at k result }
+// What is behind so many bytes.
+fn behind(text: &[u8], k: usize) -> &[u8]
+    ensures { result.now ≡ drop k text.now }
 {
-    if k <= text.len() - at {
-        at + k
+    if k <= text.len() {
+        &text[k..]
     } else {
-        text.len()
+        &text[text.len()..]
     }
 }
 
-// The number behind a name of so many bytes.
-pub fn field_at(text: &[u8], at: usize, name: usize) -> Number
-    requires { at ≤ length text.now }
-    ensures { FieldIs name text.now at result }
+// The number behind a name, whose bytes are not looked at.
+pub fn read_field<'a>(text: &'a [u8], name: &[u8]) -> (u64, &'a [u8])
+    ensures { FieldIs (length name.now) text.now result.0 result.1.now }
 {
-    let from = behind(text, at, name);
-    number_at(text, from)
+    read_number(behind(text, name.len()))
 }
 
 fn positive(v: u64) -> i64
     ensures { v < 2 ^ 63 → result ≡ pos v }
 {
-    if LARGEST_SIGNED < v { 0 } else { v as i64 }
+    i64::try_from(v).unwrap_or(0)
 }
 
 fn negative(v: u64) -> i64
@@ -98,57 +63,35 @@ fn negative(v: u64) -> i64
     if v == 0 { 0 } else { !positive(v - 1) }
 }
 
-fn starts_minus(text: &[u8], at: usize) -> bool
-    ensures { result ≡ starts_minus (drop at text.now) }
+#[tactic(auto, unfolding(crate::specs::Inner::starts_minus))]
+fn starts_minus(text: &[u8]) -> bool
+    ensures { result ≡ starts_minus text.now }
 {
-    if text.len() <= at {
-        return false;
-    }
-    text[at] == b'-'
+    text.first() == Some(&b'-')
 }
 
-fn signed_at(text: &[u8], at: usize) -> SignedNumber
-    requires { at ≤ length text.now }
-    ensures { SignedIs text.now at result }
+fn read_signed(text: &[u8]) -> (i64, &[u8])
+    ensures { SignedIs text.now result.0 result.1.now }
 {
-    if starts_minus(text, at) {
-        let from = behind(text, at, 1);
-        let n = number_at(text, from);
-        return SignedNumber {
-            value: negative(n.value),
-            next: n.next,
-        };
+    if starts_minus(text) {
+        let (size, rest) = read_number(behind(text, 1));
+        return (negative(size), rest);
     }
-    let n = number_at(text, at);
-    SignedNumber {
-        value: positive(n.value),
-        next: n.next,
-    }
+    let (size, rest) = read_number(text);
+    (positive(size), rest)
 }
 
-// The signed number behind a name of so many bytes.
-pub fn signed_field_at(text: &[u8], at: usize, name: usize) -> SignedNumber
-    requires { at ≤ length text.now }
-    ensures { SignedFieldIs name text.now at result }
+// The signed number behind a name.
+pub fn read_signed_field<'a>(text: &'a [u8], name: &[u8]) -> (i64, &'a [u8])
+    ensures { SignedFieldIs (length name.now) text.now result.0 result.1.now }
 {
-    let from = behind(text, at, name);
-    signed_at(text, from)
+    read_signed(behind(text, name.len()))
 }
 
-// Whether a word stands from a place on.
-pub fn begins(text: &[u8], at: usize, word: &[u8]) -> bool
-    requires { at ≤ length text.now }
-    ensures { Begins text.now at word.now result }
+// What is behind a word, where a text begins with it.
+#[tactic(auto, using(crate::proofs::Words::word_after))]
+pub fn after<'a>(text: &'a [u8], word: &[u8]) -> Option<&'a [u8]>
+    ensures { MatchOption result ((rest : List ℕ) → text.now ≢ word.now ++ rest) (λ rest. text.now ≡ word.now ++ rest.now) }
 {
-    if text.len() - at < word.len() {
-        return false;
-    }
-    let mut k: usize = 0;
-    while k < word.len() {
-        if text[at + k] != word[k] {
-            return false;
-        }
-        k += 1;
-    }
-    true
+    text.strip_prefix(word)
 }

@@ -61,6 +61,7 @@ fn next(g: Going, all: u64) -> Going
 }
 
 // n times w over all, by halving n: no number on the way is above twice `all` or above twice n.
+// Stays by hand: 128 bits are divided by `__udivti3`, and the C library asks for no function but memcpy, memmove, memset and memcmp (tests/archive).
 fn mul_div(n: u64, w: u64, all: u64) -> Quot
     requires n_bound { n < 2 ^ 63 }
     requires all_nonzero { 0 < all }
@@ -76,6 +77,7 @@ fn mul_div(n: u64, w: u64, all: u64) -> Quot
         },
         done: Quot { q: 0, r: 0 },
     };
+    // Stays a while: each turn halves what is left.
     while 0 < g.left {
         g = next(g, all);
     }
@@ -90,15 +92,11 @@ pub fn product_over(n: u64, w: u64, all: u64) -> Quot
     requires all_bound { all < 2 ^ 62 }
     ensures { Parts (n * w) all result.q result.r }
 {
-    if w == 0 {
-        return Quot { q: 0, r: 0 };
+    match n.checked_mul(w) {
+        Some(product) => Quot {
+            q: product / all,
+            r: product % all,
+        },
+        None => mul_div(n, w, all),
     }
-    if n <= 18446744073709551615 / w {
-        let x = n * w;
-        return Quot {
-            q: x / all,
-            r: x % all,
-        };
-    }
-    mul_div(n, w, all)
 }

@@ -39,16 +39,15 @@ pub fn action_at(s: &[u8], at: usize) -> Action
 }
 
 // How far two powers are apart, either side.
+#[tactic(auto, unfolding(crate::specs::Ramping::apart))]
 fn apart(p: Kw, q: Kw) -> u32
     ensures { result ≡ apart p.0 q.0 }
 {
-    if p.0 < q.0 {
-        return q.0 - p.0;
-    }
-    p.0 - q.0
+    p.0.abs_diff(q.0)
 }
 
 // The end is on the commanded side of the start; any other action is wrong-way.
+#[tactic(auto, unfolding(crate::specs::Ramping::is_right_way))]
 pub fn is_right_way(a: Action) -> bool
     ensures { result ≡ is_right_way a }
 {
@@ -69,6 +68,7 @@ pub fn error_of(a: Action) -> u32
 }
 
 // Within the limits, of the hour's standard rate.
+#[tactic(auto, unfolding(crate::specs::Ramping::action_is_sound))]
 pub fn action_is_sound(standard: u32, a: Action) -> bool
     ensures { result ≡ action_is_sound standard a }
 {

@@ -35,12 +35,14 @@ pub struct Hour {
 }
 
 // Coal, gas and hydro units.
+#[tactic(auto, unfolding(crate::specs::Ramping::is_ramping))]
 pub fn is_ramping(kind: u8) -> bool
     ensures { result ≡ is_ramping kind }
 {
     (kind == COAL) | (kind == GAS) | (kind == HYDRO)
 }
 
+#[tactic(auto, unfolding(crate::specs::Ramping::hour_refused))]
 fn hour_refused(number: u32, place: usize) -> Hour
     ensures { result ≡ hour_refused number place }
 {
@@ -51,6 +53,7 @@ fn hour_refused(number: u32, place: usize) -> Hour
     }
 }
 
+#[tactic(auto, unfolding(crate::specs::Ramping::hour_paid))]
 fn hour_paid(grains: Grains) -> Hour
     ensures { result ≡ hour_paid grains.0 }
 {
@@ -68,14 +71,12 @@ fn hour_so_far(s: &[u8], count: usize) -> HourSoFar
     ensures count_value { result.count ≡ first_bad_action (actions_from s.now 0 count) }
 {
     let mut h = HourSoFar::start();
-    let mut i: usize = 0;
-    while i < count {
+    for i in 0..count {
         let a = action_at(s, ACTION_SIZE * i);
         if !h.takes(a) {
             return h;
         }
         h = h.with(a);
-        i += 1;
     }
     h
 }

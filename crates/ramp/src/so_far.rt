@@ -68,12 +68,8 @@ impl HourSoFar {
         if !is_right_way(a) {
             return HourSoFar {
                 count: self.count + 1,
-                right: self.right,
-                distance: self.distance,
-                error: self.error,
-                real: self.real,
-                delay: self.delay,
                 standard: a.standard,
+                ..self
             };
         }
         let moved = move_of(a);
@@ -90,6 +86,7 @@ impl HourSoFar {
     }
 
     // What the right-way actions' indices give together, what they take, and over what.
+    #[tactic(auto, unfolding(crate::specs::Inner::given_so_far))]
     fn given_so_far(self, rated: Kw) -> u64
         requires goes { Goes self }
         requires rated_le_most_rated { rated.0 ≤ most_rated }
@@ -100,6 +97,7 @@ impl HourSoFar {
         (rates + early) * (rated.0 as u64)
     }
 
+    #[tactic(auto, unfolding(crate::specs::Inner::taken_so_far))]
     fn taken_so_far(self) -> u64
         requires { Goes self }
         ensures { result ≡ taken_so_far self }
@@ -107,6 +105,7 @@ impl HourSoFar {
         20_000 * self.error * (self.standard as u64)
     }
 
+    #[tactic(auto, unfolding(crate::specs::Inner::over_so_far))]
     fn over_so_far(self, rated: Kw) -> u64
         requires goes { Goes self }
         requires rated_le_most_rated { rated.0 ≤ most_rated }

@@ -1,57 +1,24 @@
 -- The pay of a minute, case by case, and how a pass over the windows finds it. Assumes nothing.
 use mathlib.Core.Path.{◌≡◌, refl}
-use mathlib.Core.Bool.{true, false}
-use mathlib.Core.List.{List}
-use Prim.Native.Nat.{ℕ, ◌+◌, ◌*◌, ◌≤◌, ◌<◌}
+use mathlib.Core.Bool.{Bool, true, false, cond}
+use mathlib.Core.List.{List, [], ◌∷◌}
+use Rattle.std.specs.Prelude.{Option, None, Some}
+use Prim.Native.Nat.{ℕ, ◌+◌, ◌≤◌, ◌<◌}
 use native.Mathlib.Numerals.{add-one}
 use native.Mathlib.Omega.{arith}
 use lib.ListN.{get_or, length, drop}
 use lib.Seq.{drop-cons}
-use borrow.Author.Tests.{ne_eqb, lt-ltb, le-ltb}
+use borrow.Author.Tests.{ne_eqb}
 use Rattle.call.specs.declared.Call.{Call}
 use Rattle.call.specs.Services.{deep_peak, reserve}
 use Rattle.book.specs.Book.{record_at}
 use Rattle.pay.specs.declared.Member.{Member}
 use Rattle.pay.specs.Member.{most_rated}
-use Rattle.pay.specs.Kinds.{coal, gas, hydro}
-use Rattle.pay.specs.Window.{lacking, deep_peak_minute, coal_band, coal_minute, gas_hydro_minute, reserve_minute, minute_pay}
+use Rattle.pay.specs.Window.{deep_peak_minute, reserve_minute, minute_pay}
 use Rattle.pay.specs.Event.{called_up}
 use Rattle.pay.proofs.Bounds.{minute_most}
 use Rattle.reckon.specs.Reckoning.{covers, output_at, window_minute, minute_at}
-use Rattle.reckon.specs.Inner.{calls_at, most_minute}
-
-module _ (N a p : ℕ) where
-  pub below_half : 10 * p ≤ 5 * N → 0 ≡ coal_minute N a p
-  unfolding coal_minute
-  below_half h = simp (le-ltb (5 * N) (10 * p) h)
-
-  pub above_half : 5 * N < 10 * p → lacking (10 * a) p * coal_band N p ≡ coal_minute N a p
-  unfolding coal_minute
-  above_half h = simp (lt-ltb (5 * N) (10 * p) h)
-
-  pub deep_coal : (kind : ℕ) → kind ≡ coal → lacking (5 * N) p * 3000 ≡ deep_peak_minute kind N p
-  unfolding deep_peak_minute
-  deep_coal kind e = simp e
-
-  pub deep_other : (kind : ℕ) → (kind ≡ coal → ⊥) → 0 ≡ deep_peak_minute kind N p
-  unfolding deep_peak_minute
-  deep_other kind h = simp (ne_eqb kind coal h)
-
-  pub reserve_coal : (kind : ℕ) → kind ≡ coal → coal_minute N a p ≡ reserve_minute kind N a p
-  unfolding reserve_minute
-  reserve_coal kind e = simp e
-
-  pub reserve_gas : (kind : ℕ) → kind ≡ gas → gas_hydro_minute N p ≡ reserve_minute kind N a p
-  unfolding reserve_minute
-  reserve_gas kind e = simp e
-
-  pub reserve_hydro : (kind : ℕ) → kind ≡ hydro → gas_hydro_minute N p ≡ reserve_minute kind N a p
-  unfolding reserve_minute
-  reserve_hydro kind e = simp e
-
-  pub reserve_other : (kind : ℕ) → (kind ≡ coal → ⊥) → (kind ≡ gas → ⊥) → (kind ≡ hydro → ⊥) → 0 ≡ reserve_minute kind N a p
-  unfolding reserve_minute
-  reserve_other kind c g h = simp (ne_eqb kind coal c, ne_eqb kind gas g, ne_eqb kind hydro h)
+use Rattle.reckon.specs.Inner.{calls_at, first_over, most_minute}
 
 module _ (m : Member) (x : Call) (p : ℕ) where
   pub window_deep : x.service ≡ deep_peak → deep_peak_minute m.kind m.rated.0 p ≡ window_minute m x p
@@ -70,16 +37,37 @@ module _ (m : Member) (x : Call) (p : ℕ) where
   unfolding window_minute
   window_most h k = omega (arith, minute_most m x.service (called_up x.a) p)
 
-module _ (m : Member) (series b places : List ℕ) (minute : ℕ) where
-  -- what is left of the windows from place k on
-  abbrev pub left : ℕ → ℕ
-  left k = minute_at m series (calls_at b (drop k places)) minute
+module _ (m : Member) (series : List ℕ) (minute : ℕ) where
+  -- a minute's pay by the first window that covers it
+  pub minute_some : (windows : List Call) (x : Call) → Some x ≡ first_over windows minute → window_minute m x (output_at series minute) ≡ minute_at m series windows minute
+  unfolding minute_at
+  minute_some [] x h = cc
+  minute_some (y ∷ windows) x h = go (covers y minute) h (minute_some windows x)
+    where
+      go : (t : Bool) → Some x ≡ cond t (Some y) (first_over windows minute)
+          → (Some x ≡ first_over windows minute → window_minute m x (output_at series minute) ≡ minute_at m series windows minute)
+          → window_minute m x (output_at series minute) ≡ cond t (window_minute m y (output_at series minute)) (minute_at m series windows minute)
+      go true h ih = cc
+      go false h ih = ih h
+
+  pub minute_none : (windows : List Call) → None ≡ first_over windows minute → 0 ≡ minute_at m series windows minute
+  unfolding minute_at
+  minute_none [] h = refl
+  minute_none (y ∷ windows) h = go (covers y minute) h (minute_none windows)
+    where
+      go : (t : Bool) → None ≡ cond t (Some y) (first_over windows minute) → (None ≡ first_over windows minute → 0 ≡ minute_at m series windows minute)
+          → 0 ≡ cond t (window_minute m y (output_at series minute)) (minute_at m series windows minute)
+      go true h ih = cc
+      go false h ih = ih h
+
+module _ (b places : List ℕ) (minute : ℕ) where
+  -- the first window that covers the minute among those from place k on
+  abbrev pub left : ℕ → Option Call
+  left k = first_over (calls_at b (drop k places)) minute
 
   module _ (k : ℕ) (l : k < length places) where
-    pub left_hit : covers (record_at b (get_or places k 0)) minute ≡ true → left k ≡ window_minute m (record_at b (get_or places k 0)) (output_at series minute)
-    unfolding minute_at
+    pub left_hit : covers (record_at b (get_or places k 0)) minute ≡ true → left k ≡ Some (record_at b (get_or places k 0))
     left_hit h = rw (drop-cons places k 0 l, h) refl
 
     pub left_miss : covers (record_at b (get_or places k 0)) minute ≡ false → left k ≡ left (k + 1)
-    unfolding minute_at
     left_miss h = rw (add-one k, drop-cons places k 0 l, h) refl

@@ -8,7 +8,7 @@ use native.Mathlib.Numerals.{add-one}
 use native.Mathlib.Decide.{dec_lt}
 use native.Mathlib.Omega.{arith}
 use lib.ListN.{get_or, length, take, set, length-append, get_or-append}
-use lib.Seq.{take-suc-set, take-set-le, get_or-append_seam}
+use lib.Seq.{take-suc-set, get_or-append_seam}
 use Rattle.call.specs.declared.Call.{Call}
 use Rattle.book.specs.Book.{size_of, record_at, calls_from}
 use Rattle.pay.specs.declared.Member.{Member}
@@ -82,18 +82,9 @@ module _ (m : Member) (service : ℕ) (b : List ℕ) where
   calls_there n =
       sym (ap (λ (ps : List ℕ). calls_at b ps ++ windows_of m service (calls_from b 0 n)) (sym places_none) ∙ calls_from_lem 0 n ∙ ap (λ (k : ℕ). calls_at b (places k)) (zero-add n))
 
-  -- one record more: its place is put down, and counts where it is a window
-  pub next_place : (at : List ℕ) (count i found : ℕ) → take count at ≡ places i → count < length at → found ≡ cond (is_window m service (book i)) 1 0
-      → take (count + found) (set at count i) ≡ places (i + 1)
-  next_place at count i found p l f = rw (f, add-one i) (go (is_window m service (book i)) refl)
-    where
-      go : (t : Bool) → is_window m service (book i) ≡ t → take (count + cond t 1 0) (set at count i) ≡ places (suc i)
-      go true h = rw (add-one count) (take-suc-set at count i l ∙ rw (p, places_yes i h) refl)
-      go false h = rw (add-zero count) (take-set-le count at count i (omega arith) ∙ p ∙ sym (places_no i h))
+  -- one record more: where it is a window, its place is put down behind the others
+  pub next_yes : (at : List ℕ) (count i : ℕ) → take count at ≡ places i → count < length at → is_window m service (book i) ≡ true → take (count + 1) (set at count i) ≡ places (i + 1)
+  next_yes at count i p l h = rw (add-one count, add-one i) (take-suc-set at count i l ∙ rw (p, places_yes i h) refl)
 
-  pub found_one : (i found : ℕ) → found ≡ cond (is_window m service (book i)) 1 0 → found ≤ 1
-  found_one i found f = rw f (go (is_window m service (book i)))
-    where
-      go : (t : Bool) → cond t 1 0 ≤ 1
-      go true = omega arith
-      go false = omega arith
+  pub next_no : (i : ℕ) → is_window m service (book i) ≡ false → places (i + 1) ≡ places i
+  next_no i h = rw (add-one i) (places_no i h)

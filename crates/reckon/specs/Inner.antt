@@ -1,5 +1,5 @@
 -- What inner contracts speak of, and no sentence of the request. Assumes nothing.
-use Rattle.std.specs.Prelude.{◌≡◌, cond, List, [], ◌∷◌, ◌++◌, map, ℕ, zero, suc, ◌*◌, ◌≤◌, ◌<◌, ℤ, get_or, length, take}
+use Rattle.std.specs.Prelude.{◌≡◌, cond, Option, List, [], ◌∷◌, ◌++◌, map, find, ℕ, zero, suc, ◌*◌, ◌≤◌, ◌<◌, ℤ, get_or, length, take}
 use Rattle.std.specs.Int.Signed.{mag}
 use Rattle.call.specs.declared.Call.{Call}
 use Rattle.book.specs.Book.{HasRecord, record_at}
@@ -8,7 +8,7 @@ use Rattle.pay.specs.Sum.{total, total_z}
 use Rattle.pay.specs.Inner.{most_pay, most_wh, most_month_wh}
 use Rattle.score.specs.Scoring.{wh_of, wh_at}
 use Rattle.reckon.specs.declared.windows.Windows.{Windows}
-use Rattle.reckon.specs.Reckoning.{is_window, other_pay, other_at}
+use Rattle.reckon.specs.Reckoning.{is_window, covers, other_pay, other_at}
 
 -- no minute pays more, whatever 32 bits say of the called power
 abbrev pub most_minute : ℕ
@@ -26,6 +26,10 @@ Placed b places = (k : ℕ) → k < length places → HasRecord b (get_or places
 -- the calls at these places
 abbrev pub calls_at : List ℕ → List ℕ → List Call
 calls_at b places = map (record_at b) places
+
+-- the first of the windows that covers a minute
+abbrev pub first_over : List Call → ℕ → Option Call
+first_over windows minute = find (λ x. covers x minute) windows
 
 -- the places that were found among the first n records
 pub record Finds (m : Member) (service : ℕ) (b : List ℕ) (n : ℕ) (r : Windows) : Type 0 where

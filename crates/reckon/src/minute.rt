@@ -13,18 +13,16 @@ use pay::kind::{COAL, GAS, HYDRO};
 use units::{Grains, Kw, TenthKwMin};
 
 // What a minute at output p lacks up to a level, in tenths of a kW·min.
+#[tactic(auto, unfolding(pay::specs::Window::lacking))]
 fn lacking(level: TenthKwMin, p: Kw) -> TenthKwMin
     ensures { result.0 ≡ lacking level.0 p.0 }
 {
-    let top = level.0;
     let at = 10 * (p.0 as u64);
-    if at < top {
-        return TenthKwMin(top - at);
-    }
-    TenthKwMin(0)
+    TenthKwMin(level.0.saturating_sub(at))
 }
 
 // 1: what a coal unit lacks up to half of its rating.
+#[tactic(auto, using(pay::proofs::Bounds::lacking_most), unfolding(pay::specs::Window::deep_peak_minute))]
 fn deep_peak_minute(kind: u8, rated: Kw, p: Kw) -> Grains
     ensures { result.0 ≡ deep_peak_minute kind rated.0 p.0 }
 {
@@ -37,6 +35,7 @@ fn deep_peak_minute(kind: u8, rated: Kw, p: Kw) -> Grains
 }
 
 // Grains for each tenth of a kW·min: more below 70% of the rating.
+#[tactic(auto, unfolding(pay::specs::Window::coal_band))]
 fn coal_band(rated: Kw, p: Kw) -> u64
     ensures { result ≡ coal_band rated.0 p.0 }
 {
@@ -49,6 +48,7 @@ fn coal_band(rated: Kw, p: Kw) -> u64
 }
 
 // 2, coal: above half of the rating, what it lacks up to the called power.
+#[tactic(auto, unfolding(pay::specs::Window::coal_minute))]
 fn coal_minute(rated: Kw, top: Kw, p: Kw) -> Grains
     ensures { result.0 ≡ coal_minute rated.0 top.0 p.0 }
 {
@@ -64,6 +64,7 @@ fn coal_minute(rated: Kw, top: Kw, p: Kw) -> Grains
 }
 
 // 2, gas and hydro: what the output lacks up to 70% of the rating.
+#[tactic(auto, using(pay::proofs::Bounds::lacking_most), unfolding(pay::specs::Window::gas_hydro_minute))]
 fn gas_hydro_minute(rated: Kw, p: Kw) -> Grains
     ensures { result.0 ≡ gas_hydro_minute rated.0 p.0 }
 {
@@ -72,13 +73,13 @@ fn gas_hydro_minute(rated: Kw, p: Kw) -> Grains
     Grains(short.0 * 10)
 }
 
+#[tactic(auto, unfolding(pay::specs::Window::reserve_minute))]
 fn reserve_minute(kind: u8, rated: Kw, top: Kw, p: Kw) -> Grains
     ensures { result.0 ≡ reserve_minute kind rated.0 top.0 p.0 }
 {
     match kind {
         COAL => coal_minute(rated, top, p),
-        GAS => gas_hydro_minute(rated, p),
-        HYDRO => gas_hydro_minute(rated, p),
+        GAS | HYDRO => gas_hydro_minute(rated, p),
         _ => Grains(0),
     }
 }

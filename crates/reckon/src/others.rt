@@ -39,8 +39,7 @@ fn other_live(member: Member, series: &[u32], x: Call) -> Other
     }
     let service = x.service;
     let grains = match service {
-        DEEP_PEAK => Grains(0),
-        RESERVE => Grains(0),
+        DEEP_PEAK | RESERVE => Grains(0),
         _ => live_pay(member, series, x),
     };
     Other { grains, wh: Wh(0) }
@@ -64,6 +63,7 @@ fn other_at(member: Member, b: &[u8], series: &[u32], i: usize) -> Other
 }
 
 // The first n records together.
+// Stays by hand: n is a number of records, no length of the bytes, which begin with the header.
 pub fn others_earned(member: Member, b: &[u8], series: &[u32], n: usize) -> Other
     requires small { Small member series.now }
     requires n_in_bounds { size_of n ≤ length b.now }
@@ -73,12 +73,10 @@ pub fn others_earned(member: Member, b: &[u8], series: &[u32], n: usize) -> Othe
 {
     let mut grains: u64 = 0;
     let mut wh = Wh(0);
-    let mut i: usize = 0;
-    while i < n {
+    for i in 0..n {
         let other = other_at(member, b, series, i);
         grains += other.grains.0;
         wh = added(wh, other.wh);
-        i += 1;
     }
     Other {
         grains: Grains(grains),

@@ -27,19 +27,18 @@ pub fn refusal_of(month: Month, member: Member, b: &[u8], first: usize, i: usize
 }
 
 // The first of n records that is refused, or n.
+// Stays by hand: n is a number of records, no length of the bytes, which begin with the header.
 pub fn first_refused(month: Month, member: Member, b: &[u8], n: usize) -> usize
     requires n_in_bounds { size_of n ≤ length b.now }
     requires by_index { (i : ℕ) → i < n → (record_at b.now i).state ≤ withdrawn }
     ensures { result ≡ first_refused month member (record_at b.now) n }
 {
     let first = first_own(b, n, member.number);
-    let mut i: usize = 0;
-    while i < n {
+    for i in 0..n {
         let number = refusal_of(month, member, b, first, i);
         if number != 0 {
             return i;
         }
-        i += 1;
     }
-    i
+    n
 }

@@ -1,5 +1,5 @@
 // The month of one service, minute by minute.
-ghost use Rattle.std.specs.Prelude.{◌≡◌, ◌*◌, ◌≤◌, get_or, length};
+ghost use Rattle.std.specs.Prelude.{◌≡◌, ◌*◌, ◌≤◌, length};
 ghost use Rattle.units.specs.Month.{most_minutes};
 ghost use Rattle.book.specs.Book.{most_keys, size_of, record_at, calls_from};
 ghost use Rattle.pay.specs.Member.{most_rated};
@@ -8,26 +8,15 @@ ghost use Rattle.reckon.specs.Reckoning.{windows_of, output_at, minute_at};
 ghost use Rattle.reckon.specs.Inner.{Placed, calls_at, most_minute};
 
 use crate::minute::window_minute;
-use crate::windows::{covers, windows_of};
-use book::record_at;
+use crate::windows::{first_over, windows_of};
 use pay::Member;
 use units::{Grains, Kw};
 
-// Value i of the series, and 0 where it has none.
-fn value_at(series: &[u32], i: usize) -> u32
-    ensures { result ≡ get_or series.now i 0 }
-{
-    if i < series.len() {
-        return series[i];
-    }
-    0
-}
-
-// The output of a minute, which is its quarter hour's.
+// The output of a minute, which is its quarter hour's, and 0 where the series has none.
 pub fn output_at(series: &[u32], minute: u32) -> Kw
     ensures { result.0 ≡ output_at series.now minute }
 {
-    Kw(value_at(series, (minute / 15) as usize))
+    Kw(series.get((minute / 15) as usize).copied().unwrap_or(0))
 }
 
 // What a minute pays: by the first of the windows at these places that covers it, or nothing.
@@ -36,16 +25,10 @@ pub fn minute_at(member: Member, b: &[u8], places: &[usize], series: &[u32], min
     requires placed { Placed b.now places.now }
     ensures { (result.0 ≡ minute_at member series.now (calls_at b.now places.now) minute) × (result.0 ≤ most_minute) }
 {
-    let mut k: usize = 0;
-    while k < places.len() {
-        let place = places[k];
-        let x = record_at(b, place);
-        if covers(x, minute) {
-            return window_minute(member, x, output_at(series, minute));
-        }
-        k += 1;
+    match first_over(b, places, minute) {
+        Some(x) => window_minute(member, x, output_at(series, minute)),
+        None => Grains(0),
     }
-    Grains(0)
 }
 
 // So many minutes of the month, from its first on.
@@ -62,16 +45,15 @@ fn minutes_walked(
     ensures { (result.0 ≡ total (minute_at member series.now (calls_at b.now places.now)) 0 minutes) × (result.0 ≤ minutes * most_minute) }
 {
     let mut sum: u64 = 0;
-    let mut minute: u32 = 0;
-    while minute < minutes {
+    for minute in 0..minutes {
         let pay = minute_at(member, b, places, series, minute);
         sum += pay.0;
-        minute += 1;
     }
     Grains(sum)
 }
 
 // The month of a service: the member's windows among the first n records, then the walk.
+// Stays by hand: n is a number of records, no length of the bytes, which begin with the header.
 pub fn walked(
     member: Member,
     service: u8,
@@ -87,7 +69,5 @@ pub fn walked(
     ensures { (result.0 ≡ total (minute_at member series.now (windows_of member service (calls_from b.now 0 n))) 0 minutes) × (result.0 ≤ minutes * most_minute) }
 {
     let windows = windows_of(member, service, b, n);
-    let at = windows.at;
-    let count = windows.count;
-    minutes_walked(member, b, &at[..count], series, minutes)
+    minutes_walked(member, b, &windows.at[..windows.count], series, minutes)
 }

@@ -1,19 +1,13 @@
 // The live windows of a member and a service, and which minutes they cover.
-ghost use Rattle.std.specs.Prelude.{◌≡◌, cond, ◌≤◌, length};
-ghost use Rattle.book.specs.Book.{most_keys, HasRecord, size_of, record_at};
-ghost use Rattle.score.specs.Scoring.{is_own_live};
+ghost use Rattle.std.specs.Prelude.{◌≡◌, ◌≤◌, length};
+ghost use Rattle.book.specs.Book.{most_keys, size_of};
 ghost use Rattle.reckon.specs.Reckoning.{is_window, covers};
-ghost use Rattle.reckon.specs.Inner.{Finds};
+ghost use Rattle.reckon.specs.Inner.{Placed, calls_at, first_over, Finds};
 
 use book::{MOST_RECORDS, record_at};
-use call::{Call, LIVE};
+use call::Call;
 use pay::Member;
-
-pub fn is_own_live(member: Member, x: Call) -> bool
-    ensures { result ≡ is_own_live member x }
-{
-    (x.participant == member.number) & (x.state == LIVE)
-}
+pub use score::is_own_live;
 
 #[tactic(auto, unfolding(crate::specs::Reckoning::is_window))]
 fn is_window(member: Member, service: u8, x: Call) -> bool
@@ -24,6 +18,7 @@ fn is_window(member: Member, service: u8, x: Call) -> bool
 }
 
 // Whether the minute begins no earlier than the window, and ends no later.
+#[tactic(auto, unfolding(crate::specs::Reckoning::covers))]
 pub fn covers(x: Call, minute: u32) -> bool
     ensures { result ≡ covers x minute }
 {
@@ -41,16 +36,18 @@ pub struct Windows {
     pub at: [usize; MOST_RECORDS],
 }
 
-// 1 where record i is such a window, otherwise 0.
-fn one_window(member: Member, service: u8, b: &[u8], i: usize) -> usize
-    requires { HasRecord b.now i }
-    ensures { result ≡ cond (is_window member service (record_at b.now i)) 1 0 }
+// The first of the windows at these places that covers the minute.
+pub fn first_over(b: &[u8], places: &[usize], minute: u32) -> Option<Call>
+    requires { Placed b.now places.now }
+    ensures { result ≡ first_over (calls_at b.now places.now) minute }
 {
-    let x = record_at(b, i);
-    if is_window(member, service, x) {
-        return 1;
+    for place in places {
+        let x = record_at(b, *place);
+        if covers(x, minute) {
+            return Some(x);
+        }
     }
-    0
+    None
 }
 
 // The windows among the first n records. They are looked up once, so that a minute asks no other record.
@@ -61,11 +58,11 @@ pub fn windows_of(member: Member, service: u8, b: &[u8], n: usize) -> Windows
 {
     let mut at = [0usize; MOST_RECORDS];
     let mut count: usize = 0;
-    let mut i: usize = 0;
-    while i < n {
-        at[count] = i;
-        count += one_window(member, service, b, i);
-        i += 1;
+    for i in 0..n {
+        if is_window(member, service, record_at(b, i)) {
+            at[count] = i;
+            count += 1;
+        }
     }
     Windows { count, at }
 }

@@ -1,7 +1,7 @@
 // The register of a month: a line a member, with what its sharing line needs besides the compensation, and with its limit.
 #![tactic(auto)]
 
-ghost use Rattle.std.specs.Prelude.{◌≡◌, ◌≤◌, get_or, take};
+ghost use Rattle.std.specs.Prelude.{◌≡◌, ◌≤◌, take};
 ghost use Rattle.register.specs.Register.{most_entries, blank_entry, entry_line, entry_is_sound, first_bad_entry, limited_for};
 
 use ceiling::array::blank_limiteds;
@@ -46,6 +46,7 @@ pub fn blank_entry() -> Entry
 
 impl Entry {
     // The sharing line of an entry whose member is compensated so.
+    #[tactic(auto, unfolding(crate::specs::Register::entry_line))]
     pub fn line(self, fen: Fen) -> Line
         ensures { result ≡ entry_line self fen }
     {
@@ -81,43 +82,19 @@ impl Entry {
 }
 
 // The place of the first entry that is not sound, or count.
+// Stays two functions: a walk shared with sharing's lines would take the test and the number as closures, and be no shorter.
 pub fn first_bad_entry(entries: [Entry; MOST_ENTRIES], count: usize) -> usize
     requires { count ≤ most_entries }
     ensures { result ≡ first_bad_entry 0 (take count entries) }
 {
     let mut before: u16 = 0;
-    let mut i: usize = 0;
-    while i < count {
-        let e = entries[i];
-        if e.is_sound(before) {
-            before = e.member.number;
-        } else {
+    for (i, e) in entries[..count].iter().enumerate() {
+        if !e.is_sound(before) {
             return i;
         }
-        i += 1;
+        before = e.member.number;
     }
     count
-}
-
-// The compensation of line i, and none behind the last.
-fn fen_of(fens: [Fen; MOST_ENTRIES], i: usize) -> Fen
-    ensures { result ≡ get_or fens i (record { 0 = 0 }) }
-{
-    if i < MOST_ENTRIES { fens[i] } else { Fen(0) }
-}
-
-// The limit of line i, and none behind the last.
-fn limit_of(entries: [Entry; MOST_ENTRIES], i: usize) -> Limit
-    ensures { result ≡ (get_or entries i blank_entry).limit }
-{
-    if i < MOST_ENTRIES {
-        let e = entries[i];
-        return e.limit;
-    }
-    Limit {
-        none: false,
-        fen: Fen(0),
-    }
 }
 
 // The sharing lines, with their limits, of entries whose members are compensated so, in turn.
@@ -128,19 +105,15 @@ pub fn limited_for(
     ensures { result ≡ limited_for entries fens }
 {
     let mut lines = blank_limiteds();
-    let mut i: usize = 0;
-    while i < MOST_ENTRIES {
-        let next = i + 1;
-        let fen = fen_of(fens, i);
-        let line = entries[i].line(fen);
-        let limit = limit_of(entries, i);
+    for i in 0..MOST_ENTRIES {
+        let line = entries[i].line(fens[i]);
+        let limit = entries[i].limit;
         lines[i] = LimitedLine {
             line,
             limit,
             uncollected: Fen(0),
             given: Fen(0),
         };
-        i = next;
     }
     lines
 }

@@ -10,7 +10,7 @@ use Rattle.call.specs.Services.{most_participant, deep_peak, reserve, start_stop
 use Rattle.pay.specs.Kinds.{coal, gas, hydro}
 use Rattle.book.specs.declared.Header.{Header}
 use Rattle.field.specs.declared.Field.{Field}
-use Rattle.field.specs.declared.Field.TheVariants.{NoField, Participant, State, Service, Revision, Start, Length, A, B, C, Reserved}
+use Rattle.field.specs.declared.Field.TheVariants.{Participant, State, Service, Revision, Start, Length, A, B, C, Reserved}
 use Rattle.render.specs.Decimal.{word}
 use Rattle.form.specs.Form.{bits, flag, filled, filled_with, most_with}
 use Rattle.remark.specs.declared.why.Bad.{Bad}
@@ -61,7 +61,6 @@ bad_a l c = row (bits c.a) (bits l.low) (bits l.high) (or_unnamed (lt_z (pos 0) 
 
 -- field by field, by the limits of the call's service
 unfoldable pub bad_by : Limits → Field → Call → Bad
-bad_by l NoField c = row 0 0 0 0
 bad_by l Participant c = row c.participant 1 most_participant outside
 bad_by l State c = row c.state 0 withdrawn outside
 bad_by l Service c = row c.service 1 stability_trip (or_unnamed (eqb c.state live) outside c)
@@ -75,7 +74,6 @@ bad_by l Reserved c = row 0 0 0 last_four
 
 -- the names of the fields; the last four bytes are none
 unfoldable pub field_name : Field → List ℕ
-field_name NoField = []
 field_name Participant = word "MEMBER"
 field_name State = word "STATE"
 field_name Service = word "SERVICE"

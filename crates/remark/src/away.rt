@@ -17,6 +17,7 @@ use pay::kind::{COAL, GAS, HYDRO};
 use units::Kw;
 
 // Beside the call, the plant and the month: which fields are told, and what is open instead.
+#[tactic(auto, unfolding(crate::specs::Remarks::not_open_values, crate::specs::Remarks::wanted_values))]
 fn not_open_values(x: Call, kind: u8, rated: Kw, h: Header) -> [u64; 18]
     ensures { result ≡ not_open_values x kind rated.0 h }
 {

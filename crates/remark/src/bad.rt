@@ -1,8 +1,6 @@
 // A bad field of a call, a number outside its limits, a record of a file, in words.
 ghost use Rattle.std.specs.Prelude.{◌≡◌, length};
 ghost use Rattle.io.specs.Counts.{IsPrefixLen};
-ghost use Rattle.clock.specs.Clock.{before};
-ghost use Rattle.names.specs.Names.{blank};
 ghost use Rattle.render.specs.Room.{Renders};
 ghost use Rattle.form.specs.Form.{most_with};
 ghost use Rattle.remark.specs.Forms.{field_form, outside_form};
@@ -12,59 +10,50 @@ use crate::forms::{FIELD, OUTSIDE, RECORD};
 use crate::why;
 use crate::why::{Bad, bad_of};
 use call::Call;
-use clock::before;
 use field::Field;
 use form::{flag, say_with};
 
-// A field's name, and blanks behind it.
-fn name_of(f: Field) -> [u8; 8]
-    ensures { before blank result ≡ field_name f }
+// A field's name; the last four bytes have none.
+#[tactic(auto, unfolding(crate::specs::Remarks::field_name))]
+fn name_of(f: Field) -> &'static [u8]
+    ensures { result.now ≡ field_name f }
 {
     match f {
-        Field::NoField => *b"        ",
-        Field::Participant => *b"MEMBER  ",
-        Field::State => *b"STATE   ",
-        Field::Service => *b"SERVICE ",
-        Field::Revision => *b"REVISION",
-        Field::Start => *b"START   ",
-        Field::Length => *b"LENGTH  ",
-        Field::A => *b"A       ",
-        Field::B => *b"B       ",
-        Field::C => *b"C       ",
-        Field::Reserved => *b"        ",
+        Field::Participant => b"MEMBER",
+        Field::State => b"STATE",
+        Field::Service => b"SERVICE",
+        Field::Revision => b"REVISION",
+        Field::Start => b"START",
+        Field::Length => b"LENGTH",
+        Field::A => b"A",
+        Field::B => b"B",
+        Field::C => b"C",
+        Field::Reserved => b"",
     }
 }
 
 // In the order of the form: whether a field is told, its number, and each case with its numbers.
+#[tactic(auto, unfolding(crate::specs::Remarks::bad_values))]
 fn bad_values(b: Bad, x: Call) -> [u64; 16]
     ensures { result ≡ bad_values b x }
 {
-    let named = flag(why::LAST_FOUR < b.why);
-    let outside = flag(b.why == why::OUTSIDE);
-    let above = flag(b.why == why::ABOVE);
-    let below = flag(b.why == why::BELOW);
-    let uneven = flag(b.why == why::UNEVEN);
-    let beyond = flag(b.why == why::BEYOND);
-    let unnamed = flag(b.why == why::UNNAMED);
-    let not_live = flag(b.why == why::NOT_LIVE);
-    let last_four = flag(b.why == why::LAST_FOUR);
     [
-        named,
+        flag(why::LAST_FOUR < b.why),
         b.number,
-        outside,
+        flag(b.why == why::OUTSIDE),
         b.least,
         b.most,
-        above,
+        flag(b.why == why::ABOVE),
         b.most,
-        below,
+        flag(b.why == why::BELOW),
         b.least,
-        uneven,
-        beyond,
+        flag(b.why == why::UNEVEN),
+        flag(b.why == why::BEYOND),
         x.start as u64,
-        unnamed,
+        flag(b.why == why::UNNAMED),
         x.service as u64,
-        not_live,
-        last_four,
+        flag(b.why == why::NOT_LIVE),
+        flag(b.why == why::LAST_FOUR),
     ]
 }
 
@@ -74,8 +63,7 @@ pub fn field_text(f: Field, x: Call, out: &mut [u8]) -> usize
     ensures prefix_len { IsPrefixLen result out.new }
 {
     let values = bad_values(bad_of(f, x), x);
-    let name = name_of(f);
-    say_with(&FIELD, &values, before(&name, b' '), b"", out)
+    say_with(&FIELD, &values, name_of(f), b"", out)
 }
 
 // A number by its name, and the limits outside of which it stands.

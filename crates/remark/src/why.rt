@@ -36,6 +36,7 @@ pub struct Bad {
 }
 
 // What is wrong where a call may have the field, or else that it may not.
+#[tactic(auto, unfolding(crate::specs::Remarks::or_unnamed))]
 fn or_unnamed(may: bool, why: u8, x: Call) -> u8
     ensures { result ≡ or_unnamed may why x }
 {
@@ -49,6 +50,7 @@ fn or_unnamed(may: bool, why: u8, x: Call) -> u8
 }
 
 // What is wrong with a length that is not too long for the service.
+#[tactic(auto, unfolding(crate::specs::Remarks::length_why))]
 fn length_why(l: Limits, x: Call) -> u8
     ensures { result ≡ length_why l x }
 {
@@ -73,6 +75,7 @@ fn row(number: u64, least: u64, most: u64, why: u8) -> Bad
 }
 
 // The one field with a sign.
+#[tactic(auto, unfolding(crate::specs::Remarks::bad_a))]
 fn bad_a(l: Limits, x: Call) -> Bad
     ensures { result ≡ bad_a l x }
 {
@@ -83,12 +86,12 @@ fn bad_a(l: Limits, x: Call) -> Bad
 }
 
 // Field by field.
+#[tactic(auto, unfolding(crate::specs::Remarks::bad_by))]
 pub fn bad_of(f: Field, x: Call) -> Bad
     ensures { result ≡ bad_by (limits_of x.service) f x }
 {
     let l = limits_of(x.service);
     match f {
-        Field::NoField => row(0, 0, 0, 0),
         Field::Participant => row(x.participant as u64, 1, MOST_PARTICIPANT as u64, OUTSIDE),
         Field::State => row(x.state as u64, 0, WITHDRAWN as u64, OUTSIDE),
         Field::Service => row(

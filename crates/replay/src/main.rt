@@ -48,10 +48,8 @@ fn print_byte(terminal: &Terminal, b: u8) {
 }
 
 fn print_bytes(terminal: &Terminal, s: &[u8]) {
-    let mut i = 0;
-    while i < s.len() {
-        print_byte(terminal, s[i]);
-        i += 1;
+    for &b in s {
+        print_byte(terminal, b);
     }
 }
 

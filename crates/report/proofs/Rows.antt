@@ -1,10 +1,11 @@
 -- The table and its sums, member by member. Assumes nothing.
 use mathlib.Core.Path.{◌≡◌, refl, sym, ap, ◌∙◌}
-use mathlib.Core.List.{List}
-use Prim.Native.Nat.{ℕ, ◌+◌, ◌*◌}
+use mathlib.Core.List.{List, ◌++◌}
+use Prim.Native.Nat.{ℕ, zero, suc, ◌+◌, ◌*◌, ◌≤◌}
 use native.Mathlib.Numerals.{add-one}
 use native.Mathlib.Omega.{arith}
-use lib.ListN.{get_or}
+use lib.ListN.{length, get_or, take}
+use Rattle.std.proofs.lemmas.List.{get_or-take, length-take-le}
 use Rattle.render.specs.Inner.{Puts}
 use Rattle.render.proofs.Placed.{and_then, looser, same_put, none_put}
 use Rattle.form.specs.Form.{is_sign, next_marked, most_shown, most_byte, most_from, most_of}
@@ -40,3 +41,21 @@ module _ (rows : List Row) where
   pub totals_more : (i : ℕ) (t r : Totals) → t ≡ totals_of rows i → r ≡ with_row t (get_or rows i blank_row) → r ≡ totals_of rows (i + 1)
   unfolding totals_of
   totals_more i t r e f = f ∙ ap (λ (x : Totals). with_row x (get_or rows i blank_row)) e ∙ ap (totals_of rows) (sym (add-one i))
+
+  -- the first lines of the first lines
+  pub rows_front : (n k : ℕ) → k ≤ n → rows_text (take n rows) k ≡ rows_text rows k
+  unfolding rows_text
+  rows_front n zero h = refl
+  rows_front n (suc k) h = λ i. rows_front n k (omega arith) i ++ row_text (get_or-take n rows k blank_row (omega arith) i)
+
+  pub totals_front : (n k : ℕ) → k ≤ n → totals_of (take n rows) k ≡ totals_of rows k
+  unfolding totals_of
+  totals_front n zero h = refl
+  totals_front n (suc k) h = λ i. with_row (totals_front n k (omega arith) i) (get_or-take n rows k blank_row (omega arith) i)
+
+  -- what is said of the first lines as a list, said of them by their number
+  pub rows_counted : (n : ℕ) → n ≤ length rows → rows_text (take n rows) (length (take n rows)) ≡ rows_text rows n
+  rows_counted n h = ap (rows_text (take n rows)) (length-take-le n rows h) ∙ rows_front n n (omega arith)
+
+  pub totals_counted : (n : ℕ) → n ≤ length rows → totals_of (take n rows) (length (take n rows)) ≡ totals_of rows n
+  totals_counted n h = ap (totals_of (take n rows)) (length-take-le n rows h) ∙ totals_front n n (omega arith)

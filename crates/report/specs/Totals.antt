@@ -22,15 +22,19 @@ owed_of (negsuc n) = suc n
 unfoldable pub apart : ℕ → ℕ → ℕ
 apart a b = a - b + (b - a)
 
+-- the sums with a line more: what it is paid in fen, what it is charged in thousandths of a point, and its amount
+abbrev pub with_line : Totals → ℕ → ℕ → ℤ → Totals
+with_line t paid charged amount =
+    record {
+      compensation = fen_plus t.compensation paid;
+      assessment = fen_plus t.assessment (charged * fen_per_thousandth);
+      due = fen_plus t.due (due_of amount);
+      owed = fen_plus t.owed (owed_of amount);
+    }
+
 -- the sums with one member's line more
 unfoldable pub with_row : Totals → Row → Totals
-with_row t r =
-    record {
-      compensation = fen_plus t.compensation r.compensation.0;
-      assessment = fen_plus t.assessment (r.assessment.0 * fen_per_thousandth);
-      due = fen_plus t.due (due_of r.amount.0);
-      owed = fen_plus t.owed (owed_of r.amount.0);
-    }
+with_row t r = with_line t r.compensation.0 r.assessment.0 r.amount.0
 
 -- the sums with the user's amount
 unfoldable pub with_user : Totals → ℤ → Totals
@@ -42,7 +46,11 @@ with_user t user =
       owed = fen_plus t.owed (owed_of user);
     }
 
+-- the sums of no lines
+abbrev pub no_lines : Totals
+no_lines = record { compensation = 0; assessment = 0; due = 0; owed = 0 }
+
 -- the sums of so many lines: C, A, what is due to members and what members owe
 unfoldable pub totals_of : List Row → ℕ → Totals
-totals_of rows zero = record { compensation = 0; assessment = 0; due = 0; owed = 0 }
+totals_of rows zero = no_lines
 totals_of rows (suc n) = with_row (totals_of rows n) (get_or rows n blank_row)

@@ -13,7 +13,6 @@ ghost use Rattle.report.specs.Forms.{row_values, foot_values, no_line_form, no_l
 use crate::forms::{ABOVE, FOOT, NO_LINE, ROW};
 use form::{fen_bits, fill, say, say_with};
 use month::{Row, Statement};
-use register::MOST_ENTRIES;
 use share::array::seen;
 use share::limits::MOST_COMPENSATION;
 use units::{Fen, SignedFen};
@@ -28,31 +27,22 @@ use totals::{Totals, apart, short, totals_of, with_user};
 // The most bytes of a month: 346 for each of 64 members, and 199 of the user's line and the sums.
 pub const MOST_MONTH: usize = 22343;
 
+#[tactic(auto, unfolding(crate::specs::Forms::row_values))]
 fn row_values(r: Row) -> [u64; 11]
     ensures { result ≡ row_values r }
 {
-    let grains = r.grains;
-    let compensation = r.compensation;
-    let assessment = r.assessment;
-    let energy = r.energy;
-    let uncollected = r.uncollected;
-    let given = r.given;
-    let points = grains.to_fen();
-    let charged = assessment.to_fen();
-    let share = fen_bits(r.share);
-    let amount = fen_bits(r.amount);
     [
         r.number as u64,
         r.hours as u64,
-        points.0,
-        compensation.0,
-        charged.0,
-        energy.0 as u64,
+        r.grains.to_fen().0,
+        r.compensation.0,
+        r.assessment.to_fen().0,
+        r.energy.0 as u64,
         r.weight,
-        share,
-        uncollected.0,
-        given.0,
-        amount,
+        fen_bits(r.share),
+        r.uncollected.0,
+        r.given.0,
+        fen_bits(r.amount),
     ]
 }
 
@@ -64,36 +54,30 @@ fn put_row(out: &mut [u8], at: usize, r: Row) -> usize
     fill(out, at, &ROW, &values)
 }
 
-fn put_rows(out: &mut [u8], rows: [Row; MOST_ENTRIES], count: usize) -> usize
-    requires count_bound { count ≤ 64 }
+fn put_rows(out: &mut [u8], rows: &[Row]) -> usize
+    requires count_bound { length rows.now ≤ 64 }
     requires most_row_in_bounds { 64 * most_row ≤ length out.old }
-    ensures { Puts (64 * most_row) out.old 0 (rows_text rows count) out.new result }
+    ensures { Puts (64 * most_row) out.old 0 (rows_text rows.now (length rows.now)) out.new result }
 {
     let mut next = 0;
-    let mut i: usize = 0;
-    while i < count {
-        let row = rows[i];
-        next = put_row(out, next, row);
-        i += 1;
+    for row in rows {
+        next = put_row(out, next, *row);
     }
     next
 }
 
+#[tactic(auto, unfolding(crate::specs::Forms::foot_values))]
 fn foot_values(user: SignedFen, gap: SignedFen, part: u32, t: Totals) -> [u64; 7]
     ensures { result ≡ foot_values user.0 gap.0 part t }
 {
-    let user = fen_bits(user);
-    let gap = fen_bits(gap);
-    let minus = short(t.due, t.owed);
-    let left = apart(t.due, t.owed);
     [
-        user,
+        fen_bits(user),
         t.compensation,
         t.assessment,
-        gap,
+        fen_bits(gap),
         part as u64,
-        minus,
-        left,
+        short(t.due, t.owed),
+        apart(t.due, t.owed),
     ]
 }
 
@@ -118,10 +102,10 @@ fn put_month(out: &mut [u8], s: Statement, count: usize) -> usize
     requires most_month_in_bounds { most_month ≤ length out.old }
     ensures { Puts most_month out.old 0 (month_of s count) out.new result }
 {
-    let rows = s.rows;
-    let t = totals_of(rows, count);
+    let rows = &s.rows[..count];
+    let t = totals_of(rows);
     let all = with_user(t, s.user);
-    let a = put_rows(out, rows, count);
+    let a = put_rows(out, rows);
     put_foot(out, a, s.user, s.gap, s.part, all)
 }
 

@@ -1,11 +1,9 @@
 // The sums below a month's table.
-ghost use Rattle.std.specs.Prelude.{◌≡◌, ◌-◌, ◌≤◌};
-ghost use Rattle.report.specs.Totals.{fen_plus, due_of, owed_of, apart, with_row, with_user, totals_of};
+ghost use Rattle.std.specs.Prelude.{◌≡◌, ◌-◌, length};
+ghost use Rattle.report.specs.Totals.{fen_plus, due_of, owed_of, apart, with_line, with_user, no_lines, totals_of};
 
 use month::Row;
-use register::MOST_ENTRIES;
-use render::size;
-use units::SignedFen;
+use units::{Fen, SignedFen, Thousandths};
 
 // C, A, what is due to members and what members owe, in fen.
 #[derive(Clone, Copy)]
@@ -16,96 +14,86 @@ pub struct Totals {
     pub owed: u64,
 }
 
-// The top of 64 bits: a sum past it is told as the top, so that none wraps.
-const MOST_FEN: u64 = 0xffff_ffff_ffff_ffff;
-
-// Fen, and more of them.
+// Fen, and more of them: a sum past the top of 64 bits is told as the top, so that none wraps.
+#[tactic(auto, unfolding(crate::specs::Totals::fen_plus))]
 pub fn plus(a: u64, b: u64) -> u64
     ensures { result ≡ fen_plus a b }
 {
-    let room = MOST_FEN - a;
-    if room < b {
-        return MOST_FEN;
-    }
-    a + b
+    a.saturating_add(b)
 }
 
 // What an amount above zero gives, and what one below zero takes.
 pub fn due_of(n: i64) -> u64
     ensures { result ≡ due_of n }
 {
-    if n < 0 { 0 } else { size(n) }
+    if n < 0 { 0 } else { n.unsigned_abs() }
 }
 
 pub fn owed_of(n: i64) -> u64
     ensures { result ≡ owed_of n }
 {
-    if n < 0 { size(n) } else { 0 }
+    if n < 0 { n.unsigned_abs() } else { 0 }
 }
 
 // How far two sums are apart.
+#[tactic(auto, unfolding(crate::specs::Totals::apart))]
 pub fn apart(a: u64, b: u64) -> u64
     ensures { result ≡ apart a b }
 {
-    if a < b { b - a } else { a - b }
+    a.abs_diff(b)
 }
 
 // What the one is short of the other.
 pub fn short(a: u64, b: u64) -> u64
     ensures { result ≡ b - a }
 {
-    if a < b { b - a } else { 0 }
+    b.saturating_sub(a)
 }
 
-fn with_row(t: Totals, r: Row) -> Totals
-    ensures { result ≡ with_row t r }
+// The sums with a line more: what it is paid, what it is charged, and its amount.
+pub fn with_line(t: Totals, paid: Fen, charged: Thousandths, amount: SignedFen) -> Totals
+    ensures { result ≡ with_line t paid.0 charged.0 amount.0 }
 {
-    let amount = r.amount;
-    let paid = r.compensation;
-    let assessment = r.assessment;
-    let charged = assessment.to_fen();
-    let compensation = plus(t.compensation, paid.0);
-    let assessment = plus(t.assessment, charged.0);
-    let due = plus(t.due, due_of(amount.0));
-    let owed = plus(t.owed, owed_of(amount.0));
+    let charged = charged.to_fen();
     Totals {
-        compensation,
-        assessment,
-        due,
-        owed,
+        compensation: plus(t.compensation, paid.0),
+        assessment: plus(t.assessment, charged.0),
+        due: plus(t.due, due_of(amount.0)),
+        owed: plus(t.owed, owed_of(amount.0)),
     }
 }
 
 // The sums with the user's amount.
+#[tactic(auto, unfolding(crate::specs::Totals::with_user))]
 pub fn with_user(t: Totals, user: SignedFen) -> Totals
     ensures { result ≡ with_user t user.0 }
 {
-    let due = plus(t.due, due_of(user.0));
-    let owed = plus(t.owed, owed_of(user.0));
     Totals {
-        compensation: t.compensation,
-        assessment: t.assessment,
-        due,
-        owed,
+        due: plus(t.due, due_of(user.0)),
+        owed: plus(t.owed, owed_of(user.0)),
+        ..t
     }
 }
 
-// The sums of the first lines.
-pub fn totals_of(rows: [Row; MOST_ENTRIES], count: usize) -> Totals
-    requires { count ≤ 64 }
-    ensures { result ≡ totals_of rows count }
+// The sums of no lines.
+pub fn no_lines() -> Totals
+    ensures { result ≡ no_lines }
 {
-    let mut t = Totals {
+    Totals {
         compensation: 0,
         assessment: 0,
         due: 0,
         owed: 0,
-    };
-    let mut i: usize = 0;
-    while i < count {
-        let row = rows[i];
-        t = with_row(t, row);
-        i += 1;
+    }
+}
+
+// The sums of lines.
+pub fn totals_of(rows: &[Row]) -> Totals
+    ensures { result ≡ totals_of rows.now (length rows.now) }
+{
+    let mut t = no_lines();
+    for row in rows {
+        t = with_line(t, row.compensation, row.assessment, row.amount);
     }
     t
 }

@@ -23,24 +23,18 @@ pub struct Row {
     pub ended: [u64; MOST_COLUMNS - 1],
 }
 
-fn wide(b: u8) -> u64
-    ensures { result ≡ b }
-{
-    b as u64
-}
-
 // A number as it is told: one past every limit as 10^12.
 pub fn hold(n: u64) -> u64
     ensures { result ≡ hold n }
 {
-    if n < CEILING { n } else { CEILING }
+    n.min(CEILING)
 }
 
 // Whether a byte is a digit.
 pub fn is_digit(b: u8) -> bool
     ensures { result ≡ is_digit b }
 {
-    (b'0' <= b) & (b <= b'9')
+    b.is_ascii_digit()
 }
 
 // What digits are worth with this one behind them. A number past every limit stays so, and need not grow.
@@ -51,7 +45,7 @@ pub fn grown(v: u64, b: u8) -> u64
     if CEILING <= v {
         return v;
     }
-    v * 10 + wide(b - b'0')
+    v * 10 + u64::from(b - b'0')
 }
 
 impl Row {
@@ -95,9 +89,7 @@ impl Row {
         if last <= at {
             return self.spoilt();
         }
-        let mut ended = self.ended;
-        ended[at] = hold(self.value);
-        self.ended = ended;
+        self.ended[at] = hold(self.value);
         self.at = at + 1;
         self.value = 0;
         self.digit = false;

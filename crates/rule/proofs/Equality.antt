@@ -13,13 +13,14 @@ use Rattle.call.specs.declared.Call.{Call}
 use Rattle.rule.specs.declared.Decision.{Decision}
 use Rattle.rule.specs.Standing.{same_call, decide}
 
-le_z_both : (a b : ℤ) → le_z a b ≡ true → le_z b a ≡ true → a ≡ b
+-- two numbers with a sign are one exactly where neither is above the other
+pub le_z_both : (a b : ℤ) → le_z a b ≡ true → le_z b a ≡ true → a ≡ b
 le_z_both (pos m) (pos n) e f = ap pos (omega (arith, leb-true m n e, leb-true n m f))
 le_z_both (pos m) (negsuc n) e f = absurd (true≢false (sym e))
 le_z_both (negsuc m) (pos n) e f = absurd (true≢false (sym f))
 le_z_both (negsuc m) (negsuc n) e f = ap negsuc (omega (arith, leb-true n m e, leb-true m n f))
 
-le_z_own : (a : ℤ) → le_z a a ≡ true
+pub le_z_own : (a : ℤ) → le_z a a ≡ true
 le_z_own (pos m) = le-leb m m (omega arith)
 le_z_own (negsuc m) = le-leb m m (omega arith)
 

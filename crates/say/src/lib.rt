@@ -1,7 +1,7 @@
 // What programs print: words, numbers, and money with its sign; at once, or collected on a page.
 #![tactic(auto)]
 
-ghost use Rattle.std.specs.Prelude.{◌≡◌, ◌≤◌, length, nat_abs, IfSome};
+ghost use Rattle.std.specs.Prelude.{◌≤◌, length, IfSome};
 ghost use Rattle.io.specs.Counts.{IsPrefixLen};
 
 use render::put_word;
@@ -50,11 +50,7 @@ pub fn text(terminal: &Terminal, words: &[u8]) {
 
 // The first n bytes of a page, in one write: all of it where it has no more.
 pub fn write_page(terminal: &Terminal, page: &[u8], n: usize) {
-    if page.len() < n {
-        text(terminal, page);
-        return;
-    }
-    text(terminal, &page[..n]);
+    text(terminal, page.get(..n).unwrap_or(page));
 }
 
 // Words behind the first n bytes of a page, which are written before it has no room for more. Gives how many stand there then.
@@ -79,18 +75,11 @@ pub fn number(terminal: &Terminal, n: u64) {
     text(terminal, &digits[..k]);
 }
 
-// The size of a number, without its sign.
-fn size(n: i64) -> u64
-    ensures { result ≡ nat_abs n }
-{
-    if n < 0 { (!n) as u64 + 1 } else { n as u64 }
-}
-
 pub fn money(terminal: &Terminal, x: SignedFen) {
     if x.0 < 0 {
         text(terminal, b"-");
     }
-    number(terminal, size(x.0));
+    number(terminal, x.0.unsigned_abs());
 }
 
 // Argument i, at the start of the buffer: how long it is; none where it is missing or longer than the buffer. The program's own name is argument 0. An argument may be any bytes.

@@ -21,6 +21,7 @@ pub enum Earned {
 }
 
 // The month's grains become fen here, once.
+#[tactic(auto, unfolding(crate::specs::Scoring::in_fen))]
 pub fn in_fen(earned: Earned) -> Score
     ensures { result ≡ in_fen earned }
 {

@@ -4,12 +4,13 @@
 ghost use Rattle.std.specs.Prelude.{◌≡◌, true};
 ghost use Rattle.pay.specs.Member.{member_is_sound};
 ghost use Rattle.book.specs.Check.{check, accepted};
-ghost use Rattle.score.specs.Scoring.{sound_earned, grains_earned, scoring};
+ghost use Rattle.score.specs.Scoring.{is_own_live, sound_earned, grains_earned, scoring};
 
 use crate::answer::{Earned, Score, in_fen};
 use crate::records::records_earned;
 use crate::series::series_fault;
 use book::{check, count_at, header_at};
+use call::{Call, LIVE};
 use pay::Member;
 use pay::open::Month;
 use units::calendar::quarters_of;
@@ -18,6 +19,14 @@ pub mod answer;
 mod records;
 pub mod refusal;
 pub mod series;
+
+// Whether a call is a live one of the member: what pays.
+#[tactic(auto, unfolding(crate::specs::Scoring::is_own_live))]
+pub fn is_own_live(member: Member, x: Call) -> bool
+    ensures { result ≡ is_own_live member x }
+{
+    (x.participant == member.number) & (x.state == LIVE)
+}
 
 // The grains of a sound register line over a sound book.
 fn sound_earned(member: Member, b: &[u8], series: &[u32]) -> Earned
@@ -55,6 +64,7 @@ pub fn grains_earned(member: Member, b: &[u8], series: &[u32]) -> Earned
 }
 
 // The score of one member: a refusal's number and place, or the month's grains and fen.
+#[tactic(auto, unfolding(crate::specs::Scoring::scoring))]
 pub fn score(member: Member, b: &[u8], series: &[u32]) -> Score
     ensures { result ≡ scoring member b.now series.now }
 {

@@ -7,20 +7,14 @@ ghost use Rattle.score.specs.Scoring.{is_own_live, records_earned};
 ghost use Rattle.score.specs.Inner.{Small, RecordIsSound, NoneBefore, EndsKept, ScoreTurned};
 
 use crate::answer::Earned;
+use crate::is_own_live;
 use crate::refusal::{first_own, idle_refusal, refusal_by_ends};
 use book::record_at;
-use call::{Call, LIVE};
 use pay::Member;
 use pay::event::{added, event_wh, month_pay};
 use pay::live::{is_by_energy, live_pay};
 use pay::open::Month;
 use units::{Grains, Wh};
-
-fn is_own_live(member: Member, x: Call) -> bool
-    ensures { result ≡ is_own_live member x }
-{
-    (x.participant == member.number) & (x.state == LIVE)
-}
 
 // What a record's turn gives: a refusal's number, or 0 and the record's grains and energy.
 #[derive(Clone, Copy)]
@@ -119,6 +113,7 @@ fn turn_of(
 }
 
 // One pass over the records, from the member's first on. Watt-hours are summed with their sign, and clamped at zero once, at the end.
+// Stays by hand: count is a number of records, no length of the bytes, which begin with the header.
 pub fn records_earned(
     month: Month,
     member: Member,
@@ -136,8 +131,7 @@ pub fn records_earned(
     let mut grains: u64 = 0;
     let mut wh = Wh(0);
     let mut ends = [0u32; 5];
-    let mut i = first;
-    while i < count {
+    for i in first..count {
         let t = turn_of(month, member, b, first, i, series, &mut ends);
         let number = t.number;
         if number != 0 {
@@ -145,7 +139,6 @@ pub fn records_earned(
         }
         grains += t.grains.0;
         wh = added(wh, t.wh);
-        i += 1;
     }
     let sum = month_pay(Grains(grains), wh);
     Earned::Accepted(sum)

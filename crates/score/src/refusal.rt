@@ -3,7 +3,7 @@ ghost use Rattle.std.specs.Prelude.{◌≡◌, true, ◌+◌, ◌≤◌, length}
 ghost use Rattle.book.specs.Book.{size_of, record_at};
 ghost use Rattle.score.specs.Refusing.{overlaps, is_once, clashes, clash_before, first_own, number_of, refusal_at};
 ghost use Rattle.score.specs.Scoring.{is_own_live};
-ghost use Rattle.score.specs.Inner.{NoneBefore, idle_refusal, later, EndsKept, with_end, starts_after};
+ghost use Rattle.score.specs.Inner.{NoneBefore, idle_refusal, EndsKept, with_end, starts_after};
 
 use book::record_at;
 use call::service::{AGC_AVAILABILITY, AGC_CONTRIBUTION, AVC, BLACK_START, STANDBY};
@@ -12,6 +12,7 @@ use pay::Member;
 use pay::open::{Month, open_to};
 
 // In 32 bits, so that no end wraps.
+#[tactic(auto, unfolding(crate::specs::Refusing::overlaps))]
 fn overlaps(x: Call, y: Call) -> bool
     ensures { result ≡ overlaps x y }
 {
@@ -22,6 +23,7 @@ fn overlaps(x: Call, y: Call) -> bool
     (from < until) & (since < to)
 }
 
+#[tactic(auto, unfolding(crate::specs::Refusing::is_once))]
 fn is_once(service: u8) -> bool
     ensures { result ≡ is_once service }
 {
@@ -31,6 +33,7 @@ fn is_once(service: u8) -> bool
         | (service == AVC)
 }
 
+#[tactic(auto, unfolding(crate::specs::Refusing::clashes))]
 pub fn clashes(number: u16, x: Call, y: Call) -> bool
     ensures { result ≡ clashes number x y }
 {
@@ -48,15 +51,13 @@ pub fn first_own(b: &[u8], count: usize, number: u16) -> usize
     requires { size_of count ≤ length b.now }
     ensures { result ≡ first_own number (record_at b.now) count }
 {
-    let mut i = 0;
-    while i < count {
+    for i in 0..count {
         let x = record_at(b, i);
         if x.participant == number {
             return i;
         }
-        i += 1;
     }
-    i
+    count
 }
 
 // Whether an earlier record stands against x, record i. For speed the search starts at the member's first record, and is left out
@@ -70,21 +71,12 @@ fn clash_before(b: &[u8], first: usize, i: usize, number: u16, x: Call) -> bool
     if !((x.service <= STANDBY) | second) {
         return false;
     }
-    let mut j = first;
-    while j < i {
+    for j in first..i {
         if clashes(number, x, record_at(b, j)) {
             return true;
         }
-        j += 1;
     }
     false
-}
-
-// The later of two minutes.
-fn later(from: u32, to: u32) -> u32
-    ensures { result ≡ later from to }
-{
-    if from < to { to } else { from }
 }
 
 // Whether x, of a service whose calls may not overlap, starts no earlier than the latest end of its service; its own end is then among
@@ -100,7 +92,7 @@ fn starts_after(x: Call, ends: &mut [u32; 5]) -> bool
     let start = x.start as u32;
     let end = start + x.length as u32;
     let latest = ends[service];
-    ends[service] = later(latest, end);
+    ends[service] = latest.max(end);
     latest <= start
 }
 
@@ -127,6 +119,7 @@ fn clash_by_ends(
 }
 
 // 12 is asked before 13.
+#[tactic(auto, unfolding(crate::specs::Refusing::number_of))]
 fn number_of(fit: bool, clash: bool) -> u32
     ensures { result ≡ number_of fit clash }
 {
@@ -140,6 +133,7 @@ fn number_of(fit: bool, clash: bool) -> u32
 }
 
 // The refusal of a record that is not a live one of the member: 14 where it is the member's and contested.
+#[tactic(auto, unfolding(crate::specs::Inner::idle_refusal))]
 pub fn idle_refusal(number: u16, x: Call) -> u32
     ensures { result ≡ idle_refusal number x }
 {

@@ -15,10 +15,8 @@ fn any_too_much(series: &[u32]) -> bool
     ensures { result ≡ false → first_too_much series.now ≡ length series.now }
 {
     let mut any = false;
-    let mut i = 0;
-    while i < series.len() {
-        any = any | (MOST_OUTPUT < series[i]);
-        i += 1;
+    for output in series {
+        any |= MOST_OUTPUT < *output;
     }
     any
 }
@@ -27,14 +25,12 @@ fn any_too_much(series: &[u32]) -> bool
 fn first_too_much(series: &[u32]) -> usize
     ensures { result ≡ first_too_much series.now }
 {
-    let mut i = 0;
-    while i < series.len() {
-        if MOST_OUTPUT < series[i] {
+    for (i, output) in series.iter().enumerate() {
+        if MOST_OUTPUT < *output {
             return i;
         }
-        i += 1;
     }
-    i
+    series.len()
 }
 
 // 11, the length, then the lowest bad index; or zeros.

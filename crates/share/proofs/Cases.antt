@@ -15,12 +15,9 @@ use Rattle.apportion.specs.Apportion.{total, apportion}
 use Rattle.apportion.proofs.Promises.{adds_up}
 use Rattle.apportion.proofs.Loops.{get_d_total}
 use Rattle.share.specs.declared.Line.{Line}
-use Rattle.share.specs.Sharing.{compensated, assessed, below, gap, generators_amount, user_amount, weights_of, all_weights, signed, Part, parts_by, parts, line_is_sound, first_bad_line}
+use Rattle.share.specs.Sharing.{compensated, assessed, below, gap, generators_amount, user_amount, weights_of, all_weights, signed, parts_by, parts, line_is_sound, first_bad_line}
 use Rattle.share.specs.Sharing.{weightless, sharing_refused, sharing_accepted, settled, sharing_in_turn, sharing, most_number, most_compensation, most_part, part_place}
 use Rattle.share.proofs.Bounds.{few_sound}
-use Rattle.share.specs.declared.Shared.{Shared}
-use Rattle.units.specs.declared.SignedFen.{SignedFen}
-use Rattle.share.specs.Forms.{fill_in, array_of, clear}
 use Rattle.share.specs.Inner.{GapIs}
 
 -- 15
@@ -134,10 +131,3 @@ sharing_10 part ls fair h = let b = bad_of_64 ls in rw b.0 (turn_10 part (first_
 
 pub sharing_on : (part : ℕ) (ls : List Line) → part ≤ most_part → length ls ≤ first_bad_line 0 ls → settled part ls ≡ sharing part ls
 sharing_on part ls fair h = let b = bad_of_64 ls in rw b.0 (turn_on part (first_bad_line 0 ls) (length ls) ls fair (omega (arith, b.1)) h)
-
--- the accepted answer of the array form, from its parts
-pub accepted_is : (part : ℕ) (lines ls : List Line) (whole user : SignedFen) (ps : List Part) (out : List Line) → whole.0 ≡ gap ls → user.0 ≡ user_amount part ls → ps ≡ parts part ls
-    → out ≡ fill_in ps (clear lines) → ◌≡◌ {A = Shared} (record { number = 0; place = 0; gap = whole; user = user; lines = out }) (array_of lines (sharing_accepted part ls))
-accepted_is part lines ls whole user ps out ew eu ep eo =
-    let all : out ≡ fill_in (parts part ls) (clear lines) = eo ∙ ap (λ (qs : List Part). fill_in qs (clear lines)) ep in
-    λ i. record { number = 0; place = 0; gap = record { 0 = ew i }; user = record { 0 = eu i }; lines = all i }

@@ -2,8 +2,7 @@
 use mathlib.Core.Path.{◌≡◌, sym, ap, ◌∙◌}
 use mathlib.Core.Bool.{false}
 use mathlib.Core.List.{List}
-use Prim.Native.Nat.{ℕ, min, ◌≤◌, ◌<◌}
-use native.Mathlib.Nat.{min-eq_left, min-eq_right}
+use Prim.Native.Nat.{ℕ, ◌≤◌, ◌<◌}
 use native.Mathlib.Decide.{dec_le}
 use native.Mathlib.Omega.{arith}
 use borrow.Author.Tests.{le-ltb}
@@ -18,16 +17,6 @@ use Rattle.share.proofs.Cases.{turn_10, any_part, bad_of_64, sharing_10}
 pub blank_bad : (before : ℕ) → line_is_sound before blank_line ≡ false
 unfolding line_is_sound
 blank_bad before = rw (le-ltb before 0 (omega arith))
-
--- the first of 64 lines, however many are counted
-pub take_seen : (lines : List Line) (count n : ℕ) → length lines ≡ 64 → n ≡ min count 64 → take n lines ≡ take count lines
-take_seen lines count n e m = go (dec_le count 64)
-  where
-    go : Dec (count ≤ 64) → take n lines ≡ take count lines
-    go (yes f) = ap (λ (k : ℕ). take k lines) (m ∙ min-eq_left f)
-    go (no f) =
-        let same : n ≡ 64 = m ∙ min-eq_right (omega arith) in
-        take_all n lines (omega arith) ∙ sym (take_all count lines (omega arith))
 
 -- Of more than 64 lines the 65th is refused, or an earlier one.
 pub sixty_fifth : (part : ℕ) (ls : List Line) → part ≤ most_part → 64 < length ls

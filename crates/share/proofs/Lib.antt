@@ -6,8 +6,6 @@ pub mod Lines
 pub mod Cases
 pub mod Counted
 pub mod Outcomes
-pub mod Gather
-pub mod Front
 pub mod Promises
 pub mod Refusals
 pub mod WholePart

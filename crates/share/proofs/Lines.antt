@@ -1,6 +1,6 @@
 -- Lines, their weights and their parts, place by place. Assumes nothing.
-use mathlib.Core.Path.{◌≡◌, refl, sym, ap, ◌∙◌, subst}
-use mathlib.Core.Bool.{Bool, true, false}
+use mathlib.Core.Path.{◌≡◌, refl, ap, ◌∙◌}
+use mathlib.Core.Bool.{Bool}
 use mathlib.Core.List.{List, [], ◌∷◌, ◌++◌}
 use Prim.Native.Nat.{ℕ, zero, suc, ◌≤◌, ◌<◌}
 use native.Mathlib.Nat.{not-suc-le-zero}
@@ -9,28 +9,13 @@ use lib.IntN.{ℤ}
 use lib.ListN.{length, get_or, take, drop, take-append-drop, length-map}
 use lib.Seq.{length-take-le, get_or-take}
 use Rattle.share.specs.declared.Line.{Line}
-use Rattle.share.specs.Sharing.{Part, part_of, parts_by, line_is_sound, first_bad_line, weight_of, weights_of}
+use Rattle.share.specs.Sharing.{Part, part_of, parts_by}
 use Rattle.share.specs.Forms.{filled, fill_in, cleared, clear}
 use Rattle.share.specs.Limits.{LineWithin, LinesWithin}
-use Rattle.share.proofs.Lists.{get_d_mapped}
-
-pub bad_step : (before : ℕ) (l : Line) (ls : List Line) → line_is_sound before l ≡ true → first_bad_line before (l ∷ ls) ≡ suc (first_bad_line l.number ls)
-bad_step before l ls e = rw e
-
-pub bad_here : (before : ℕ) (l : Line) (ls : List Line) → line_is_sound before l ≡ false → first_bad_line before (l ∷ ls) ≡ 0
-bad_here before l ls e = rw e
 
 -- a line of the first n, as the array has it
 pub within_at : (xs : List Line) (n i : ℕ) (d : Line) → LinesWithin (take n xs) → i < n → n ≤ length xs → LineWithin (get_or xs i d)
 within_at xs n i d all h k = rw (get_or-take n xs i d h) at (all i d (rw (length-take-le n xs k) h))
-
-pub length_weights : (is_below : Bool) (xs : List Line) (n : ℕ) → n ≤ length xs → length (weights_of is_below (take n xs)) ≡ n
-length_weights is_below xs n k = length-map (take n xs) _ ∙ length-take-le n xs k
-
-pub weight_of_lem : (is_below : Bool) (xs : List Line) (n i : ℕ) (d : Line) → i < n → n ≤ length xs
-    → get_or (weights_of is_below (take n xs)) i 0 ≡ weight_of is_below (get_or xs i d)
-weight_of_lem is_below xs n i d h k =
-    get_d_mapped (λ l. weight_of is_below l) (take n xs) i d 0 (rw (length-take-le n xs k) h) ∙ ap (λ (l : Line). weight_of is_below l) (get_or-take n xs i d h)
 
 pub length_parts : (is_below : Bool) (ls : List Line) (ss : List ℕ) → length ss ≡ length ls → length (parts_by is_below ls ss) ≡ length ls
 length_parts is_below [] ss h = refl
@@ -70,40 +55,10 @@ fill_front (p ∷ ps) [] (suc n) h = refl
 fill_front (p ∷ ps) (l ∷ ls) zero h = absurd (omega arith)
 fill_front (p ∷ ps) (l ∷ ls) (suc n) h = ap (λ (x : List Line). filled l p ∷ x) (fill_front ps ls n (omega arith))
 
-pub fill_over : (ps : List Part) (ls : List Line) → take (length ps) (fill_in ps ls) ++ drop (length ps) ls ≡ fill_in ps ls
-fill_over [] ls = refl
-fill_over (p ∷ ps) [] = refl
-fill_over (p ∷ ps) (l ∷ ls) = ap (λ (x : List Line). filled l p ∷ x) (fill_over ps ls)
-
 -- a line from its share and its amount
 pub filled_is : (is_below : Bool) (l : Line) (s : ℕ) (x y : ℤ) → x ≡ (part_of is_below l s).share → y ≡ (part_of is_below l s).amount
     → filled l (record { share = x; amount = y }) ≡ filled l (part_of is_below l s)
 filled_is is_below l s x y ex ey = rw (ex, ey)
-
--- the lines of the array filled in, at a place
-pub filled_at : (is_below : Bool) (xs : List Line) (ss : List ℕ) (n i : ℕ) (d : Line) → i < n → n ≤ length xs → n ≤ length ss
-    → get_or (fill_in (parts_by is_below (take n xs) (take n ss)) (clear xs)) i d ≡ filled (get_or xs i d) (part_of is_below (get_or xs i d) (get_or ss i 0))
-filled_at is_below xs ss n i d h k m =
-    let lx = length-take-le n xs k in
-    let ls = length-take-le n ss m in
-    let lp = length_parts is_below (take n xs) (take n ss) (ls ∙ sym lx) in
-    fill_at (parts_by is_below (take n xs) (take n ss)) (clear xs) i d (part_of is_below d 0) (omega arith) (rw (length-map xs (λ l. cleared l)) (omega arith))
-    ∙ rw (
-      get_d_mapped (λ l. cleared l) xs i d d (omega arith),
-      part_at is_below (take n xs) (take n ss) i d (part_of is_below d 0) (ls ∙ sym lx) (omega arith),
-      get_or-take n xs i d h,
-      get_or-take n ss i 0 h,
-    )
-
-pub filled_all : (is_below : Bool) (xs : List Line) (ss : List ℕ) (n : ℕ) → n ≤ length xs → n ≤ length ss
-    → let all = fill_in (parts_by is_below (take n xs) (take n ss)) (clear xs) in
-    take n all ++ drop n (clear xs) ≡ all
-filled_all is_below xs ss n k m =
-    let lx = length-take-le n xs k in
-    let ls = length-take-le n ss m in
-    let ps = parts_by is_below (take n xs) (take n ss) in
-    let lp : length ps ≡ n = length_parts is_below (take n xs) (take n ss) (ls ∙ sym lx) ∙ lx in
-    subst (λ (j : ℕ). take j (fill_in ps (clear xs)) ++ drop j (clear xs) ≡ fill_in ps (clear xs)) lp (fill_over ps (clear xs))
 
 pub length_filled : (ps : List Part) (xs : List Line) → length (fill_in ps (clear xs)) ≡ length xs
 length_filled ps xs = length_fill ps (clear xs) ∙ length-map xs (λ l. cleared l)

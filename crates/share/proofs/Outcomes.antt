@@ -1,5 +1,5 @@
 -- What an outcome can be: the lines are shared, or they are refused. Assumes nothing.
-use mathlib.Core.Path.{◌≡◌, refl, sym, ap, ap₂, ◌∙◌}
+use mathlib.Core.Path.{◌≡◌, refl, sym, ap, ◌∙◌}
 use mathlib.Core.Bool.{Bool, true, false, ◌&&◌, true≢false}
 use mathlib.Core.List.{List, []}
 use mathlib.Core.Logic.{◌⊎◌, inl, inr}
@@ -78,14 +78,6 @@ module _ (part bad count : ℕ) (ls : List Line) where
       go : Taken part bad count ls ⊎ Refused o → Taken part bad count ls
       go (inl t) = t
       go (inr r) = let n : r.number ≡ 0 = sym (ap (λ (x : SharingOutcome). x.number) r.is) ∙ h in absurd (omega (arith, r.some))
-
-  -- where one is given, they are refused with it
-  pub refused_is : (number place : ℕ) → number ≡ o.number → place ≡ o.place → (number ≡ 0 → ⊥) → sharing_refused number place ≡ o
-  refused_is number place en ep some = go outcome
-    where
-      go : Taken part bad count ls ⊎ Refused o → sharing_refused number place ≡ o
-      go (inl t) = absurd (some (en ∙ ap (λ (x : SharingOutcome). x.number) t.is))
-      go (inr r) = ap₂ sharing_refused (en ∙ ap (λ (x : SharingOutcome). x.number) r.is) (ep ∙ ap (λ (x : SharingOutcome). x.place) r.is) ∙ sym r.is
 
   -- a refusal gives no line anything
   pub none_given : 0 < o.number → o.parts ≡ []

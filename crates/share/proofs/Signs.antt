@@ -7,7 +7,7 @@ use native.Mathlib.Decide.{dec_le}
 use native.Mathlib.Omega.{arith}
 use borrow.Author.Tests.{le-ltb, lt-ltb}
 use lib.Dec.{ltb}
-use lib.IntN.{ℤ, pos, negsuc, neg_ℤ, nat_abs, ◌+ℤ◌, ◌-ℤ◌, ◌*ℤ◌, +ℤ_assoc, +ℤ_comm, +ℤ_idl, +ℤ_idr, +ℤ_invr, neg_ℤ-+ℤ, neg_ℤ-neg_ℤ, +ℤ-neg_ℤ_cancel}
+use lib.IntN.{ℤ, pos, negsuc, neg_ℤ, nat_abs, ◌+ℤ◌, ◌-ℤ◌, ◌*ℤ◌, +ℤ_assoc, +ℤ_comm, +ℤ_idl, +ℤ_invr, neg_ℤ-+ℤ, neg_ℤ-neg_ℤ, +ℤ-neg_ℤ_cancel}
 use mir.Syntax.{w64}
 use mir.Val.{SFits}
 use Rattle.share.specs.Sharing.{signed}
@@ -65,15 +65,7 @@ abs_most a c m h k = go (dec_le c a)
     go (yes l) = omega (arith, abs_up a c l)
     go (no f) = omega (arith, abs_down a c (omega arith))
 
--- a difference of two amounts below 2 ^ 63 fits 64 bits
-pub diff_fits : (a b : ℕ) → a < 2 ^ 63 → b < 2 ^ 63 → SFits w64 (pos a -ℤ pos b)
-diff_fits a b h k = go (dec_le b a)
-  where
-    go : Dec (b ≤ a) → SFits w64 (pos a -ℤ pos b)
-    go (yes l) = rw (diff_up a b l) (record { sfits = omega arith })
-    go (no f) = rw (diff_down a b (omega arith)) (record { sfits = omega arith })
-
--- and so does what is that small, whatever its sign
+-- what is below 2 ^ 63, whatever its sign, fits 64 bits
 pub small_fits : (z : ℤ) (m : ℕ) → nat_abs z ≤ m → m < 2 ^ 63 → SFits w64 z
 small_fits (pos n) m h k = record { sfits = omega arith }
 small_fits (negsuc n) m h k = record { sfits = omega arith }
@@ -81,9 +73,6 @@ small_fits (negsuc n) m h k = record { sfits = omega arith }
 -- the share and the amount as differences of amounts
 pub share_down : (s : ℕ) → pos 0 -ℤ pos s ≡ neg_ℤ (pos s)
 share_down s = +ℤ_idl (neg_ℤ (pos s))
-
-pub share_up : (s : ℕ) → pos s -ℤ pos 0 ≡ pos s
-share_up s = +ℤ_idr (pos s)
 
 pub amount_down : (c f s : ℕ) → pos c -ℤ pos (f + s) ≡ pos c -ℤ pos f +ℤ neg_ℤ (pos s)
 amount_down c f s = ap (λ (z : ℤ). pos c +ℤ z) (neg_ℤ-+ℤ (pos f) (pos s)) ∙ sym (+ℤ_assoc (pos c) (neg_ℤ (pos f)) (neg_ℤ (pos s)))

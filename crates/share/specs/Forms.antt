@@ -1,5 +1,5 @@
 -- The array form and the lent list: each says of its lines what `sharing` says. Assumes nothing.
-use Rattle.std.specs.Prelude.{◌≡◌, cond, List, [], ◌∷◌, map, ℕ, eqb, pos, take, replicate}
+use Rattle.std.specs.Prelude.{◌≡◌, List, [], ◌∷◌, map, ℕ, pos, take, replicate}
 use Rattle.share.specs.declared.Line.{Line}
 use Rattle.share.specs.declared.Shared.{Shared}
 use Rattle.share.specs.declared.Answer.{Answer}
@@ -84,10 +84,6 @@ abbrev pub answer_of : SharingOutcome → Answer
 answer_of o = record { number = o.number; place = o.place; gap = record { 0 = o.gap }; user = record { 0 = o.user } }
 
 -- The lent list
-
--- how many lines are taken over from the array form: all, or none where it refused
-abbrev pub kept_of : Shared → ℕ → ℕ
-kept_of s count = cond (eqb s.number 0) count 0
 
 -- the lines that were lent, as they were before and are after, and the answer: on a refusal no line changes, else share and
 -- amount alone

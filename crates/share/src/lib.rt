@@ -9,10 +9,13 @@ pub mod settle;
 ghost use Rattle.std.specs.Prelude.{◌≡◌};
 ghost use Rattle.share.specs.Forms.{shared_array};
 
+use crate::lent::lend_front;
+use crate::limits::{MOST_PART, PART_PLACE};
+use crate::settle::{clear, first_bad_line, refuse};
 use units::{Fen, Mwh, SignedFen, Thousandths};
 
 // One line of the sharing; share and amount are filled in.
-#[derive(Clone, Copy)]
+#[derive(Clone, Copy, PartialEq, Eq)]
 pub struct Line {
     pub number: u16,
     pub status: u8,
@@ -24,7 +27,7 @@ pub struct Line {
 }
 
 // A refusal's number and place, or zeros; R; the user's amount; and the lines, filled in where there is no refusal.
-#[derive(Clone, Copy)]
+#[derive(Clone, Copy, PartialEq, Eq)]
 pub struct Shared {
     pub number: u32,
     pub place: usize,
@@ -46,18 +49,12 @@ pub struct Answer {
 pub fn share(part: u32, lines: [Line; 64], count: usize) -> Shared
     ensures { result ≡ shared_array part lines count }
 {
-    let o = settle::outcome(part, lines, count);
-    if o.number != 0 {
-        return settle::refuse(o.number, o.place, lines);
+    if count <= 64 {
+        return lend_front(part, clear(lines), count);
     }
-    let gap = o.gap;
-    let user = o.user;
-    let shares = o.shares;
-    Shared {
-        number: 0,
-        place: 0,
-        gap,
-        user,
-        lines: settle::fill_in(lines, shares, count, o.negative),
+    if MOST_PART < part {
+        return refuse(10, PART_PLACE, lines);
     }
+    let bad = first_bad_line(&lines);
+    refuse(10, bad, lines)
 }

@@ -1,14 +1,13 @@
-// The array form, step by step: the part, the lines in turn, the sums, the weights, the shares, the lines filled in.
-ghost use Rattle.std.specs.Prelude.{◌≡◌, List, ℕ, ◌+◌, ◌*◌, ◌/◌, ◌^◌, ◌<◌, ◌≤◌, ltb, get_or, take, pos, nat_abs, ◌-ℤ◌};
+// Sharing, step by step: the part, the lines in turn, the sums, the weights, the shares, the lines filled in.
+ghost use Rattle.std.specs.Prelude.{◌≡◌, List, ℕ, ◌+◌, ◌*◌, ◌/◌, ◌^◌, ◌<◌, ◌≤◌, ltb, length, get_or, take, pos, nat_abs, ◌-ℤ◌};
 ghost use Rattle.apportion.specs.Apportion.{total, apportion};
 ghost use Rattle.share.specs.declared.Line.{Line};
 ghost use Rattle.share.specs.Sharing.{factor_of, weight_of, weights_of, compensated, assessed, part_of, parts_by};
-ghost use Rattle.share.specs.Sharing.{line_is_sound, first_bad_line, sharing_refused, settled, signed, most_energy, most_compensation, most_part};
-ghost use Rattle.share.specs.Forms.{filled, fill_in, clear, refuse, sharing_counted};
-ghost use Rattle.share.specs.Limits.{LineWithin, CountedWithin};
+ghost use Rattle.share.specs.Sharing.{line_is_sound, first_bad_line, sharing_refused, settled, sharing, signed, most_number, most_energy, most_compensation, most_part};
+ghost use Rattle.share.specs.Forms.{filled, fill_in, clear, refuse};
+ghost use Rattle.share.specs.Limits.{LineWithin, LinesWithin};
 ghost use Rattle.share.specs.Inner.{GapIs, Carries};
 
-use crate::array::seen;
 use crate::limits::{MOST_COMPENSATION, MOST_PART, PART_PLACE, numbers_are_sound};
 use crate::{Line, Shared};
 use units::{Fen, SignedFen};
@@ -82,42 +81,33 @@ pub fn line_is_sound(l: Line, before: u16) -> bool
     )
 }
 
-// The place of the first line that is not sound, or count.
-fn first_bad_line(lines: [Line; 64], count: usize) -> usize
-    requires { count ≤ 64 }
-    ensures { result ≡ first_bad_line 0 (take count lines) }
+// The place of the first line that is not sound, or their number.
+pub fn first_bad_line(lines: &[Line]) -> usize
+    ensures { result ≡ first_bad_line 0 lines.now }
 {
     let mut before: u16 = 0;
-    let mut i: usize = 0;
-    while i < count {
-        let l = lines[i];
-        if line_is_sound(l, before) {
-            before = l.number;
-        } else {
+    for (i, l) in lines.iter().enumerate() {
+        if !line_is_sound(*l, before) {
             return i;
         }
-        i += 1;
+        before = l.number;
     }
-    count
+    lines.len()
 }
 
 // C and A in one pass.
-fn sums(lines: [Line; 64], count: usize) -> Totals
-    requires count_bound { count ≤ 64 }
-    requires lines_bound { compensated (take count lines) < 2 ^ 63 }
-    requires lines_bound_2 { assessed (take count lines) < 2 ^ 63 }
-    ensures compensated_value { result.compensated.0 ≡ compensated (take count lines) }
-    ensures assessed_value { result.assessed.0 ≡ assessed (take count lines) }
+fn sums(lines: &[Line]) -> Totals
+    requires lines_bound { compensated lines.now < 2 ^ 63 }
+    requires lines_bound_2 { assessed lines.now < 2 ^ 63 }
+    ensures compensated_value { result.compensated.0 ≡ compensated lines.now }
+    ensures assessed_value { result.assessed.0 ≡ assessed lines.now }
 {
     let mut c: u64 = 0;
     let mut a: u64 = 0;
-    let mut i: usize = 0;
-    while i < count {
-        let l = lines[i];
-        let fen = l.assessment.to_fen();
-        c += l.compensation.0;
+    for line in lines {
+        let fen = line.assessment.to_fen();
+        c += line.compensation.0;
         a += fen.0;
-        i += 1;
     }
     Totals {
         compensated: Fen(c),
@@ -125,17 +115,15 @@ fn sums(lines: [Line; 64], count: usize) -> Totals
     }
 }
 
-// The weights of the first lines.
-fn weights_of(lines: [Line; 64], count: usize, negative: bool) -> [u64; 64]
-    requires { CountedWithin lines count }
-    ensures { take count result ≡ weights_of negative (take count lines) }
+// The weights of the lines, in front.
+fn weights_of(lines: &[Line], negative: bool) -> [u64; 64]
+    requires few { length lines.now ≤ most_number }
+    requires lines_within { LinesWithin lines.now }
+    ensures { take (length lines.now) result ≡ weights_of negative lines.now }
 {
     let mut ws = [0u64; 64];
-    let mut i: usize = 0;
-    while i < count {
-        let l = lines[i];
-        ws[i] = weight_of(l, negative);
-        i += 1;
+    for (i, l) in lines.iter().enumerate() {
+        ws[i] = weight_of(*l, negative);
     }
     ws
 }
@@ -153,16 +141,14 @@ fn difference(a: Fen, b: Fen) -> SignedFen
 fn apart(a: u64, b: u64) -> Fen
     ensures { result.0 ≡ nat_abs (pos a -ℤ pos b) }
 {
-    if a < b { Fen(b - a) } else { Fen(a - b) }
+    Fen(a.abs_diff(b))
 }
 
-fn filled(l: Line, share: SignedFen, amount: SignedFen) -> Line
+// A line with a share and an amount.
+pub fn filled(l: Line, share: SignedFen, amount: SignedFen) -> Line
     ensures { result ≡ filled l (record { share = share.0; amount = amount.0 }) }
 {
-    let mut done = l;
-    done.share = share;
-    done.amount = amount;
-    done
+    Line { share, amount, ..l }
 }
 
 // A line with its share, with the sign put on, and its amount.
@@ -182,50 +168,42 @@ pub fn finish(l: Line, s: Fen, negative: bool) -> Line
 }
 
 // The lines with share and amount 0.
-pub fn clear(lines: [Line; 64]) -> [Line; 64]
+pub fn clear(mut lines: [Line; 64]) -> [Line; 64]
     ensures { result ≡ clear lines }
 {
-    let mut out = lines;
-    let mut i: usize = 0;
-    while i < 64 {
-        let l = lines[i];
-        out[i] = filled(l, SignedFen(0), SignedFen(0));
-        i += 1;
+    for line in lines.iter_mut() {
+        *line = filled(*line, SignedFen(0), SignedFen(0));
     }
-    out
+    lines
 }
 
-// The first lines with their shares filled in, the others cleared.
-pub fn fill_in(lines: [Line; 64], shares: FenEach, count: usize, negative: bool) -> [Line; 64]
-    requires counted_within { CountedWithin lines count }
-    requires by_index { (k : ℕ) → k < count → get_or shares.0 k 0 ≤ most_compensation }
-    ensures { result ≡ fill_in (parts_by negative (take count lines) (take count shares.0)) (clear lines) }
+// The lines with their shares filled in.
+pub fn fill_in(lines: &mut [Line], shares: FenEach, negative: bool)
+    requires few { length lines.old ≤ most_number }
+    requires lines_within { LinesWithin lines.old }
+    requires by_index { (k : ℕ) → k < length lines.old → get_or shares.0 k 0 ≤ most_compensation }
+    ensures { lines.new ≡ fill_in (parts_by negative lines.old (take (length lines.old) shares.0)) lines.old }
 {
-    let mut out = clear(lines);
     let ss = shares.0;
-    let mut i: usize = 0;
-    while i < count {
-        let l = lines[i];
-        let s = Fen(ss[i]);
-        out[i] = finish(l, s, negative);
-        i += 1;
+    for i in 0..lines.len() {
+        lines[i] = finish(lines[i], Fen(ss[i]), negative);
     }
-    out
 }
 
-// The shares of an amount by the first weights.
-fn shares_of(amount: Fen, weights: [u64; 64], count: usize) -> FenEach
-    requires count_bound { count ≤ 64 }
+// The shares of an amount by the weights, in front.
+fn shares_of(amount: Fen, weights: &[u64]) -> FenEach
+    requires few { length weights.now ≤ most_number }
     requires amount_bound { amount.0 < 2 ^ 63 }
-    requires weights_bound { total (take count weights) < 2 ^ 62 }
-    requires nonzero { 0 < amount.0 → 0 < total (take count weights) }
-    ensures { take count result.0 ≡ apportion amount.0 (take count weights) }
+    requires weights_bound { total weights.now < 2 ^ 62 }
+    requires nonzero { 0 < amount.0 → 0 < total weights.now }
+    ensures { take (length weights.now) result.0 ≡ apportion amount.0 weights.now }
 {
     let mut ss = [0u64; 64];
     let mut rs = [0u64; 64];
     let n = amount.0;
+    let count = weights.len();
     if 0 < n {
-        apportion::apportion_into(n, &weights[..count], &mut ss[..count], &mut rs[..count]);
+        apportion::apportion_into(n, weights, &mut ss[..count], &mut rs[..count]);
     }
     FenEach(ss)
 }
@@ -244,7 +222,7 @@ pub fn refuse(number: u32, place: usize, lines: [Line; 64]) -> Shared
 
 fn refusal(number: u32, place: usize) -> Carried
     requires { 0 < number }
-    ensures { (lines : List Line) (count : ℕ) → Carries lines count (sharing_refused number place) result }
+    ensures { (lines : List Line) → Carries lines (sharing_refused number place) result }
 {
     Carried {
         number,
@@ -257,14 +235,16 @@ fn refusal(number: u32, place: usize) -> Carried
 }
 
 // 16, or what each line carries of the generators' R.
-fn carry(lines: [Line; 64], count: usize, g: Gap) -> Carried
-    requires counted_within { CountedWithin lines count }
-    requires lines_bound { compensated (take count lines) ≤ most_compensation }
+fn carry(lines: &[Line], g: Gap) -> Carried
+    requires few { length lines.now ≤ most_number }
+    requires lines_within { LinesWithin lines.now }
+    requires lines_bound { compensated lines.now ≤ most_compensation }
     requires amount_le_most_compensation { g.amount.0 ≤ most_compensation }
-    ensures { (part : ℕ) → GapIs part (take count lines) g.amount.0 g.negative g.whole.0 g.user.0
-        → Carries lines count (settled part (take count lines)) result }
+    ensures { (part : ℕ) → GapIs part lines.now g.amount.0 g.negative g.whole.0 g.user.0
+        → Carries lines.now (settled part lines.now) result }
 {
-    let ws = weights_of(lines, count, g.negative);
+    let ws = weights_of(lines, g.negative);
+    let count = lines.len();
     let all = apportion::total(&ws[..count]);
     let amount = g.amount;
     if 0 < amount.0 {
@@ -272,7 +252,7 @@ fn carry(lines: [Line; 64], count: usize, g: Gap) -> Carried
             return refusal(16, 0);
         }
     }
-    let shares = shares_of(amount, ws, count);
+    let shares = shares_of(amount, &ws[..count]);
     let gap = g.whole;
     let user = g.user;
     Carried {
@@ -343,28 +323,29 @@ pub fn gap_of(part: u32, s: Totals) -> Gap
 }
 
 // 15, 16, or the sharing.
-fn settle(part: u32, lines: [Line; 64], count: usize) -> Carried
+fn settle(part: u32, lines: &[Line]) -> Carried
     requires part_le_most_part { part ≤ most_part }
-    requires counted_within { CountedWithin lines count }
-    ensures { Carries lines count (settled part (take count lines)) result }
+    requires few { length lines.now ≤ most_number }
+    requires lines_within { LinesWithin lines.now }
+    ensures { Carries lines.now (settled part lines.now) result }
 {
-    let s = sums(lines, count);
+    let s = sums(lines);
     if MOST_COMPENSATION < s.compensated.0 {
         return refusal(15, 0);
     }
-    carry(lines, count, gap_of(part, s))
+    carry(lines, gap_of(part, s))
 }
 
-// 10 at 65, 10, 15, 16, or the sharing, of the first `count` of 64 lines.
-pub fn outcome(part: u32, lines: [Line; 64], count: usize) -> Carried
-    ensures { Carries lines count (sharing_counted part lines count) result }
+// 10 at 65, 10, 15, 16, or the sharing.
+pub fn outcome(part: u32, lines: &[Line]) -> Carried
+    ensures { Carries lines.now (sharing part lines.now) result }
 {
     if MOST_PART < part {
         return refusal(10, PART_PLACE);
     }
-    let bad = first_bad_line(lines, seen(count));
-    if bad < count {
+    let bad = first_bad_line(lines);
+    if bad < lines.len() {
         return refusal(10, bad);
     }
-    settle(part, lines, count)
+    settle(part, lines)
 }

@@ -13,7 +13,7 @@ ghost use Rattle.share_bytes.specs.Bytes.{line_size, fields_at, reserved_zero, b
 ghost use Rattle.share_bytes.specs.Bytes.{part_size, part_bytes, parts_bytes, user_part, BytesShared};
 ghost use Rattle.share_bytes.specs.Inner.{spelt_lines, BytesSettled};
 
-use share::array::seen;
+use share::array::{refused, seen};
 use share::limits::{MOST_COMPENSATION, MOST_PART, PART_PLACE};
 use share::settle::{Gap, Totals, finish, gap_of, line_is_sound, weight_of};
 use share::{Answer, Line};
@@ -72,20 +72,19 @@ fn first_bad_bytes(s: &[u8], count: usize) -> usize
     ensures { result ≡ first_bad_bytes 0 s.now 0 count }
 {
     let mut before: u16 = 0;
-    let mut i: usize = 0;
-    while i < count {
+    for i in 0..count {
         let at = LINE_SIZE * i;
         if !bytes_are_sound(s, at, before) {
             return i;
         }
         let l = fields_at(s, at);
         before = l.number;
-        i += 1;
     }
     count
 }
 
 // C and A in one pass.
+// Stays two functions: share adds up lines of a slice, and no copy of the lines is made here.
 fn sums_at(s: &[u8], count: usize) -> Totals
     requires count_in_bounds { line_size * count ≤ length s.now }
     requires count_bound { compensated (spelt_lines s.now count) < 2 ^ 63 }
@@ -95,13 +94,11 @@ fn sums_at(s: &[u8], count: usize) -> Totals
 {
     let mut c: u64 = 0;
     let mut a: u64 = 0;
-    let mut i: usize = 0;
-    while i < count {
+    for i in 0..count {
         let l = fields_at(s, LINE_SIZE * i);
         let fen = l.assessment.to_fen();
         c += l.compensation.0;
         a += fen.0;
-        i += 1;
     }
     Totals {
         compensated: Fen(c),
@@ -115,11 +112,9 @@ fn weights_into(s: &[u8], negative: bool, weights: &mut [u64])
     requires lines_within { LinesWithin (spelt_lines s.now (length weights.old)) }
     ensures { weights.new ≡ weights_of negative (spelt_lines s.now (length weights.old)) }
 {
-    let mut i: usize = 0;
-    while i < weights.len() {
+    for i in 0..weights.len() {
         let l = fields_at(s, LINE_SIZE * i);
         weights[i] = weight_of(l, negative);
-        i += 1;
     }
 }
 
@@ -158,25 +153,12 @@ fn write_parts(s: &[u8], shares: &[u64], negative: bool, out: &mut [u8])
         (parts_bytes (parts_by negative (spelt_lines s.now (length shares.now)) shares.now))
         out.new }
 {
-    let mut i: usize = 0;
-    while i < shares.len() {
+    for i in 0..shares.len() {
         let l = fields_at(s, LINE_SIZE * i);
         let done = finish(l, Fen(shares[i]), negative);
         let share = done.share;
         let amount = done.amount;
         write_part(share, amount, out, PART_SIZE * i);
-        i += 1;
-    }
-}
-
-fn refused(number: u32, place: usize) -> Answer
-    ensures { result ≡ answer_of (sharing_refused number place) }
-{
-    Answer {
-        number,
-        place,
-        gap: SignedFen(0),
-        user: SignedFen(0),
     }
 }
 
@@ -246,6 +228,7 @@ fn share_gap(s: &[u8], count: usize, g: Gap, out: &mut [u8]) -> Answer
 }
 
 // 15, 16, 9, or the sharing, where the part and every line are sound.
+// Stays two functions: share settles lines of a slice, and no copy of the lines is made here.
 fn settle_bytes(part: u32, s: &[u8], count: usize, out: &mut [u8]) -> Answer
     requires part_le_most_part { part ≤ most_part }
     requires count_le_most_number { count ≤ most_number }

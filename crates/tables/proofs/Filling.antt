@@ -2,7 +2,7 @@
 use mathlib.Core.Path.{◌≡◌, refl, ap, sym, ◌∙◌}
 use mathlib.Core.Bool.{Bool, true, false, cond, ◌&&◌}
 use mathlib.Core.List.{List, [], ◌∷◌, ◌++◌, map}
-use Prim.Native.Nat.{ℕ, zero, suc, min, ◌+◌, ◌-◌, ◌≤◌, ◌<◌}
+use Prim.Native.Nat.{ℕ, zero, suc, min, ◌+◌, ◌≤◌, ◌<◌}
 use native.Mathlib.Nat.{zero-add}
 use native.Mathlib.Numerals.{add-one}
 use native.Mathlib.Omega.{arith}
@@ -94,11 +94,8 @@ module _ (grid : Grid) (ended : List ℕ) (room : most_columns ≤ length ended)
       let here : cells_here grid ended room ≡ t ∷ [] = ap (λ (n : ℕ). take n ended ++ t ∷ []) at in
       ap output_of (row_here grid ended room 1 (omega arith) (omega arith)) ∙ ap (λ (ns : List ℕ). output_of (cond (all_told ns) ns [])) here ∙ told_output t
 
-  pub output_low : (n : ℕ) → grid.at ≡ 0 → n ≡ cell_told grid.cell → n < no_output → n ≡ output_in grid ended
-  output_low n at e h = sym (one at ∙ ap (λ (t : ℕ). min t no_output) (sym e) ∙ omega arith)
-
-  pub output_high : (n : ℕ) → grid.at ≡ 0 → n ≡ cell_told grid.cell → no_output ≤ n → no_output ≡ output_in grid ended
-  output_high n at e h = sym (one at ∙ ap (λ (t : ℕ). min t no_output) (sym e) ∙ omega arith)
+  pub output_here : (n x : ℕ) → grid.at ≡ 0 → n ≡ cell_told grid.cell → x ≡ min n no_output → x ≡ output_in grid ended
+  output_here n x at e f = f ∙ sym (one at ∙ ap (λ (t : ℕ). min t no_output) (sym e))
 
   -- of more
   pub output_none : (grid.at ≡ 0 → ⊥) → no_output ≡ output_in grid ended
@@ -165,10 +162,13 @@ series_start out grid ended text f = ap (fill_from out 0) (f.rows (row_by series
 
 -- Blank lines that were held back
 
-pub one_blank : (out after : List ℕ) (n at left : ℕ) → 0 < left → ((row : List ℕ) (rows : List (List ℕ)) → no_output ≡ output_of row → fill_from after at rows ≡ fill_from out n (row ∷ rows))
-    → (rows : List (List ℕ)) → fill_from after at (replicate (left - 1) [] ++ rows) ≡ fill_from out n (replicate left [] ++ rows)
-unfolding output_of
-one_blank out after n at zero h put rows = absurd (omega arith)
-one_blank out after n at (suc k) h put rows =
-    let one : suc k - 1 ≡ k = omega arith in
-    ap (λ (m : ℕ). fill_from after at (replicate m [] ++ rows)) one ∙ put [] (replicate k [] ++ rows) refl
+module _ (out : List ℕ) (n : ℕ) (rows : List (List ℕ)) where
+  -- the same by another count of them
+  pub so_many : (k m : ℕ) → k ≡ m → fill_from out n (replicate k [] ++ rows) ≡ fill_from out n (replicate m [] ++ rows)
+  so_many k m e = ap (λ (j : ℕ). fill_from out n (replicate j [] ++ rows)) e
+
+  pub one_blank : (after : List ℕ) (at left more : ℕ) → suc left ≡ more
+      → ((row : List ℕ) (rows : List (List ℕ)) → no_output ≡ output_of row → fill_from after at rows ≡ fill_from out n (row ∷ rows))
+      → fill_from after at (replicate left [] ++ rows) ≡ fill_from out n (replicate more [] ++ rows)
+  unfolding output_of
+  one_blank after at left more e put = put [] (replicate left [] ++ rows) refl ∙ so_many (suc left) more e

@@ -40,14 +40,15 @@ const COLUMNS: usize = 7;
 // Which of them is the last, from 0 on.
 const LAST: usize = COLUMNS - 1;
 
+#[tactic(auto, unfolding(row::specs::Judging::filled_up))]
 fn blank_entries() -> [Entry; MOST_ENTRIES]
     ensures { result ≡ filled_up register_entries [] }
 {
-    let none = blank_entry();
-    [none; MOST_ENTRIES]
+    [blank_entry(); MOST_ENTRIES]
 }
 
 // The limit that a cell says.
+#[tactic(auto, unfolding(crate::specs::Register::limit_told))]
 fn limit_told(n: u64) -> Limit
     ensures { result ≡ limit_told n }
 {
@@ -97,8 +98,7 @@ fn entry_in(grid: Grid, ended: [u64; MOST_COLUMNS]) -> Entry
     ensures { result ≡ entry_in grid ended }
 {
     if grid.at == LAST {
-        let cell = grid.cell;
-        return typed(ended, cell.told());
+        return typed(ended, grid.cell.told());
     }
     blank_entry()
 }
@@ -109,13 +109,12 @@ impl Roll {
         ensures by_index { (rows : List (List ℕ)) → roll_outcome result rows ≡ judged register_entries (map as_entry rows) }
         ensures blank_value { result.blank ≡ false }
     {
-        let entries = blank_entries();
         Roll {
             refused: false,
             blank: false,
             before: 0,
             count: 0,
-            entries,
+            entries: blank_entries(),
         }
     }
 
@@ -127,7 +126,7 @@ impl Roll {
     }
 
     // The roll after a line. An entry that was read is within its limits or blank: its number decides.
-    fn with(self, grid: Grid, ended: [u64; MOST_COLUMNS]) -> Roll
+    fn with(mut self, grid: Grid, ended: [u64; MOST_COLUMNS]) -> Roll
         ensures by_index { (rows : List (List ℕ)) → roll_outcome result rows ≡ roll_outcome self (entry_cells grid ended ∷ rows) }
         ensures blank_value { result.blank ≡ self.blank }
     {
@@ -142,15 +141,10 @@ impl Roll {
         if MOST_ENTRIES <= at {
             return self.refuse();
         }
-        let mut entries = self.entries;
-        entries[at] = e;
-        Roll {
-            refused: false,
-            blank: self.blank,
-            before: e.member.number,
-            count: at + 1,
-            entries,
-        }
+        self.entries[at] = e;
+        self.before = e.member.number;
+        self.count = at + 1;
+        self
     }
 
     // The answer where no line follows.
@@ -158,12 +152,12 @@ impl Roll {
         ensures { result ≡ roll_outcome self [] }
     {
         if self.refused {
-            let none = blank_entries();
+            let entries = blank_entries();
             return Register {
                 number: 10,
                 place: self.count,
                 count: 0,
-                entries: none,
+                entries,
             };
         }
         let entries = self.entries;
@@ -201,6 +195,7 @@ pub fn read_register(text: &[u8]) -> Register
     let mut ended: [u64; MOST_COLUMNS] = [0; MOST_COLUMNS];
     let mut roll = Roll::start();
     let mut i: usize = 0;
+    // Stays a while: a step passes over a whole run of digits, so the place does not move by one.
     while i < text.len() {
         if text[i] == b'\n' {
             roll = roll.after(grid, ended);
@@ -212,6 +207,5 @@ pub fn read_register(text: &[u8]) -> Register
             i = step.end;
         }
     }
-    let last = roll.after(grid, ended);
-    last.answer()
+    roll.after(grid, ended).answer()
 }

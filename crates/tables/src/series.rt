@@ -8,7 +8,7 @@ use grid::Grid;
 use row::MOST_COLUMNS;
 
 // No output: it stands for a line that is no number, and scoring refuses it with 11 at its index.
-const NO_OUTPUT: u32 = 0xffff_ffff;
+const NO_OUTPUT: u32 = u32::MAX;
 
 // The next place of the list, and how many blank lines are held back.
 #[derive(Clone, Copy)]
@@ -18,20 +18,18 @@ pub struct Place {
 }
 
 // The output that a line says, if it ends here.
+#[tactic(auto, using(crate::proofs::Filling::output_here, crate::proofs::Filling::output_none))]
 fn output_in(grid: Grid) -> u32
     ensures { (ended : List ℕ) → most_columns ≤ length ended → result ≡ output_in grid ended }
 {
     if grid.at == 0 {
-        let cell = grid.cell;
-        let n = cell.told();
-        if n < NO_OUTPUT as u64 {
-            return n as u32;
-        }
+        return u32::try_from(grid.cell.told()).unwrap_or(NO_OUTPUT);
     }
     NO_OUTPUT
 }
 
 // An output to place n of the list, if there is such a place. Answers with the next place.
+#[tactic(auto, using(crate::proofs::Filling::put_none, crate::proofs::Filling::put_one))]
 fn put_output(x: u32, out: &mut [u32], n: usize) -> usize
     ensures { (row : List ℕ) (rows : List (List ℕ)) → x ≡ output_of row → fill_from out.new result rows ≡ fill_from out.old n (row ∷ rows) }
 {
@@ -47,10 +45,8 @@ fn put_blanks(out: &mut [u32], n: usize, blanks: usize) -> usize
     ensures { (rows : List (List ℕ)) → fill_from out.new result rows ≡ fill_from out.old n (replicate blanks [] ++ rows) }
 {
     let mut at = n;
-    let mut left = blanks;
-    while 0 < left {
+    for _ in 0..blanks {
         at = put_output(NO_OUTPUT, out, at);
-        left -= 1;
     }
     at
 }
@@ -65,8 +61,8 @@ fn put_line(grid: Grid, out: &mut [u32], place: Place) -> Place
     }
     if grid.is_blank() {
         return Place {
-            next: place.next,
             blanks: place.blanks + 1,
+            ..place
         };
     }
     let n = put_blanks(out, place.next, place.blanks);
@@ -85,6 +81,7 @@ pub fn read_series(text: &[u8], out: &mut [u32]) -> usize
     let mut ended: [u64; MOST_COLUMNS] = [0; MOST_COLUMNS];
     let mut place = Place { next: 0, blanks: 0 };
     let mut i: usize = 0;
+    // Stays a while: a step passes over a whole run of digits, so the place does not move by one.
     while i < text.len() {
         if text[i] == b'\n' {
             place = put_line(grid, out, place);
@@ -96,11 +93,12 @@ pub fn read_series(text: &[u8], out: &mut [u32]) -> usize
             i = step.end;
         }
     }
-    let last = put_line(grid, out, place);
-    last.next
+    put_line(grid, out, place).next
 }
 
 // A member's series in its folder: the member's number in two digits and .csv, behind a slash.
+// Stays two functions, with hours::name::ramping_name: the names differ in length and in all bytes but the two digits, so a shared one would take the rest as a parameter and copy it.
+#[tactic(auto, unfolding(crate::specs::Series::series_name))]
 pub fn series_name(member: u16) -> [u8; 7]
     ensures { result ≡ series_name member }
 {

@@ -1,6 +1,6 @@
 -- The counts brought forward, incoming call by incoming call. Assumes nothing.
 use mathlib.Core.Path.{◌≡◌, refl, sym, ◌∙◌, ap}
-use mathlib.Core.Bool.{true, false}
+use mathlib.Core.Bool.{Bool, true, false}
 use mathlib.Core.Logic.{◌⊎◌, inl, inr}
 use mathlib.Core.List.{List, [], ◌∷◌}
 use mathlib.Core.Option.{Option, none, some}
@@ -31,7 +31,6 @@ use Rattle.join.proofs.Steps.{merges_short}
 use Rattle.join.proofs.Taken.{all_left, from_start, ends, length_from, goes_on_lem, next_left, rises_left}
 use Rattle.tabs.specs.declared.Tab.{Tab}
 use Rattle.tabs.specs.declared.forward.Run.{Run}
-use Rattle.tabs.specs.declared.forward.Found.{Found}
 use Rattle.tabs.specs.Tabs.{page_size, first_index, own_of, of_state, tabs_of, tabs_on, first_unfit}
 use Rattle.tabs.specs.Forward.{replaced, stands_against, settled}
 use Rattle.tabs.specs.Inner.{Ordered, is_of, Counted, count_on, hit, Recounted, is_at, RunTo, RunOn, FoundIn, Meeting, Passed, Facing, lost, gained, Able, CountsOf, Midway, Forwarded}
@@ -195,7 +194,7 @@ module _ {first : List ℕ} {from end : ℕ} {y : Call} {at : ℕ} (g : Seeks fi
               (sym (below_there first at (call_key y) (call_key (call_at first at)) (run_there g.run h) refl) ∙ lt-ltb (call_key (call_at first at)) (call_key y) (omega arith));
         }
 
-    pub seeks_there : y.number ≤ (call_at first at).number → (k n : ℕ) → k ≡ (call_at first at).number → n ≡ y.number → FoundIn first from end y (record { at = at; known = eqb k n })
+    pub seeks_there : y.number ≤ (call_at first at).number → (k n : ℕ) → k ≡ (call_at first at).number → n ≡ y.number → FoundIn first from end y at (eqb k n)
     seeks_there l k n p q =
         let e = key_own in
         record {
@@ -210,10 +209,10 @@ module _ {first : List ℕ} {from end : ℕ} {y : Call} {at : ℕ} (g : Seeks fi
         known (yes f) = let e = key_own in eq-eqb k n f ∙ sym (eq-eqb (call_key (call_at first at)) (call_key y) (omega arith))
         known (no f) = let e = key_own in ne_eqb k n f ∙ sym (ne_eqb (call_key (call_at first at)) (call_key y) (λ z. f (omega arith)))
 
-  pub seeks_over : end ≤ at → y.number < 4294967296 → FoundIn first from end y (record { at = at; known = false })
+  pub seeks_over : end ≤ at → y.number < 4294967296 → FoundIn first from end y at false
   seeks_over h n = go (dec_lt at (length first))
     where
-      go : Dec (at < length first) → FoundIn first from end y (record { at = at; known = false })
+      go : Dec (at < length first) → FoundIn first from end y at false
       go (no l) =
           let z : length first ≤ at = omega arith in
           record { run = g.run; sought = seek_over g.seeking (sym (below_over first at (call_key y) z)); known = at_over first at (call_key y) z }
@@ -227,41 +226,44 @@ module _ {first : List ℕ} {from end : ℕ} {y : Call} {at : ℕ} (g : Seeks fi
 
 -- An incoming record against the first book's
 
-module _ {first : List ℕ} {from end : ℕ} {second : List ℕ} {b member : ℕ} (g : Meeting first from end second b member) {r : Found} (f : FoundIn first from end (call_at second b) r) where
-  pub meets : Facing first r.at second b
-  meets =
-      record {
-        in_first = f.sought.read;
-        in_second = g.in_second;
-        there = g.there;
-        first_within = f.run.coming.within;
-        second_within = g.second_within;
-        same = g.same ∙ f.sought.same (call_key (call_at second b)) (omega arith);
-        ended = f.sought.ended;
-      }
+module _
+    {first : List ℕ} {from end : ℕ} {second : List ℕ} {b member : ℕ} (g : Meeting first from end second b member)
+    {place : ℕ} {is_there : Bool} (f : FoundIn first from end (call_at second b) place is_there)
+  where
+    pub meets : Facing first place second b
+    meets =
+        record {
+          in_first = f.sought.read;
+          in_second = g.in_second;
+          there = g.there;
+          first_within = f.run.coming.within;
+          second_within = g.second_within;
+          same = g.same ∙ f.sought.same (call_key (call_at second b)) (omega arith);
+          ended = f.sought.ended;
+        }
 
-  pub passed : Passed first from end (call_at second b) r.at
-  passed = record { run = f.run; same = λ j l. f.sought.same j (omega arith) }
+    pub passed : Passed first from end (call_at second b) place
+    passed = record { run = f.run; same = λ j l. f.sought.same j (omega arith) }
 
-  pub passed_known : is_at first r.at (call_key (call_at second b)) ≡ true → Passed first from end (call_at second b) (r.at + 32)
-  passed_known e =
-      let h = is_same first r.at (call_key (call_at second b)) e in
-      let k = h.1 in
-      record {
-        run = run_next f.run (before (dec_lt r.at end));
-        same = λ j l.
-            f.sought.same j (omega arith) ∙ ap (record_of j) (next_left f.sought.read h.0)
-            ∙ find_miss j (call_at first r.at) (left_from first (r.at + 32)) (λ z. omega arith);
-      }
-    where
-      before : Dec (r.at < end) → r.at < end
-      before (yes l) = l
-      before (no l) =
-          let h = is_same first r.at (call_key (call_at second b)) e in
-          let k = h.1 in
-          let a = run_above f.run (omega arith) h.0 in
-          let n = (rw (next_left g.in_second g.there) at g.second_within).0.number in
-          absurd (omega arith)
+    pub passed_known : is_at first place (call_key (call_at second b)) ≡ true → Passed first from end (call_at second b) (place + 32)
+    passed_known e =
+        let h = is_same first place (call_key (call_at second b)) e in
+        let k = h.1 in
+        record {
+          run = run_next f.run (before (dec_lt place end));
+          same = λ j l.
+              f.sought.same j (omega arith) ∙ ap (record_of j) (next_left f.sought.read h.0)
+              ∙ find_miss j (call_at first place) (left_from first (place + 32)) (λ z. omega arith);
+        }
+      where
+        before : Dec (place < end) → place < end
+        before (yes l) = l
+        before (no l) =
+            let h = is_same first place (call_key (call_at second b)) e in
+            let k = h.1 in
+            let a = run_above f.run (omega arith) h.0 in
+            let n = (rw (next_left g.in_second g.there) at g.second_within).0.number in
+            absurd (omega arith)
 
 -- a record stays in its state, or comes into another
 module _ {xs : List Call} {x y : Call} {page : List ℕ} (k : Known xs x y) where

@@ -2,16 +2,14 @@
 use mathlib.Core.Path.{◌≡◌, refl, sym, ◌∙◌, ap, ap₂}
 use mathlib.Core.Logic.{inr}
 use mathlib.Core.List.{List}
-use Prim.Native.Nat.{ℕ, zero, suc, ◌+◌, ◌*◌, ◌-◌, ◌<◌, ◌≤◌}
+use Prim.Native.Nat.{ℕ, zero, suc, ◌+◌, ◌-◌, ◌<◌, ◌≤◌}
 use native.Mathlib.Omega.{arith}
 use native.Mathlib.Decide.{dec_le}
-use lib.ListN.{length, take, drop}
-use lib.Seq.{sets, take-add, length-take-le}
-use Rattle.le.specs.Le.{le_at, le_bytes, IsBytes, Stores}
-use Rattle.le.proofs.Laws.{then}
-use Rattle.join.proofs.Copies.{eight_bytes}
+use lib.ListN.{length}
+use lib.Seq.{sets}
+use Rattle.le.specs.Le.{Stores}
 use Rattle.tabs.specs.declared.Tab.{Tab}
-use Rattle.tabs.specs.Tabs.{tab_place, page_size, tab_at, tabs_on, tab_bytes, tabs_bytes, page_bytes}
+use Rattle.tabs.specs.Tabs.{tab_place, tab_at, tabs_on, tab_bytes, tabs_bytes, page_bytes}
 use Rattle.tabs.specs.Forward.{sum_to}
 use Rattle.tabs.specs.Inner.{index_for, retab, states_on, retabs}
 use Rattle.tabs.proofs.Stored.{beside}
@@ -95,34 +93,3 @@ module _ {page : List ℕ} {all m below : ℕ} {mid : List ℕ} (g : Tabbing pag
       let p = g.member in
       let e : m - 1 ≡ 64 = omega arith in
       rw e at g.is
-
--- The given page copied
-
-pub record Copying (given page : List ℕ) (at : ℕ) (mid : List ℕ) : Type 0 where
-  pub words : ℕ
-  pub place : at ≡ 8 * words
-  pub most : at ≤ page_size
-  pub is : Stores page 0 (take at given) mid
-
-pub copy_starts : (given page : List ℕ) → Copying given page 0 page
-copy_starts given page = record { words = 0; place = refl; most = omega arith; is = record { is = refl } }
-
-pub copy_next : {given page mid after : List ℕ} {at v : ℕ} → IsBytes given → page_size ≤ length given → Copying given page at mid → at < page_size
-    → v ≡ le_at given at 8 → Stores mid at (le_bytes 8 v) after → Copying given page (at + 8) after
-copy_next {given} {page} {mid} {after} {at} {v} small long g h e s =
-    let p = g.place in
-    let b : le_bytes 8 v ≡ take 8 (drop at given) = ap (le_bytes 8) e ∙ eight_bytes given small at (omega arith) in
-    record {
-      words = g.words + 1;
-      place = omega arith;
-      most = omega arith;
-      is =
-          rw (sym (take-add at 8 given)) at
-          (then at (omega (arith, length-take-le at given (omega arith))) g.is (rw b at s));
-    }
-
-pub copy_over : {given page mid : List ℕ} {at : ℕ} → Copying given page at mid → page_size ≤ at → Stores page 0 (take page_size given) mid
-copy_over {at = at} g h =
-    let m = g.most in
-    let e : at ≡ page_size = omega arith in
-    rw e at g.is

@@ -1,5 +1,5 @@
 -- What inner contracts speak of, and no sentence of the paper. Assumes nothing.
-use Rattle.std.specs.Prelude.{◌≡◌, Bool, false, cond, ◌&&◌, List, [], ◌∷◌, ◌++◌, ℕ, ◌+◌, ◌*◌, ◌-◌, ◌<◌, ◌≤◌, eqb, ltb, length, drop}
+use Rattle.std.specs.Prelude.{◌≡◌, Bool, false, cond, ◌&&◌, List, [], ◌∷◌, ◌++◌, ℕ, ◌+◌, ◌*◌, ◌-◌, ◌<◌, ◌≤◌, eqb, ltb, length, drop, Result, Ok, Err}
 use Rattle.le.specs.Le.{le_at}
 use Rattle.call.specs.declared.Call.{Call}
 use Rattle.call.specs.Key.{call_key}
@@ -18,7 +18,6 @@ use Rattle.tabs.specs.declared.Tab.{Tab}
 use Rattle.tabs.specs.declared.walk.Tally.{Tally}
 use Rattle.tabs.specs.declared.walk.Others.{Others}
 use Rattle.tabs.specs.declared.forward.Run.{Run}
-use Rattle.tabs.specs.declared.forward.Found.{Found}
 use Rattle.tabs.specs.Tabs.{tab_place, page_size, tabs_on, own_of, of_state}
 use Rattle.tabs.specs.Outcome.{JoinTabsOutcome, join_tabs_refused, join_tabs_wrote}
 use Rattle.tabs.specs.Forward.{replaced, stands_against, settled, forward_state, sum_to}
@@ -184,11 +183,16 @@ pub record RunOn (page : List ℕ) (m : ℕ) (r : Run) : Type 0 where
   pub at : r.at ≡ place_of (tabs_on page m).index
   pub end : r.end ≡ r.at + record_size * (tabs_on page m).count
 
+-- the place that a search comes to, whether the key lies there or not
+abbrev pub found_at : Result ℕ ℕ → ℕ
+found_at (Ok at) = at
+found_at (Err at) = at
+
 -- the place of an incoming call's key among its member's
-pub record FoundIn (first : List ℕ) (from end : ℕ) (y : Call) (r : Found) : Type 0 where
-  pub run : RunTo first y.participant r.at end
-  pub sought : Sought first from (call_key y) r.at
-  pub known : r.known ≡ is_at first r.at (call_key y)
+pub record FoundIn (first : List ℕ) (from end : ℕ) (y : Call) (at : ℕ) (is_there : Bool) : Type 0 where
+  pub run : RunTo first y.participant at end
+  pub sought : Sought first from (call_key y) at
+  pub known : is_there ≡ is_at first at (call_key y)
 
 -- an incoming record of a member, and the places between which the first book's of that member lie, from which on a record of its key lies, if there is one
 pub record Meeting (first : List ℕ) (from end : ℕ) (second : List ℕ) (b member : ℕ) : Type 0 where

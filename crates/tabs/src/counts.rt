@@ -10,20 +10,15 @@ use crate::Tab;
 use crate::page::{PAGE_SIZE, put_tab, tab_at, tab_place};
 use crate::walk::index_for;
 use call::MOST_PARTICIPANT;
-use le::{put_u16, put_u64, u16_at, u64_at};
+use le::{put_u16, u16_at};
 
-// The given page's bytes, eight at a time: the counts of a member that is not named stay as they are given.
+// The given page's bytes: the counts of a member that is not named stay as they are given.
 pub fn copy_page(given: &[u8], page: &mut [u8])
     requires page_size_in_bounds { page_size ≤ length given.now }
     requires page_size_in_bounds_2 { page_size ≤ length page.old }
     ensures { Stores page.old 0 (take page_size given.now) page.new }
 {
-    let mut at = 0;
-    while at < PAGE_SIZE {
-        let word = u64_at(given, at);
-        put_u64(page, at, word);
-        at += 8;
-    }
+    page[..PAGE_SIZE].copy_from_slice(&given[..PAGE_SIZE]);
 }
 
 // Where the count of a member's calls in a state lies.
@@ -103,9 +98,7 @@ pub fn set_tabs(page: &mut [u8], all: u16)
     ensures { Stores page.old 0 (page_bytes (retabs page.old all)) page.new }
 {
     let mut below: u16 = 0;
-    let mut member: u16 = 1;
-    while member <= MOST_PARTICIPANT {
+    for member in 1..=MOST_PARTICIPANT {
         below = set_tab(page, member, below, all);
-        member += 1;
     }
 }

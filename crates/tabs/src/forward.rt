@@ -1,5 +1,5 @@
 // A page brought forward over a join: from the given page and the incoming book, and at keys that both books have the first book's record and the one that stands.
-ghost use Rattle.std.specs.Prelude.{◌≡◌, true, ◌+◌, ◌*◌, ◌<◌, ◌≤◌, length, drop};
+ghost use Rattle.std.specs.Prelude.{◌≡◌, true, is_ok, ◌+◌, ◌*◌, ◌<◌, ◌≤◌, length, drop};
 ghost use Rattle.le.specs.Le.{Stores};
 ghost use Rattle.call.specs.Key.{call_key};
 ghost use Rattle.call.specs.Revising.{live};
@@ -10,7 +10,7 @@ ghost use Rattle.pair.specs.Screening.{IsAccepted};
 ghost use Rattle.join.specs.Joining.{keys_of_both};
 ghost use Rattle.tabs.specs.Tabs.{page_size, first_unfit};
 ghost use Rattle.tabs.specs.Outcome.{forward_page};
-ghost use Rattle.tabs.specs.Inner.{is_at, RunTo, RunOn, FoundIn, Meeting, Passed, Facing, lost, gained, Able, Recounted, Midway, CountsOf, Forwarded};
+ghost use Rattle.tabs.specs.Inner.{is_at, RunTo, RunOn, found_at, FoundIn, Meeting, Passed, Facing, lost, gained, Able, Recounted, Midway, CountsOf, Forwarded};
 
 use crate::counts::{add_one, copy_page, move_one, set_tabs};
 use crate::page::{count_on, index_on};
@@ -39,32 +39,24 @@ fn run_on(given: &[u8], member: u16) -> Run
     Run { at, end }
 }
 
-// The first record of a member's, up to an end, whose key is not below an incoming one's, and whether it has that key.
-#[derive(Clone, Copy)]
-pub struct Found {
-    pub at: usize,
-    pub known: bool,
-}
-
+// The place of the first record of a member's, up to an end, whose key is not below an incoming one's: Ok where it has that key, Err where it has not.
 // Of one member only the call's number is compared.
-fn find_from(first: &[u8], from: usize, end: usize, second: &[u8], b: usize) -> Found
+fn find_from(first: &[u8], from: usize, end: usize, second: &[u8], b: usize) -> Result<usize, usize>
     requires run_to { RunTo first.now (call_at second.now b).participant from end }
     requires record_size_in_bounds { b + record_size ≤ length second.now }
-    ensures { FoundIn first.now from end (call_at second.now b) result }
+    ensures { FoundIn first.now from end (call_at second.now b) (found_at result) (is_ok result) }
 {
     let number = call_number_at(second, b);
     let mut at = from;
+    // Stays a while: a step is a record's 32 bytes.
     while at < end {
         let own = call_number_at(first, at);
         if number <= own {
-            return Found {
-                at,
-                known: own == number,
-            };
+            return if own == number { Ok(at) } else { Err(at) };
         }
         at += RECORD_SIZE;
     }
-    Found { at, known: false }
+    Err(at)
 }
 
 // Two live records of one key: a live one stands, unless they are struck.
@@ -144,13 +136,16 @@ fn count_one(
         (gained (calls_of first.now) (call_at second.now b))
         page.new }
 {
-    let f = find_from(first, from, end, second, b);
-    if f.known {
-        count_known(first, f.at, second, b, member, page);
-        return f.at + RECORD_SIZE;
+    match find_from(first, from, end, second, b) {
+        Ok(at) => {
+            count_known(first, at, second, b, member, page);
+            at + RECORD_SIZE
+        }
+        Err(at) => {
+            add_one(page, member, state_at(second, b));
+            at
+        }
     }
-    add_one(page, member, state_at(second, b));
-    f.at
 }
 
 // The incoming records of one member, from the first of them on, against the first book's of that member. Answers with the place behind them.
@@ -169,6 +164,7 @@ fn count_member(first: &[u8], given: &[u8], second: &[u8], from: usize, page: &m
     let end = run.end;
     let mut a = run.at;
     let mut b = from;
+    // Stays a while: a step is a record's 32 bytes.
     while is_of(second, b, member) {
         a = count_one(first, a, end, second, b, member, page);
         b += RECORD_SIZE;
@@ -185,6 +181,7 @@ fn count_in(first: &[u8], given: &[u8], second: &[u8], page: &mut [u8])
     ensures { Forwarded page.old (calls_of first.now) (calls_of second.now) page.new }
 {
     let mut b = HEADER_SIZE;
+    // Stays a while: a step is a member's records.
     while b < second.len() {
         b = count_member(first, given, second, b, page);
     }

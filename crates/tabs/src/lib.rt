@@ -22,7 +22,7 @@ pub mod page;
 pub mod walk;
 
 // A member's calls: the index of the first one, how many they are, and how many are live, contested and withdrawn.
-#[derive(Clone, Copy)]
+#[derive(Clone, Copy, PartialEq, Eq)]
 pub struct Tab {
     pub index: u16,
     pub count: u16,

@@ -43,8 +43,7 @@ pub fn index_on(page: &[u8], member: u16) -> u16
     requires member_in_bounds { tab_size * member ≤ length page.now }
     ensures { result ≡ (tabs_on page.now member).index }
 {
-    let at = tab_place(member);
-    u16_at(page, at)
+    tab_at(page, tab_place(member)).index
 }
 
 pub fn count_on(page: &[u8], member: u16) -> u16
@@ -52,8 +51,7 @@ pub fn count_on(page: &[u8], member: u16) -> u16
     requires member_in_bounds { tab_size * member ≤ length page.now }
     ensures { result ≡ (tabs_on page.now member).count }
 {
-    let at = tab_place(member);
-    u16_at(page, at + 2)
+    tab_at(page, tab_place(member)).count
 }
 
 pub fn put_tab(page: &mut [u8], at: usize, t: Tab)
@@ -70,9 +68,5 @@ pub fn put_tab(page: &mut [u8], at: usize, t: Tab)
 pub fn same_tab(t: Tab, u: Tab) -> bool
     ensures { result ≡ same_tab t u }
 {
-    (t.index == u.index)
-        & (t.count == u.count)
-        & (t.live == u.live)
-        & (t.contested == u.contested)
-        & (t.withdrawn == u.withdrawn)
+    t == u
 }

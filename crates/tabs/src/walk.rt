@@ -48,6 +48,7 @@ impl Tally {
 }
 
 // The calls that are not live.
+// Stays two functions: a `Tally` would count the live ones too, which a page that is held against its book does not need.
 #[derive(Clone, Copy)]
 pub struct Others {
     pub contested: u16,
@@ -108,6 +109,7 @@ fn tally_from(b: &[u8], at: usize, member: u16) -> Tally
         withdrawn: 0,
     };
     let mut a = at;
+    // Stays a while: a step is a record's 32 bytes.
     while is_of(b, a, member) {
         t = t.more(state_at(b, a));
         a += RECORD_SIZE;
@@ -171,6 +173,7 @@ fn live_from(b: &[u8], at: usize, end: usize) -> usize
     ensures { LiveTo b.now at end result }
 {
     let mut a = at;
+    // Stays a while: a step is two records, as long as both are live.
     while live_pair(b, a, end) {
         a += 2 * RECORD_SIZE;
     }
@@ -187,6 +190,7 @@ fn others_from(b: &[u8], at: usize, end: usize) -> Others
         withdrawn: 0,
     };
     let mut a = at;
+    // Stays a while: a step is a record's 32 bytes.
     while a < end {
         t = t.more(state_at(b, a));
         a += RECORD_SIZE;
@@ -243,13 +247,11 @@ pub fn first_unfit(page: &[u8], b: &[u8]) -> usize
     ensures { result ≡ first_unfit page.now (calls_of b.now) }
 {
     let mut at = HEADER_SIZE;
-    let mut member: u16 = 1;
-    while member <= MOST_PARTICIPANT {
+    for member in 1..=MOST_PARTICIPANT {
         if !fits_from(page, b, at, member) {
             return member as usize;
         }
         at += RECORD_SIZE * (count_on(page, member) as usize);
-        member += 1;
     }
     0
 }
@@ -261,11 +263,9 @@ pub fn put_tabs(b: &[u8], page: &mut [u8])
     ensures { Stores page.old 0 (own_page (calls_of b.now)) page.new }
 {
     let mut at = HEADER_SIZE;
-    let mut member: u16 = 1;
-    while member <= MOST_PARTICIPANT {
+    for member in 1..=MOST_PARTICIPANT {
         let t = tab_from(b, at, member);
         put_tab(page, tab_place(member), t);
         at += RECORD_SIZE * (t.count as usize);
-        member += 1;
     }
 }

@@ -1,8 +1,8 @@
 // One member's score.
 use crate::away::tell_away;
-use crate::outputs::{Values, part, read_file, series_room};
+use crate::outputs::{part, read_file, series_room};
 use crate::wrong::tell_series;
-use clerk::args::{Byte, Held, Long, Short, first, kind_at, long_at, path, short_at};
+use clerk::args::{first, kind_at, long_at, path, short_at};
 use clerk::print;
 use clerk::shelf::{open, refused_at};
 use clerk::wrong::tell_member;
@@ -51,7 +51,7 @@ pub fn tell(
 // The member's score over a book and the series in a file.
 fn score_with(terminal: &Terminal, member: Member, book: &[u8], path: &[u8]) {
     let mut series = series_room();
-    if let Values::Read(n) = read_file(terminal, path, &mut series) {
+    if let Some(n) = read_file(terminal, path, &mut series) {
         let r = score::score(member, book, part(&series, 0, n));
         let mut page = io::buffer();
         tell(terminal, member, r, book, path, &mut page, 0);
@@ -61,35 +61,22 @@ fn score_with(terminal: &Terminal, member: Member, book: &[u8], path: &[u8]) {
 // The member's score over the book and the series that arguments 5 and 6 name.
 fn score_of(terminal: &Terminal, member: Member) {
     let mut book = io::large_buffer();
-    let Held::Bytes(n) = open(terminal, 5, &mut book) else {
+    let Some(n) = open(terminal, 5, &mut book) else {
         return;
     };
     let mut series = io::buffer();
-    let Held::Bytes(m) = path(terminal, 6, &mut series) else {
+    let Some(m) = path(terminal, 6, &mut series) else {
         return;
     };
     score_with(terminal, member, first(&book, n), first(&series, m));
 }
 
 // The member that arguments 2, 3 and 4 say; or none, and one line has said why.
-#[derive(Clone, Copy)]
-pub enum Given {
-    Line(Member),
-    Nothing,
-}
-
-pub fn member_given(terminal: &Terminal) -> Given {
-    let Short::Number(number) = short_at(terminal, 2) else {
-        return Given::Nothing;
-    };
-    let Byte::Number(kind) = kind_at(terminal, 3) else {
-        return Given::Nothing;
-    };
-    let Long::Number(rated) = long_at(terminal, 4) else {
-        return Given::Nothing;
-    };
-    let rated = Kw(rated);
-    Given::Line(Member {
+pub fn member_given(terminal: &Terminal) -> Option<Member> {
+    let number = short_at(terminal, 2)?;
+    let kind = kind_at(terminal, 3)?;
+    let rated = Kw(long_at(terminal, 4)?);
+    Some(Member {
         number,
         kind,
         rated,
@@ -98,7 +85,7 @@ pub fn member_given(terminal: &Terminal) -> Given {
 
 // The paper's order: the member first, then the book, then the series.
 pub fn score_member(terminal: &Terminal) {
-    let Given::Line(member) = member_given(terminal) else {
+    let Some(member) = member_given(terminal) else {
         return;
     };
     if !member.is_sound() {

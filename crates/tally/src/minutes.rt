@@ -1,8 +1,8 @@
 // One member's month, minute by minute, and one of its days run by run.
-use crate::member::{Given, member_given, refuse_member, tell};
-use crate::outputs::{Values, part, read_file, series_room};
+use crate::member::{member_given, refuse_member, tell};
+use crate::outputs::{part, read_file, series_room};
 use book::header_of;
-use clerk::args::{Byte, Held, byte_at, first, path};
+use clerk::args::{byte_at, first, path};
 use clerk::print;
 use clerk::shelf::open;
 use clerk::wrong::tell_no_day;
@@ -18,20 +18,11 @@ use units::{Fen, Grains};
 // The argument that says the day.
 const DAY: usize = 7;
 
-// Run i, on a page.
-fn put_run(
-    terminal: &Terminal,
-    page: &mut [u8],
-    at: usize,
-    runs: [DayRun; MOST_RUNS],
-    i: usize,
-) -> usize {
-    if i < MOST_RUNS {
-        let mut line = io::buffer();
-        let n = run_text(runs[i], &mut line);
-        return say::add(terminal, page, at, &line[..n]);
-    }
-    at
+// A run, on a page.
+fn put_run(terminal: &Terminal, page: &mut [u8], at: usize, run: DayRun) -> usize {
+    let mut line = io::buffer();
+    let n = run_text(run, &mut line);
+    say::add(terminal, page, at, &line[..n])
 }
 
 // The first runs, on a page.
@@ -42,10 +33,8 @@ fn put_runs(
     count: usize,
 ) -> usize {
     let mut at: usize = 0;
-    let mut i: usize = 0;
-    while i < count {
-        at = put_run(terminal, page, at, runs, i);
-        i += 1;
+    for run in runs.iter().take(count) {
+        at = put_run(terminal, page, at, *run);
     }
     at
 }
@@ -81,8 +70,8 @@ fn tell_day(terminal: &Terminal, member: Member, d: DayReckoned, book: &[u8], se
 // The day and the month over a book and the series in a file.
 fn reckon_with(terminal: &Terminal, member: Member, book: &[u8], path: &[u8], day: u8) {
     let mut series = series_room();
-    if let Values::Read(n) = read_file(terminal, path, &mut series) {
-        let d = reckon_day(member, book, part(&series, 0, n), day as u32);
+    if let Some(n) = read_file(terminal, path, &mut series) {
+        let d = reckon_day(member, book, part(&series, 0, n), u32::from(day));
         tell_day(terminal, member, d, book, path);
     }
 }
@@ -92,7 +81,7 @@ fn has_day(terminal: &Terminal, book: &[u8], day: u8) -> bool {
     let o = header_of(book);
     let header = o.header;
     let days = days_of(header.year, header.month);
-    if (1 <= day) & ((day as u32) <= days) {
+    if (1 <= day) & (u32::from(day) <= days) {
         return true;
     }
     tell_no_day(terminal, DAY, days);
@@ -102,14 +91,14 @@ fn has_day(terminal: &Terminal, book: &[u8], day: u8) -> bool {
 // The book and the series that arguments 5 and 6 name.
 fn reckon_of(terminal: &Terminal, member: Member, day: u8) {
     let mut book = io::large_buffer();
-    let Held::Bytes(n) = open(terminal, 5, &mut book) else {
+    let Some(n) = open(terminal, 5, &mut book) else {
         return;
     };
     if !has_day(terminal, first(&book, n), day) {
         return;
     }
     let mut series = io::buffer();
-    let Held::Bytes(m) = path(terminal, 6, &mut series) else {
+    let Some(m) = path(terminal, 6, &mut series) else {
         return;
     };
     reckon_with(terminal, member, first(&book, n), first(&series, m), day);
@@ -117,10 +106,10 @@ fn reckon_of(terminal: &Terminal, member: Member, day: u8) {
 
 // The member first, then the book, the day, the series.
 pub fn reckon_member(terminal: &Terminal) {
-    let Given::Line(member) = member_given(terminal) else {
+    let Some(member) = member_given(terminal) else {
         return;
     };
-    let Byte::Number(day) = byte_at(terminal, DAY) else {
+    let Some(day) = byte_at(terminal, DAY) else {
         return;
     };
     if !member.is_sound() {

@@ -2,8 +2,8 @@
 ghost use Rattle.std.specs.Prelude.{◌≡◌, length};
 ghost use Rattle.tally.specs.Room.{series_room, ReadsWithin};
 
-use clerk::args::{Held, first};
-use clerk::shelf::load;
+use clerk::args::first;
+use clerk::load::load_or;
 use say::Terminal;
 use tables::series::read_series;
 
@@ -17,31 +17,25 @@ pub fn series_room() -> [u32; SERIES_ROOM]
     [0; SERIES_ROOM]
 }
 
-// So many values were read; or nothing, and one line has said why.
-#[derive(Clone, Copy)]
-pub enum Values {
-    Read(usize),
-    Nothing,
-}
-
-// The values of a file's lines in the first places of `out`, as many as there is room for.
-pub fn read_file(terminal: &Terminal, path: &[u8], out: &mut [u32]) -> Values
+// The values of a file's lines in the first places of `out`, as many as there is room for: how many these are. Where the file cannot be read, one line has said why, of a run that ends
+// by it, or of one that goes on.
+pub fn read_or(terminal: &Terminal, path: &[u8], goes_on: bool, out: &mut [u32]) -> Option<usize>
     ensures { ReadsWithin (length out.old) result }
 {
     let mut text = io::large_buffer();
-    let Held::Bytes(n) = load(terminal, path, &mut text) else {
-        return Values::Nothing;
-    };
-    Values::Read(read_series(first(&text, n), out))
+    let n = load_or(terminal, path, goes_on, &mut text)?;
+    Some(read_series(first(&text, n), out))
+}
+
+// The same in a run that ends where the file cannot be read.
+pub fn read_file(terminal: &Terminal, path: &[u8], out: &mut [u32]) -> Option<usize>
+    ensures { ReadsWithin (length out.old) result }
+{
+    read_or(terminal, path, false, out)
 }
 
 // So many values from a place on, as far as there are any.
 pub fn part(series: &[u32], at: usize, n: usize) -> &[u32] {
-    if series.len() < at {
-        return &series[..0];
-    }
-    if series.len() - at < n {
-        return &series[at..];
-    }
-    &series[at..at + n]
+    let rest = &series[at.min(series.len())..];
+    &rest[..n.min(rest.len())]
 }

@@ -4,8 +4,7 @@ ghost use Rattle.std.specs.Prelude.{◌≡◌, length};
 use book::header_of;
 use clerk::args::first;
 use faults::words::{count_text, fault_text};
-use faults::{Found, Table, Walk, is_sound};
-use files::Loaded;
+use faults::{Found, Table, Walk};
 use say::Terminal;
 use tables::series::read_series;
 use text::told::shown_text;
@@ -26,18 +25,14 @@ fn tell_faults(terminal: &Terminal, name: &[u8], text: &[u8]) {
     let mut page = io::large_buffer();
     let mut at: usize = 0;
     let mut walk = Walk::start(Table::Register, text);
-    let mut left = text.len();
-    while 0 < left {
+    for _ in 0..text.len() {
         let told = walk.next_fault(text);
-        let found = told.found;
-        let wrong = found.wrong;
-        if is_sound(wrong) {
+        let Some(found) = told.found else {
             say::write_page(terminal, &page, at);
             return;
-        }
+        };
         at = put_fault(terminal, &mut page, at, name, found);
         walk = told.walk;
-        left -= 1;
     }
     say::write_page(terminal, &page, at);
 }
@@ -65,7 +60,7 @@ fn tell_count(terminal: &Terminal, name: &[u8], text: &[u8], book: &[u8]) {
     let mut all = lines_room();
     let count = read_series(text, &mut all);
     let h = o.header;
-    let wanted = quarters_of(h.year, h.month) as u64;
+    let wanted = u64::from(quarters_of(h.year, h.month));
     let mut line = io::large_buffer();
     let n = count_text(name, count as u64, h.year, h.month, wanted, &mut line);
     say::text(terminal, &line[..n]);
@@ -75,9 +70,7 @@ fn tell_count(terminal: &Terminal, name: &[u8], text: &[u8], book: &[u8]) {
 fn tell_line(terminal: &Terminal, name: &[u8], text: &[u8]) {
     let walk = Walk::start(Table::Series, text);
     let told = walk.next_fault(text);
-    let found = told.found;
-    let wrong = found.wrong;
-    if !is_sound(wrong) {
+    if let Some(found) = told.found {
         let mut line = io::large_buffer();
         let n = fault_text(Table::Series, name, found, &mut line);
         say::text(terminal, &line[..n]);
@@ -98,7 +91,7 @@ pub fn tell_series(terminal: &Terminal, path: &[u8], place: usize, book: &[u8]) 
     let mut shown = io::buffer();
     let m = shown_text(path, &mut shown);
     let mut text = io::large_buffer();
-    if let Loaded::Whole(n) = files::load(terminal.system(), path, &mut text) {
+    if let Ok(n) = files::load(terminal.system(), path, &mut text) {
         tell_text(terminal, &shown[..m], first(&text, n), place, book);
     }
 }

@@ -1,15 +1,14 @@
 -- A name as it is printed has no control character. Assumes nothing.
-use mathlib.Core.Path.{◌≡◌, refl, sym, ◌∙◌, ap, subst}
+use mathlib.Core.Path.{◌≡◌, refl, sym, ◌∙◌, ap}
 use mathlib.Core.List.{List, [], ◌∷◌}
 use Prim.Native.Nat.{ℕ, zero, suc, ◌+◌, ◌≤◌, ◌<◌}
-use native.Mathlib.Nat.{zero-add}
+use native.Mathlib.Numerals.{add-one}
 use native.Mathlib.Decide.{dec_lt, ℕ_discrete}
 use native.Mathlib.Omega.{arith}
 use borrow.Author.Tests.{lt-ltb, le-ltb, eq-eqb, ne_eqb}
 use lib.ListN.{length, get_or, drop, set, length-map}
-use lib.Seq.{sets}
+use lib.Seq.{sets, drop-cons, drop-length}
 use Rattle.render.specs.Inner.{Puts}
-use Rattle.render.proofs.Placed.{one_more, word_put}
 use Rattle.text.specs.Texts.{shown_byte, shown_name}
 
 pub shown_control : (b : ℕ) → b < 32 → shown_byte b ≡ 63
@@ -47,11 +46,14 @@ shown_long name = length-map name shown_byte
 pub one_shown : (s name : List ℕ) (k : ℕ) → k < length name → sets (set s k (shown_byte (get_or name k 0))) (k + 1) (drop (k + 1) (shown_name name)) ≡ sets s k (drop k (shown_name name))
 one_shown s name k h =
     let within : k < length (shown_name name) = omega (arith, shown_long name) in
-    ap (λ (b : ℕ). sets (set s k b) (k + 1) (drop (k + 1) (shown_name name))) (sym (shown_at name k h))
-    ∙ simp zero-add at (one_more s (shown_name name) 0 k within)
+    ap (λ (b : ℕ). sets (set s k b) (k + 1) (drop (k + 1) (shown_name name))) (sym (shown_at name k h)) ∙ rw (add-one, drop-cons (shown_name name) k 0)
 
 pub all_shown : (name before after : List ℕ) (k : ℕ) → k ≡ length name → sets after k (drop k (shown_name name)) ≡ sets before 0 (shown_name name)
-    → Puts (length name) before 0 (shown_name name) after k
+    → Puts (length name) before 0 (shown_name name) after (length name)
 all_shown name before after k e h =
-    let p : Puts (length (shown_name name)) before 0 (shown_name name) after (0 + k) = word_put (shown_name name) before after 0 k (e ∙ sym (shown_long name)) (simp zero-add h) in
-    subst (λ (n : ℕ). Puts n before 0 (shown_name name) after k) (shown_long name) (subst (λ (r : ℕ). Puts (length (shown_name name)) before 0 (shown_name name) after r) (zero-add k) p)
+    let end : k ≡ length (shown_name name) = e ∙ sym (shown_long name) in
+    record {
+      fits = omega (arith, shown_long name);
+      behind = omega (arith, shown_long name);
+      bytes = record { is = sym (ap (λ (l : List ℕ). sets after k l) (ap (λ (i : ℕ). drop i (shown_name name)) end ∙ drop-length (shown_name name))) ∙ h };
+    }

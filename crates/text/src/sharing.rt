@@ -1,5 +1,5 @@
 // What `statement` prints: R, the lines and the user's amount, or a refusal.
-ghost use Rattle.std.specs.Prelude.{[], ◌∷◌, ◌+◌, ◌*◌, ◌≤◌, length, take};
+ghost use Rattle.std.specs.Prelude.{[], ◌∷◌, ◌+◌, ◌*◌, ◌≤◌, length};
 ghost use Rattle.io.specs.Counts.{IsPrefixLen};
 ghost use Rattle.render.specs.Inner.{Puts};
 ghost use Rattle.render.specs.Room.{Renders};
@@ -28,18 +28,14 @@ fn put_line(out: &mut [u8], at: usize, l: Line) -> usize
     put_word(out, c, b"\n")
 }
 
-// The first `count` lines.
-fn put_lines(out: &mut [u8], at: usize, lines: [Line; 64], count: usize) -> usize
-    requires count_bound { count ≤ 64 }
+fn put_lines(out: &mut [u8], at: usize, lines: &[Line]) -> usize
+    requires count_bound { length lines.now ≤ 64 }
     requires most_line_in_bounds { at + 64 * most_line ≤ length out.old }
-    ensures { Puts (64 * most_line) out.old at (lines_text (take count lines)) out.new result }
+    ensures { Puts (64 * most_line) out.old at (lines_text lines.now) out.new result }
 {
     let mut next = at;
-    let mut i: usize = 0;
-    while i < count {
-        let l = lines[i];
-        next = put_line(out, next, l);
-        i += 1;
+    for line in lines {
+        next = put_line(out, next, *line);
     }
     next
 }
@@ -51,9 +47,8 @@ fn put_accepted(out: &mut [u8], s: Shared, count: usize) -> usize
 {
     let gap = fen_bits(s.gap);
     let user = fen_bits(s.user);
-    let lines = s.lines;
     let a = fill(out, 0, &TOTAL, &[gap]);
-    let b = put_lines(out, a, lines, seen(count));
+    let b = put_lines(out, a, &s.lines[..seen(count)]);
     fill(out, b, &USER, &[user])
 }
 

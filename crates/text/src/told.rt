@@ -15,28 +15,21 @@ use crate::forms::{
 use form::{flag, say, say_with};
 
 // A byte of a name as it is printed: a control character as `?`.
+#[tactic(auto, unfolding(crate::specs::Texts::shown_byte))]
 fn shown_byte(b: u8) -> u8
     ensures { result ≡ shown_byte b }
 {
-    if b < 32 {
-        return b'?';
-    }
-    if b == 127 {
-        return b'?';
-    }
-    b
+    if b.is_ascii_control() { b'?' } else { b }
 }
 
 fn put_shown(out: &mut [u8], name: &[u8]) -> usize
     requires { length name.now ≤ length out.old }
     ensures { Puts (length name.now) out.old 0 (shown_name name.now) out.new result }
 {
-    let mut k = 0;
-    while k < name.len() {
-        out[k] = shown_byte(name[k]);
-        k += 1;
+    for (k, b) in name.iter().enumerate() {
+        out[k] = shown_byte(*b);
     }
-    k
+    name.len()
 }
 
 // A name as it is printed: no line feed in it begins a line of its own.

@@ -1,12 +1,11 @@
 // The books that the arguments name, joined. Those that are not taken are told once, and left out from then on; so is one that cannot be read again, which the last
-// line names. A byte for each argument says which.
+// line names. A mark for each argument says which.
 use book::header_of;
-use clerk::args::{Held, argument, first, is_word};
+use clerk::args::{argument, first, is_word};
 use clerk::load::load_or;
 use clerk::print;
 use clerk::shelf::{note_at, other_month_at};
 use clerk::wrong::tell_book;
-use files::Loaded;
 use notice::refused_with_text;
 use say::Terminal;
 
@@ -17,51 +16,43 @@ pub struct Taken {
     pub bad: usize,
 }
 
-// What the byte of an argument says of its book: it is one of those that are joined; it is not taken; it could not be read again; the others make it spare.
-pub const STAYS: u8 = 0;
+// What the mark of an argument says of its book: it is one of those that are joined; it is not taken; it could not be read again; the others make it spare.
+#[derive(Clone, Copy, PartialEq, Eq)]
+pub enum Mark {
+    Stays,
+    NotTaken,
+    Lost,
+    Spare,
+}
 
-pub const NOT_TAKEN: u8 = 1;
+// As many arguments have a place for a mark.
+pub const MOST_MARKS: usize = 0x1_0000;
 
-pub const LOST: u8 = 2;
-
-pub const SPARE: u8 = 3;
-
-// One more, as far as anybody counts.
-pub fn more(n: usize) -> usize {
-    if n < 0xffff_ffff { n + 1 } else { n }
+// No book is left out yet.
+pub fn all_stay() -> [Mark; MOST_MARKS] {
+    [Mark::Stays; MOST_MARKS]
 }
 
 // Whether argument i is left out.
-pub fn is_left(left: &[u8], i: usize) -> bool {
-    mark_of(left, i) != STAYS
+pub fn is_left(left: &[Mark], i: usize) -> bool {
+    mark_of(left, i) != Mark::Stays
 }
 
 // The mark of argument i; one that has no place for a mark is not taken.
-pub fn mark_of(left: &[u8], i: usize) -> u8 {
-    if i < left.len() {
-        return left[i];
-    }
-    NOT_TAKEN
+pub fn mark_of(left: &[Mark], i: usize) -> Mark {
+    left.get(i).copied().unwrap_or(Mark::NotTaken)
 }
 
 // Argument i left out from now on, and why.
-pub fn leave(left: &mut [u8], i: usize, mark: u8) {
-    if i < left.len() {
-        left[i] = mark;
+pub fn leave(left: &mut [Mark], i: usize, mark: Mark) {
+    if let Some(own) = left.get_mut(i) {
+        *own = mark;
     }
 }
 
-// The first book that could not be read again, or 0 where there is none.
-pub fn lost_at(terminal: &Terminal, from: usize, left: &[u8]) -> usize {
-    let count = say::arguments(terminal);
-    let mut i = from;
-    while i < count {
-        if mark_of(left, i) == LOST {
-            return i;
-        }
-        i += 1;
-    }
-    0
+// The first book that could not be read again, if there is one.
+pub fn lost_at(terminal: &Terminal, from: usize, left: &[Mark]) -> Option<usize> {
+    (from..say::arguments(terminal)).find(|i| mark_of(left, *i) == Mark::Lost)
 }
 
 // That a file is refused, and where.
@@ -79,11 +70,11 @@ pub fn note_refused_at(terminal: &Terminal, i: usize, number: u32, place: usize)
 }
 
 // The bytes of the book that argument i names; what is in the way is told.
-fn load_book(terminal: &Terminal, i: usize, book: &mut [u8]) -> Held {
+fn load_book(terminal: &Terminal, i: usize, book: &mut [u8]) -> Option<usize> {
     let mut name = io::buffer();
-    let Held::Bytes(k) = argument(terminal, i, &mut name) else {
+    let Some(k) = argument(terminal, i, &mut name) else {
         note_at(terminal, i, b"too long for a file's name");
-        return Held::Nothing;
+        return None;
     };
     if k == 0 {
         print::note(
@@ -91,7 +82,7 @@ fn load_book(terminal: &Terminal, i: usize, book: &mut [u8]) -> Held {
             b"BOOK",
             b"an argument is empty, and names no file",
         );
-        return Held::Nothing;
+        return None;
     }
     load_or(terminal, first(&name, k), true, book)
 }
@@ -105,46 +96,33 @@ fn tell_unsound(terminal: &Terminal, i: usize, book: &[u8], number: u32, place: 
 }
 
 // The same, where it is a sound book.
-fn open_book(terminal: &Terminal, i: usize, book: &mut [u8]) -> Held {
-    let Held::Bytes(n) = load_book(terminal, i, book) else {
-        return Held::Nothing;
-    };
+fn open_book(terminal: &Terminal, i: usize, book: &mut [u8]) -> Option<usize> {
+    let n = load_book(terminal, i, book)?;
     let o = header_of(first(book, n));
     if o.number != 0 {
         tell_unsound(terminal, i, first(book, n), o.number, o.place);
-        return Held::Nothing;
+        return None;
     }
-    Held::Bytes(n)
+    Some(n)
 }
 
 // The bytes to the front of a buffer that has room for them.
-fn keep(bytes: &[u8], all: &mut [u8]) -> Held {
-    if all.len() < bytes.len() {
-        return Held::Nothing;
-    }
-    Held::Bytes(node::copy(bytes, all))
+fn keep(bytes: &[u8], all: &mut [u8]) -> Option<usize> {
+    all.get_mut(..bytes.len())?.copy_from_slice(bytes);
+    Some(bytes.len())
 }
 
-// Of which month the book that argument i names is, and of which those before it.
-fn tell_other_month(terminal: &Terminal, i: usize, one: &[u8], two: &[u8]) {
-    let before = header_of(one);
-    let this = header_of(two);
-    let h = this.header;
-    let earlier = before.header;
-    other_month_at(terminal, i, h, earlier);
-}
-
-// Why joining refuses it, in words and with which number.
+// Why joining refuses the book that argument i names, in words and with which number: for another month than that of those before it, or for too many calls.
+// Stays two functions: ledger's of this name says the same words but not the number, and that crate stands beside this one and not below it.
 fn tell_unjoined(terminal: &Terminal, i: usize, number: u32, place: usize, one: &[u8], two: &[u8]) {
-    if number == 7 {
-        tell_other_month(terminal, i, one, two);
-    }
-    if number == 8 {
-        note_at(
+    match number {
+        7 => other_month_at(terminal, i, header_of(two).header, header_of(one).header),
+        8 => note_at(
             terminal,
             i,
             b"with it there would be more than 2000 different calls",
-        );
+        ),
+        _ => {}
     }
     note_refused_at(terminal, i, number, place);
 }
@@ -157,7 +135,7 @@ fn join_second(
     all: &mut [u8],
     n: usize,
     second: &[u8],
-) -> Held {
+) -> Option<usize> {
     if n == 0 {
         return keep(second, all);
     }
@@ -167,17 +145,15 @@ fn join_second(
         if tell {
             tell_unjoined(terminal, i, w.number, w.place, first(all, n), second);
         }
-        return Held::Nothing;
+        return None;
     }
     keep(first(&out, w.length), all)
 }
 
 // The book that argument i names joined to those before it, of which there are n bytes; or nothing, and one line has said why.
-fn open_second(terminal: &Terminal, i: usize, all: &mut [u8], n: usize) -> Held {
+fn open_second(terminal: &Terminal, i: usize, all: &mut [u8], n: usize) -> Option<usize> {
     let mut second = io::large_buffer();
-    let Held::Bytes(m) = open_book(terminal, i, &mut second) else {
-        return Held::Nothing;
-    };
+    let m = open_book(terminal, i, &mut second)?;
     join_second(terminal, i, true, all, n, first(&second, m))
 }
 
@@ -186,32 +162,29 @@ fn with_book(
     terminal: &Terminal,
     i: usize,
     all: &mut [u8],
-    left: &mut [u8],
+    left: &mut [Mark],
     before: Taken,
 ) -> Taken {
     match open_second(terminal, i, all, before.size) {
-        Held::Bytes(n) => Taken {
+        Some(n) => Taken {
             size: n,
             bad: before.bad,
         },
-        Held::Nothing => {
-            leave(left, i, NOT_TAKEN);
+        None => {
+            leave(left, i, Mark::NotTaken);
             Taken {
                 size: before.size,
-                bad: more(before.bad),
+                bad: before.bad.saturating_add(1),
             }
         }
     }
 }
 
 // All books that are named from argument `from` on, joined.
-pub fn join_named(terminal: &Terminal, from: usize, all: &mut [u8], left: &mut [u8]) -> Taken {
-    let count = say::arguments(terminal);
+pub fn join_named(terminal: &Terminal, from: usize, all: &mut [u8], left: &mut [Mark]) -> Taken {
     let mut taken = Taken { size: 0, bad: 0 };
-    let mut i = from;
-    while i < count {
+    for i in from..say::arguments(terminal) {
         taken = with_book(terminal, i, all, left, taken);
-        i += 1;
     }
     taken
 }
@@ -219,105 +192,81 @@ pub fn join_named(terminal: &Terminal, from: usize, all: &mut [u8], left: &mut [
 // Later passes, in which nothing is told of a book
 
 // The bytes of the book that argument i names.
-fn load_again(terminal: &Terminal, i: usize, book: &mut [u8]) -> Held {
+fn load_again(terminal: &Terminal, i: usize, book: &mut [u8]) -> Option<usize> {
     let mut name = io::buffer();
-    let Held::Bytes(k) = argument(terminal, i, &mut name) else {
-        return Held::Nothing;
-    };
-    match files::load(terminal.system(), first(&name, k), book) {
-        Loaded::Whole(n) => Held::Bytes(n),
-        Loaded::Missing => Held::Nothing,
-        Loaded::TooLong => Held::Nothing,
-        Loaded::Failed => Held::Nothing,
-    }
+    let k = argument(terminal, i, &mut name)?;
+    files::load(terminal.system(), first(&name, k), book).ok()
 }
 
 // The bytes of the book that argument i names, unless it is left out. It was read before: where it cannot be read now, it is lost, and left out.
-pub fn take_book(terminal: &Terminal, i: usize, left: &mut [u8], book: &mut [u8]) -> Held {
+pub fn take_book(
+    terminal: &Terminal,
+    i: usize,
+    left: &mut [Mark],
+    book: &mut [u8],
+) -> Option<usize> {
     if is_left(left, i) {
-        return Held::Nothing;
+        return None;
     }
     let read = load_again(terminal, i, book);
-    if let Held::Nothing = read {
-        leave(left, i, LOST);
+    if read.is_none() {
+        leave(left, i, Mark::Lost);
     }
     read
 }
 
 // The same joined into the first n bytes of `all`: how many there are then.
-fn take_second(terminal: &Terminal, i: usize, left: &mut [u8], all: &mut [u8], n: usize) -> usize {
-    let mut second = io::large_buffer();
-    let Held::Bytes(m) = take_book(terminal, i, left, &mut second) else {
-        return n;
-    };
-    match join_second(terminal, i, false, all, n, first(&second, m)) {
-        Held::Bytes(k) => k,
-        Held::Nothing => n,
-    }
-}
-
-// The same, but for the book of argument `without`.
-fn take_other(
+fn take_second(
     terminal: &Terminal,
     i: usize,
-    without: usize,
-    left: &mut [u8],
+    left: &mut [Mark],
     all: &mut [u8],
     n: usize,
 ) -> usize {
-    if i == without {
+    let mut second = io::large_buffer();
+    let Some(m) = take_book(terminal, i, left, &mut second) else {
         return n;
-    }
-    take_second(terminal, i, left, all, n)
+    };
+    join_second(terminal, i, false, all, n, first(&second, m)).unwrap_or(n)
 }
 
-// The books from argument `from` on that are not left out, joined, but for that of argument `without`.
+// The books from argument `from` on that are not left out, joined, but for that of argument `without`, if one is named.
 pub fn join_others(
     terminal: &Terminal,
     from: usize,
-    without: usize,
-    left: &mut [u8],
+    without: Option<usize>,
+    left: &mut [Mark],
     all: &mut [u8],
 ) -> usize {
-    let count = say::arguments(terminal);
     let mut n: usize = 0;
-    let mut i = from;
-    while i < count {
-        n = take_other(terminal, i, without, left, all, n);
-        i += 1;
+    for i in from..say::arguments(terminal) {
+        if Some(i) != without {
+            n = take_second(terminal, i, left, all, n);
+        }
     }
     n
 }
 
 // Whether the book that argument i names is still a sound one, unless it is left out.
-fn is_there(terminal: &Terminal, i: usize, left: &mut [u8]) -> bool {
+fn is_there(terminal: &Terminal, i: usize, left: &mut [Mark]) -> bool {
     if is_left(left, i) {
         return true;
     }
     let mut book = io::large_buffer();
-    let Held::Bytes(n) = take_book(terminal, i, left, &mut book) else {
+    let Some(n) = take_book(terminal, i, left, &mut book) else {
         return false;
     };
-    let o = header_of(first(&book, n));
-    o.number == 0
+    header_of(first(&book, n)).number == 0
 }
 
 // Whether all of them are.
-fn are_there(terminal: &Terminal, from: usize, left: &mut [u8]) -> bool {
-    let count = say::arguments(terminal);
-    let mut i = from;
-    while i < count {
-        if !is_there(terminal, i, left) {
-            return false;
-        }
-        i += 1;
-    }
-    true
+fn are_there(terminal: &Terminal, from: usize, left: &mut [Mark]) -> bool {
+    (from..say::arguments(terminal)).all(|i| is_there(terminal, i, left))
 }
 
 // Whether the books are still what they were: all there, and joined again, the same bytes.
-pub fn is_unchanged(terminal: &Terminal, from: usize, left: &mut [u8], joined: &[u8]) -> bool {
+pub fn is_unchanged(terminal: &Terminal, from: usize, left: &mut [Mark], joined: &[u8]) -> bool {
     let mut again = io::large_buffer();
-    let n = join_others(terminal, from, 0, left, &mut again);
+    let n = join_others(terminal, from, None, left, &mut again);
     is_word(first(&again, n), joined) & are_there(terminal, from, left)
 }

@@ -1,87 +1,68 @@
 // What each book has for one key.
-use crate::books::{lost_at, take_book};
+use crate::books::{Mark, lost_at, take_book};
 use call::layout::call_at;
 use call::{Call, RECORD_SIZE};
-use clerk::args::{Held, first};
+use clerk::args::first;
 use clerk::print;
 use drawer::stale::{NextStale, Why, next_stale};
 use lookup::Place;
 use say::Terminal;
 use text::record::call_text;
 
-// What a book has for a key: nothing, the record that stands, or another, and why that does not stand.
+// What a book has for a key: the record that stands, or another, and why that does not stand.
 #[derive(Clone, Copy)]
 pub enum Own {
-    Missing,
     Standing(Call),
     Other(Call, Why),
 }
 
 // What record k of a book is, which is c.
-fn own_at(book: &[u8], joined: &[u8], k: usize, c: Call) -> Own {
-    let next = next_stale(book, joined, k);
-    match next {
-        NextStale::BadBooks(_, _) => Own::Missing,
-        NextStale::NoneLeft => Own::Standing(c),
-        NextStale::Next(told) => {
-            if told.place == k {
-                let why = told.why;
-                return Own::Other(c, why);
-            }
-            Own::Standing(c)
-        }
+fn own_at(book: &[u8], joined: &[u8], k: usize, c: Call) -> Option<Own> {
+    match next_stale(book, joined, k) {
+        NextStale::BadBooks(_, _) => None,
+        NextStale::Next(told) if told.place == k => Some(Own::Other(c, told.why)),
+        NextStale::Next(_) | NextStale::NoneLeft => Some(Own::Standing(c)),
     }
 }
 
-// What a book has for the key of x.
-fn own_in(book: &[u8], joined: &[u8], x: Call) -> Own {
+// What a book has for the key of x, if it has one.
+fn own_in(book: &[u8], joined: &[u8], x: Call) -> Option<Own> {
     let part = lookup::find(book, book, x.participant, x.number);
     if part.len() < RECORD_SIZE {
-        return Own::Missing;
+        return None;
     }
-    let place = lookup::which(book, book, x.participant, x.number);
-    match place {
-        Place::Nowhere => Own::Missing,
-        Place::InFirst(k) => own_at(book, joined, k, call_at(part, 0)),
-        Place::InSecond(k) => own_at(book, joined, k, call_at(part, 0)),
+    match lookup::which(book, book, x.participant, x.number) {
+        Place::Nowhere => None,
+        Place::InFirst(k) | Place::InSecond(k) => own_at(book, joined, k, call_at(part, 0)),
     }
 }
 
 // The same of the book that argument i names.
-pub fn own_of(terminal: &Terminal, i: usize, left: &mut [u8], joined: &[u8], x: Call) -> Own {
+pub fn own_of(
+    terminal: &Terminal,
+    i: usize,
+    left: &mut [Mark],
+    joined: &[u8],
+    x: Call,
+) -> Option<Own> {
     let mut book = io::large_buffer();
-    let Held::Bytes(n) = take_book(terminal, i, left, &mut book) else {
-        return Own::Missing;
-    };
+    let n = take_book(terminal, i, left, &mut book)?;
     own_in(first(&book, n), joined, x)
 }
 
-fn has_standing(terminal: &Terminal, i: usize, left: &mut [u8], joined: &[u8], x: Call) -> bool {
-    let own = own_of(terminal, i, left, joined, x);
-    match own {
-        Own::Missing => false,
-        Own::Standing(_) => true,
-        Own::Other(_, _) => false,
-    }
+fn has_standing(terminal: &Terminal, i: usize, left: &mut [Mark], joined: &[u8], x: Call) -> bool {
+    matches!(own_of(terminal, i, left, joined, x), Some(Own::Standing(_)))
 }
 
-// The first book that has the record that stands, or 0 where none has.
+// The first book that has the record that stands, if one has.
 pub fn holder_of(
     terminal: &Terminal,
     from: usize,
-    left: &mut [u8],
+    left: &mut [Mark],
     joined: &[u8],
     x: Call,
-) -> usize {
-    let count = say::arguments(terminal);
-    let mut i = from;
-    while i < count {
-        if has_standing(terminal, i, left, joined, x) {
-            return i;
-        }
-        i += 1;
-    }
-    0
+) -> Option<usize> {
+    (from..say::arguments(terminal)).find(|i| has_standing(terminal, *i, left, joined, x))
 }
 
 // A call, and what it is the call of.
@@ -94,21 +75,21 @@ pub fn tell_call(terminal: &Terminal, what: &[u8], x: Call) {
     print::note(terminal, what, first(&line, n - 1));
 }
 
-// The same of the book that argument i names; 0 is that of all books together.
+// The same of the book that argument i names.
 pub fn tell_call_of(terminal: &Terminal, i: usize, x: Call) {
-    if i == 0 {
-        tell_call(terminal, b"joined", x);
-        return;
-    }
     let mut name = io::buffer();
     let n = say::word(terminal, i, &mut name);
     tell_call(terminal, &name[..n], x);
 }
 
-// The call x, which stands, by a book that has it; nothing where a book is lost, for it may be the one.
-pub fn tell_standing(terminal: &Terminal, from: usize, left: &mut [u8], joined: &[u8], x: Call) {
-    let h = holder_of(terminal, from, left, joined, x);
-    if lost_at(terminal, from, left) == 0 {
-        tell_call_of(terminal, h, x);
+// The call x, which stands, by a book that has it, or by all of them together; nothing where a book is lost, for it may be the one.
+pub fn tell_standing(terminal: &Terminal, from: usize, left: &mut [Mark], joined: &[u8], x: Call) {
+    let holder = holder_of(terminal, from, left, joined, x);
+    if lost_at(terminal, from, left).is_some() {
+        return;
+    }
+    match holder {
+        Some(h) => tell_call_of(terminal, h, x),
+        None => tell_call(terminal, b"joined", x),
     }
 }

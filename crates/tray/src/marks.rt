@@ -1,111 +1,53 @@
 // The keys of which some book has another record than the one that stands.
-use crate::books::take_book;
+use crate::books::{Mark, take_book};
 use book::MOST_RECORDS;
-use clerk::args::{Held, first};
-use drawer::stale::{NextStale, StaleRecord, next_stale};
-use lookup::Index;
+use clerk::args::first;
+use drawer::stale::{NextStale, next_stale};
 use say::Terminal;
 
-// The joined book's records for whose keys some book has another; and the record at which a walk over a book goes on.
-#[derive(Clone, Copy)]
-pub struct Marks {
-    pub each: [bool; MOST_RECORDS],
-    pub next: usize,
-}
-
-fn no_marks() -> Marks {
-    Marks {
-        each: [false; MOST_RECORDS],
-        next: 0,
+// Marks the joined book's records for whose keys a book has another: as many as a book may have records.
+fn mark_book(book: &[u8], joined: &[u8], each: &mut [bool]) {
+    let mut next: usize = 0;
+    for _ in 0..MOST_RECORDS {
+        let NextStale::Next(told) = next_stale(book, joined, next) else {
+            return;
+        };
+        if let Some(j) = told.stands {
+            mark(each, j);
+        }
+        next = told.place.saturating_add(1);
     }
 }
 
-// The mark of record j of the joined book, and the walk behind record i.
-fn marked(before: Marks, j: usize, i: usize) -> Marks {
-    let mut each = before.each;
-    if j < MOST_RECORDS {
-        each[j] = true;
-    }
-    if i < MOST_RECORDS {
-        return Marks { each, next: i + 1 };
-    }
-    Marks {
-        each,
-        next: MOST_RECORDS,
+fn mark(each: &mut [bool], j: usize) {
+    if let Some(own) = each.get_mut(j) {
+        *own = true;
     }
 }
 
-// A record that is told.
-fn mark(before: Marks, told: StaleRecord) -> Marks {
-    let stands = told.stands;
-    match stands {
-        Index::Missing => marked(before, MOST_RECORDS, told.place),
-        Index::At(j) => marked(before, j, told.place),
-    }
-}
-
-// The walk at its end.
-fn ended(before: Marks) -> Marks {
-    marked(before, MOST_RECORDS, MOST_RECORDS)
-}
-
-// The next record of a book that does not stand.
-fn mark_next(book: &[u8], joined: &[u8], before: Marks) -> Marks {
-    if MOST_RECORDS <= before.next {
-        return before;
-    }
-    let next = next_stale(book, joined, before.next);
-    match next {
-        NextStale::BadBooks(_, _) => ended(before),
-        NextStale::NoneLeft => ended(before),
-        NextStale::Next(told) => mark(before, told),
-    }
-}
-
-// All of them: as many steps as a book may have records.
-fn mark_book(book: &[u8], joined: &[u8], before: Marks) -> Marks {
-    let each = before.each;
-    let mut marks = Marks { each, next: 0 };
-    let mut left = MOST_RECORDS;
-    while 0 < left {
-        marks = mark_next(book, joined, marks);
-        left -= 1;
-    }
-    marks
-}
-
-// Those of the book that argument i names.
-fn mark_file(
-    terminal: &Terminal,
-    i: usize,
-    left: &mut [u8],
-    joined: &[u8],
-    before: Marks,
-) -> Marks {
+// The same of the book that argument i names.
+fn mark_file(terminal: &Terminal, i: usize, left: &mut [Mark], joined: &[u8], each: &mut [bool]) {
     let mut book = io::large_buffer();
-    let Held::Bytes(n) = take_book(terminal, i, left, &mut book) else {
-        return before;
-    };
-    mark_book(first(&book, n), joined, before)
+    if let Some(n) = take_book(terminal, i, left, &mut book) {
+        mark_book(first(&book, n), joined, each);
+    }
 }
 
-// A pass over the books that are named from argument `from` on.
-pub fn marks_of(terminal: &Terminal, from: usize, left: &mut [u8], joined: &[u8]) -> Marks {
-    let count = say::arguments(terminal);
-    let mut marks = no_marks();
-    let mut i = from;
-    while i < count {
-        marks = mark_file(terminal, i, left, joined, marks);
-        i += 1;
+// A pass over the books that are named from argument `from` on: which of the joined book's records are marked.
+pub fn marks_of(
+    terminal: &Terminal,
+    from: usize,
+    left: &mut [Mark],
+    joined: &[u8],
+) -> [bool; MOST_RECORDS] {
+    let mut each = [false; MOST_RECORDS];
+    for i in from..say::arguments(terminal) {
+        mark_file(terminal, i, left, joined, &mut each);
     }
-    marks
+    each
 }
 
 // Whether record j is marked.
-pub fn is_marked(marks: Marks, j: usize) -> bool {
-    let each = marks.each;
-    if j < MOST_RECORDS {
-        return each[j];
-    }
-    false
+pub fn is_marked(each: &[bool], j: usize) -> bool {
+    each.get(j).copied().unwrap_or(false)
 }

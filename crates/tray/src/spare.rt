@@ -1,19 +1,19 @@
 // Books that add nothing: gone through from the last to the first, one is listed where the others not yet listed give what stands against each of its calls.
-use crate::books::{LOST, SPARE, STAYS, join_others, leave, lost_at, mark_of, more, take_book};
-use clerk::args::{Held, first};
+use crate::books::{Mark, all_stay, join_others, leave, lost_at, mark_of, take_book};
+use clerk::args::first;
 use clerk::shelf::note_at;
 use drawer::nothing::adds_nothing;
 use node::{Node, node_of};
 use say::Terminal;
 
 // Whether the book that argument i names adds nothing to those that are not left out.
-fn is_spare(terminal: &Terminal, from: usize, i: usize, left: &mut [u8]) -> bool {
+fn is_spare(terminal: &Terminal, from: usize, i: usize, left: &mut [Mark]) -> bool {
     let mut book = io::large_buffer();
-    let Held::Bytes(m) = take_book(terminal, i, left, &mut book) else {
+    let Some(m) = take_book(terminal, i, left, &mut book) else {
         return false;
     };
     let mut all = io::large_buffer();
-    let n = join_others(terminal, from, i, left, &mut all);
+    let n = join_others(terminal, from, Some(i), left, &mut all);
     if n == 0 {
         return false;
     }
@@ -21,34 +21,32 @@ fn is_spare(terminal: &Terminal, from: usize, i: usize, left: &mut [u8]) -> bool
 }
 
 // Its turn: where it is listed, it is left out.
-fn spare_turn(terminal: &Terminal, from: usize, i: usize, left: &mut [u8]) {
+fn spare_turn(terminal: &Terminal, from: usize, i: usize, left: &mut [Mark]) {
     if is_spare(terminal, from, i, left) {
-        leave(left, i, SPARE);
+        leave(left, i, Mark::Spare);
     }
 }
 
 // The turns, from the last to the first.
-fn turn_back(terminal: &Terminal, from: usize, left: &mut [u8]) {
-    let mut i = say::arguments(terminal);
-    while from < i {
-        i -= 1;
+fn turn_back(terminal: &Terminal, from: usize, left: &mut [Mark]) {
+    for i in (from..say::arguments(terminal)).rev() {
         spare_turn(terminal, from, i, left);
     }
 }
 
 // What the system says of the file that argument i names. Of a book that was read, that it is not there is not known to be so: it is lost.
-fn node_at(terminal: &Terminal, i: usize, left: &mut [u8]) -> Node {
+fn node_at(terminal: &Terminal, i: usize, left: &mut [Mark]) -> Node {
     let mut name = io::buffer();
     let n = say::word(terminal, i, &mut name);
     let node = node_of(terminal.system(), &name[..n]);
-    if !node.there {
-        leave(left, i, LOST);
+    if !node.is_there() {
+        leave(left, i, Mark::Lost);
     }
     node
 }
 
 // Whether argument j names another book with this mark, and it is the same file as that of argument i.
-fn is_twin(terminal: &Terminal, i: usize, j: usize, mark: u8, left: &mut [u8]) -> bool {
+fn is_twin(terminal: &Terminal, i: usize, j: usize, mark: Mark, left: &mut [Mark]) -> bool {
     if (i == j) | (mark_of(left, j) != mark) {
         return false;
     }
@@ -57,27 +55,25 @@ fn is_twin(terminal: &Terminal, i: usize, j: usize, mark: u8, left: &mut [u8]) -
 }
 
 // Whether a book with this mark, named from argument `from` on, is the same file as that of argument i.
-fn has_twin(terminal: &Terminal, from: usize, i: usize, mark: u8, left: &mut [u8]) -> bool {
-    let count = say::arguments(terminal);
-    let mut j = from;
-    while j < count {
-        if is_twin(terminal, i, j, mark, left) {
-            return true;
-        }
-        j += 1;
-    }
-    false
+fn has_twin(terminal: &Terminal, from: usize, i: usize, mark: Mark, left: &mut [Mark]) -> bool {
+    (from..say::arguments(terminal)).any(|j| is_twin(terminal, i, j, mark, left))
 }
 
 // That the book of argument i, which is listed, adds nothing, and one more. Who names one file twice must not put it away where it stays by the other name; where neither
 // stays, it is told once. Nothing is told where a book is lost meanwhile.
-fn tell_listed(terminal: &Terminal, from: usize, i: usize, left: &mut [u8], spare: usize) -> usize {
-    if mark_of(left, i) != SPARE {
+fn tell_listed(
+    terminal: &Terminal,
+    from: usize,
+    i: usize,
+    left: &mut [Mark],
+    spare: usize,
+) -> usize {
+    if mark_of(left, i) != Mark::Spare {
         return spare;
     }
-    let stays = has_twin(terminal, from, i, STAYS, left);
-    let is_told = has_twin(terminal, more(i), i, SPARE, left);
-    if lost_at(terminal, from, left) != 0 {
+    let stays = has_twin(terminal, from, i, Mark::Stays, left);
+    let is_told = has_twin(terminal, i.saturating_add(1), i, Mark::Spare, left);
+    if lost_at(terminal, from, left).is_some() {
         return spare;
     }
     if stays {
@@ -86,38 +82,35 @@ fn tell_listed(terminal: &Terminal, from: usize, i: usize, left: &mut [u8], spar
             i,
             b"is the same file as another book that is named: keep it",
         );
-        return more(spare);
+        return spare.saturating_add(1);
     }
     if is_told {
         return spare;
     }
     note_at(terminal, i, b"adds nothing to the other books that stay");
-    more(spare)
+    spare.saturating_add(1)
 }
 
 // All that are listed, from the last to the first: how many are told.
-fn tell_back(terminal: &Terminal, from: usize, left: &mut [u8]) -> usize {
+fn tell_back(terminal: &Terminal, from: usize, left: &mut [Mark]) -> usize {
     let mut spare: usize = 0;
-    let mut i = say::arguments(terminal);
-    while from < i {
-        i -= 1;
+    for i in (from..say::arguments(terminal)).rev() {
         spare = tell_listed(terminal, from, i, left, spare);
     }
     spare
 }
 
 // How many of the books that are named from argument `from` on and not left out add nothing. Where one is lost meanwhile, that is marked.
-pub fn tell_spare(terminal: &Terminal, from: usize, left: &mut [u8]) -> usize {
-    let mut listed = io::large_buffer();
+pub fn tell_spare(terminal: &Terminal, from: usize, left: &mut [Mark]) -> usize {
+    let mut listed = all_stay();
     if listed.len() < left.len() {
         return 0;
     }
-    node::copy(left, &mut listed);
+    listed[..left.len()].copy_from_slice(left);
     turn_back(terminal, from, &mut listed);
     let spare = tell_back(terminal, from, &mut listed);
-    let lost = lost_at(terminal, from, &listed);
-    if lost != 0 {
-        leave(left, lost, LOST);
+    if let Some(lost) = lost_at(terminal, from, &listed) {
+        leave(left, lost, Mark::Lost);
     }
     spare
 }

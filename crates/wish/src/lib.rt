@@ -6,7 +6,7 @@ ghost use Rattle.wish.specs.Wish.{old_in, verdict, over, higher};
 
 use book::{call_of, check};
 use call::{Call, WITHDRAWN};
-use lookup::{Index, index_of, key_of};
+use lookup::{index_of, key_of};
 
 // A call is entered, revised or withdrawn.
 #[derive(Clone, Copy)]
@@ -16,64 +16,54 @@ pub enum Wish {
     Withdraw,
 }
 
-// What a book has under the call's key.
+// Why a wish does not change the book: the number is in use, this revision is as high, the call is withdrawn.
 #[derive(Clone, Copy)]
-pub enum Old {
-    Missing,
-    Stands(Call),
-}
-
-// Whether the wish changes the book; where not, why: the number is in use, this revision is as high, the call is withdrawn.
-#[derive(Clone, Copy)]
-pub enum Verdict {
-    Changes,
+pub enum Unchanged {
     InUse,
     NotHigher(u32),
     Withdrawn,
 }
 
 // What a book has for a member's call number; one that is not sound has nothing.
-pub fn old_in(book: &[u8], member: u16, number: u32) -> Old
+pub fn old_in(book: &[u8], member: u16, number: u32) -> Option<Call>
     ensures { result ≡ old_in book.now member number }
 {
     let v = check(book);
     if v.number != 0 {
-        return Old::Missing;
+        return None;
     }
-    match index_of(key_of(member, number), book) {
-        Index::Missing => Old::Missing,
-        Index::At(i) => Old::Stands(call_of(book, i)),
-    }
+    let i = index_of(key_of(member, number), book)?;
+    Some(call_of(book, i))
 }
 
-// What becomes of a wish for x, by what the book has.
-pub fn verdict_of(wish: Wish, x: Call, old: Old) -> Verdict
+// Whether a wish for x changes the book, by what the book has; where not, why.
+pub fn verdict_of(wish: Wish, x: Call, old: Option<Call>) -> Result<(), Unchanged>
     ensures { result ≡ verdict wish x old }
 {
     match old {
-        Old::Missing => Verdict::Changes,
-        Old::Stands(y) => over(wish, x, y),
+        None => Ok(()),
+        Some(y) => over(wish, x, y),
     }
 }
 
-fn over(wish: Wish, x: Call, y: Call) -> Verdict
+fn over(wish: Wish, x: Call, y: Call) -> Result<(), Unchanged>
     ensures { result ≡ over wish x y }
 {
     if y.state == WITHDRAWN {
-        return Verdict::Withdrawn;
+        return Err(Unchanged::Withdrawn);
     }
     match wish {
-        Wish::Enter => Verdict::InUse,
+        Wish::Enter => Err(Unchanged::InUse),
         Wish::Revise => higher(x, y),
-        Wish::Withdraw => Verdict::Changes,
+        Wish::Withdraw => Ok(()),
     }
 }
 
-fn higher(x: Call, y: Call) -> Verdict
+fn higher(x: Call, y: Call) -> Result<(), Unchanged>
     ensures { result ≡ higher x y }
 {
     if y.revision < x.revision {
-        return Verdict::Changes;
+        return Ok(());
     }
-    Verdict::NotHigher(y.revision)
+    Err(Unchanged::NotHigher(y.revision))
 }

@@ -41,42 +41,35 @@ fn tell_only(terminal: &Terminal, name: &[u8], book: &[u8]) {
     }
 }
 
-fn two(terminal: &Terminal, name: &[u8], x: Call, y: Call) {
-    let mut first = [0u8; 48];
-    let mut out = [0u8; 48];
-    write_one(january(), x, &mut first);
-    joined(&first, y, &mut out);
-    tell_only(terminal, name, &out);
-}
-
-fn three(terminal: &Terminal, name: &[u8], x: Call, y: Call, z: Call) {
-    let mut first = [0u8; 48];
-    let mut second = [0u8; 48];
-    let mut out = [0u8; 48];
-    write_one(january(), x, &mut first);
-    joined(&first, y, &mut second);
-    joined(&second, z, &mut out);
-    tell_only(terminal, name, &out);
+// The only call of a book of one that is joined with books of one in turn.
+fn in_turn(terminal: &Terminal, name: &[u8], first: Call, others: &[Call]) {
+    let mut book = [0u8; 48];
+    write_one(january(), first, &mut book);
+    for x in others {
+        let mut out = [0u8; 48];
+        joined(&book, *x, &mut out);
+        book = out;
+    }
+    tell_only(terminal, name, &book);
 }
 
 pub fn all(terminal: &Terminal) {
-    two(
+    in_turn(
         terminal,
         b"withdrawn at 2 and live at 7",
         live(2, 300).withdrawn(),
-        live(7, 300),
+        &[live(7, 300)],
     );
-    two(
+    in_turn(
         terminal,
         b"two unequal live at 3",
         live(3, 300),
-        live(3, 240),
+        &[live(3, 240)],
     );
-    three(
+    in_turn(
         terminal,
         b"those two and a live at 4",
         live(3, 300),
-        live(3, 240),
-        live(4, 180),
+        &[live(3, 240), live(4, 180)],
     );
 }

@@ -72,92 +72,54 @@ pub fn windows(terminal: &Terminal) {
     );
     let coal = member(1, Kw(300_000));
     let reserve = live(1, RESERVE, 15, 300_000, 0);
-    one(
-        terminal,
-        b"coal 300000, reserve at 209999",
-        coal,
-        Kw(209_999),
-        reserve,
-    );
-    one(
-        terminal,
-        b"coal 300000, reserve at 210000",
-        coal,
-        Kw(210_000),
-        reserve,
-    );
-    one(
-        terminal,
-        b"coal 300000, reserve at 210001",
-        coal,
-        Kw(210_001),
-        reserve,
-    );
+    for (name, output) in [
+        (b"coal 300000, reserve at 209999", Kw(209_999)),
+        (b"coal 300000, reserve at 210000", Kw(210_000)),
+        (b"coal 300000, reserve at 210001", Kw(210_001)),
+    ] {
+        one(terminal, name, coal, output, reserve);
+    }
 }
 
 pub fn rates(terminal: &Terminal) {
     let coal = member(1, Kw(300_000));
-    one(
-        terminal,
-        b"coal 300000, start-stop 4320",
-        coal,
-        Kw(0),
-        live(1, START_STOP, 4_320, 0, 0),
-    );
-    one(
-        terminal,
-        b"coal 300000, start-stop 4321",
-        coal,
-        Kw(0),
-        live(1, START_STOP, 4_321, 0, 0),
-    );
+    for (name, minutes) in [
+        (b"coal 300000, start-stop 4320", 4_320),
+        (b"coal 300000, start-stop 4321", 4_321),
+    ] {
+        one(
+            terminal,
+            name,
+            coal,
+            Kw(0),
+            live(1, START_STOP, minutes, 0, 0),
+        );
+    }
     let black_start = live(1, BLACK_START, 0, 0, 0);
-    one(
-        terminal,
-        b"hydro 3000000, black start",
-        member(3, Kw(3_000_000)),
-        Kw(0),
-        black_start,
-    );
-    one(
-        terminal,
-        b"hydro 3000001, black start",
-        member(3, Kw(3_000_001)),
-        Kw(0),
-        black_start,
-    );
+    for (name, rated) in [
+        (b"hydro 3000000, black start", Kw(3_000_000)),
+        (b"hydro 3000001, black start", Kw(3_000_001)),
+    ] {
+        one(terminal, name, member(3, rated), Kw(0), black_start);
+    }
 }
 
 pub fn wind(terminal: &Terminal) {
     let wind = member(4, Kw(100_000));
-    one(
-        terminal,
-        b"wind 7999",
-        wind,
-        Kw(0),
-        live(1, FREQUENCY_EVENT, 0, 0, 7_999),
-    );
-    one(
-        terminal,
-        b"wind 8000",
-        wind,
-        Kw(0),
-        live(1, FREQUENCY_EVENT, 0, 0, 8_000),
-    );
-    one(
-        terminal,
-        b"wind 8999",
-        wind,
-        Kw(0),
-        live(1, FREQUENCY_EVENT, 0, 0, 8_999),
-    );
-    one(
-        terminal,
-        b"wind 9000",
-        wind,
-        Kw(0),
-        live(1, FREQUENCY_EVENT, 0, 0, 9_000),
-    );
+    for (name, b) in [
+        (b"wind 7999", 7_999),
+        (b"wind 8000", 8_000),
+        (b"wind 8999", 8_999),
+        (b"wind 9000", 9_000),
+    ] {
+        one(
+            terminal,
+            name,
+            wind,
+            Kw(0),
+            live(1, FREQUENCY_EVENT, 0, 0, b),
+        );
+    }
 }
 
 pub fn events(terminal: &Terminal) {

@@ -1,5 +1,8 @@
 // Grains to fen, and the sharing sums.
+ghost use Rattle.std.specs.Prelude.{◌≤◌};
+
 use say::Terminal;
+use share::array::blank_lines;
 use share::{Line, Shared, share};
 use units::{Fen, Grains, Mwh, SignedFen, Thousandths};
 
@@ -54,54 +57,47 @@ fn tell_user(terminal: &Terminal, s: Shared) {
     say::text(terminal, b"\n");
 }
 
-// The sharing of three lines, and none behind them counts: R, then number, share and amount of each, then the user's amount.
-fn three(terminal: &Terminal, name: &[u8], part: u32, a: Line, b: Line, c: Line) {
-    let mut lines = [a; 64];
-    lines[1] = b;
-    lines[2] = c;
-    let s = share(part, lines, 3);
+// The sharing of so many lines, and none behind them counts: R, then number, share and amount of each, then the user's amount.
+fn shared<const N: usize>(terminal: &Terminal, name: &[u8], part: u32, given: [Line; N])
+    requires { N ≤ 64 }
+{
+    let mut lines = blank_lines();
+    lines[..N].copy_from_slice(&given);
+    let s = share(part, lines, N);
     tell_head(terminal, name, s);
     if s.number == 0 {
-        let filled = s.lines;
-        tell_line(terminal, filled[0]);
-        tell_line(terminal, filled[1]);
-        tell_line(terminal, filled[2]);
-    }
-    tell_user(terminal, s);
-}
-
-// The sharing of one line.
-fn alone(terminal: &Terminal, name: &[u8], part: u32, a: Line) {
-    let s = share(part, [a; 64], 1);
-    tell_head(terminal, name, s);
-    if s.number == 0 {
-        let filled = s.lines;
-        tell_line(terminal, filled[0]);
+        for l in &s.lines[..N] {
+            tell_line(terminal, *l);
+        }
     }
     tell_user(terminal, s);
 }
 
 // Compensation 100 fen, no assessment, three equal energies above zero at status 0.
 pub fn three_equal(terminal: &Terminal) {
-    three(
+    shared(
         terminal,
         b"100 fen over three",
         10_000,
-        line(1, 0, Mwh(500), Fen(100), Thousandths(0)),
-        line(2, 0, Mwh(500), Fen(0), Thousandths(0)),
-        line(3, 0, Mwh(500), Fen(0), Thousandths(0)),
+        [
+            line(1, 0, Mwh(500), Fen(100), Thousandths(0)),
+            line(2, 0, Mwh(500), Fen(0), Thousandths(0)),
+            line(3, 0, Mwh(500), Fen(0), Thousandths(0)),
+        ],
     );
 }
 
 // The lines that the program `statement` is shown with, with a part for the generators.
 fn sample(terminal: &Terminal, name: &[u8], part: u32) {
-    three(
+    shared(
         terminal,
         name,
         part,
-        line(1, 0, Mwh(100), Fen(300_000), Thousandths(0)),
-        line(2, 0, Mwh(200), Fen(0), Thousandths(1_000)),
-        line(3, 2, Mwh(50), Fen(0), Thousandths(0)),
+        [
+            line(1, 0, Mwh(100), Fen(300_000), Thousandths(0)),
+            line(2, 0, Mwh(200), Fen(0), Thousandths(1_000)),
+            line(3, 2, Mwh(50), Fen(0), Thousandths(0)),
+        ],
     );
 }
 
@@ -115,22 +111,22 @@ pub fn parts(terminal: &Terminal) {
     sample(terminal, b"statement, part 3333", 3_333);
     sample(terminal, b"statement, part 0", 0);
     sample(terminal, b"statement, part 10001", 10_001);
-    alone(
+    shared(
         terminal,
         b"200001 fen, part 5000",
         5_000,
-        line(1, 0, Mwh(100), Fen(200_001), Thousandths(0)),
+        [line(1, 0, Mwh(100), Fen(200_001), Thousandths(0))],
     );
-    alone(
+    shared(
         terminal,
         b"9999 fen without energy, part 1",
         1,
-        line(1, 0, Mwh(0), Fen(9_999), Thousandths(0)),
+        [line(1, 0, Mwh(0), Fen(9_999), Thousandths(0))],
     );
-    alone(
+    shared(
         terminal,
         b"10000 fen without energy, part 1",
         1,
-        line(1, 0, Mwh(0), Fen(10_000), Thousandths(0)),
+        [line(1, 0, Mwh(0), Fen(10_000), Thousandths(0))],
     );
 }

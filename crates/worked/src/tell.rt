@@ -20,8 +20,7 @@ pub fn score(terminal: &Terminal, name: &[u8], s: Score) {
 }
 
 fn state(terminal: &Terminal, x: Call) {
-    let state = x.state;
-    match state {
+    match x.state {
         LIVE => say::text(terminal, b": live at "),
         CONTESTED => say::text(terminal, b": contested at "),
         WITHDRAWN => say::text(terminal, b": withdrawn at "),

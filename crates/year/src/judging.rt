@@ -1,5 +1,5 @@
 // A monthly statement, judged by itself: its month, the user's amount, its lines in turn, and that all amounts add up to zero.
-ghost use Rattle.std.specs.Prelude.{◌≡◌, true, ◌&&◌, ◌≤◌, take};
+ghost use Rattle.std.specs.Prelude.{◌≡◌, true, ◌&&◌, ◌≤◌, length};
 ghost use Rattle.year.specs.Year.{most_members, is_within, year_line_is_sound, lines_are_sound, adds_to_zero, date_is_sound, statement_is_sound};
 
 use crate::member::added;
@@ -29,30 +29,27 @@ fn year_line_is_sound(l: YearLine, before: u16) -> bool
     let share = l.share;
     let amount = l.amount;
     (before < l.number)
-        & (l.number as u64 <= MOST_NUMBER)
+        & (u64::from(l.number) <= MOST_NUMBER)
         & (l.compensation.0 <= MOST_COMPENSATION)
-        & (l.assessment.0 as u64 <= MOST_ASSESSMENT)
+        & (u64::from(l.assessment.0) <= MOST_ASSESSMENT)
         & is_within(share)
         & is_within(amount)
 }
 
-// Whether the first lines are sound in turn, and their amounts and the user's add up to zero.
-fn lines_add_up(lines: [YearLine; MOST_MEMBERS], count: usize, user: SignedFen) -> bool
-    requires count_le_most_members { count ≤ most_members }
+// Whether lines are sound in turn, and their amounts and the user's add up to zero.
+fn lines_add_up(lines: &[YearLine], user: SignedFen) -> bool
+    requires few { length lines.now ≤ most_members }
     requires user_value { is_within user.0 ≡ true }
-    ensures { result ≡ (lines_are_sound 0 (take count lines) && adds_to_zero (take count lines) user.0) }
+    ensures { result ≡ (lines_are_sound 0 lines.now && adds_to_zero lines.now user.0) }
 {
     let mut before: u16 = 0;
     let mut sum = SignedFen(0);
-    let mut i: usize = 0;
-    while i < count {
-        let l = lines[i];
-        if !year_line_is_sound(l, before) {
+    for line in lines {
+        if !year_line_is_sound(*line, before) {
             return false;
         }
-        before = l.number;
-        sum = added(sum, l.amount);
-        i += 1;
+        before = line.number;
+        sum = added(sum, line.amount);
     }
     let all = added(sum, user);
     all.0 == 0
@@ -81,5 +78,5 @@ pub fn statement_is_sound(s: MonthStatement) -> bool
         return false;
     }
     let lines = s.lines;
-    lines_add_up(lines, count, user)
+    lines_add_up(&lines[..count], user)
 }

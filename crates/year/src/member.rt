@@ -1,5 +1,5 @@
 // A member's year, and a month's lines added to the members.
-ghost use Rattle.std.specs.Prelude.{◌≡◌, true, false, ◌-◌, ◌≤◌, nat_abs, ◌+ℤ◌, take, set, replicate};
+ghost use Rattle.std.specs.Prelude.{◌≡◌, true, false, ◌-◌, ◌≤◌, nat_abs, ◌+ℤ◌, set, replicate};
 ghost use Rattle.share.specs.Sharing.{most_compensation, most_assessment};
 ghost use Rattle.year.specs.Year.{most_members, most_either_way, lines_are_sound, no_months};
 ghost use Rattle.year.specs.Verdict.{LineFits, IsMonth};
@@ -19,6 +19,7 @@ const MOST_YEAR_SIGNED: i64 = 2_400_000_000_000;
 const LEAST_YEAR_SIGNED: i64 = -2_400_000_000_000;
 
 // A sum, and a month's number more. A sum past all that twelve statements can come to comes from no statements, and stays as it is.
+// Stays two functions: fen and thousandths have a bound, a width and a definition (specs/Every.antt) each, and a trait that holds the three would be longer than both
 fn fen_plus(a: Fen, b: Fen) -> Fen
     requires { b.0 ≤ most_compensation }
     ensures { result.0 ≡ fen_plus a.0 b.0 }
@@ -97,8 +98,7 @@ fn with_month(mut months: [bool; MOST_STATEMENTS], month: u8) -> [bool; MOST_STA
     requires { IsMonth month }
     ensures { result ≡ set months (month - 1) true }
 {
-    let at = (month - 1) as usize;
-    months[at] = true;
+    months[usize::from(month) - 1] = true;
     months
 }
 
@@ -144,26 +144,20 @@ pub fn no_members() -> [MemberYear; MOST_MEMBERS]
     [none; MOST_MEMBERS]
 }
 
-// The members after the first lines of a month.
+// The members after the lines of a month.
 pub fn with_lines(
-    members: [MemberYear; MOST_MEMBERS],
+    mut members: [MemberYear; MOST_MEMBERS],
     month: u8,
-    lines: [YearLine; MOST_MEMBERS],
-    count: usize,
+    lines: &[YearLine],
 ) -> [MemberYear; MOST_MEMBERS]
     requires month { IsMonth month }
-    requires count_le_most_members { count ≤ most_members }
-    requires lines_value { lines_are_sound 0 (take count lines) ≡ true }
-    ensures { result ≡ with_lines members month (take count lines) }
+    requires lines_value { lines_are_sound 0 lines.now ≡ true }
+    ensures { result ≡ with_lines members month lines.now }
 {
-    let mut out = members;
-    let mut i: usize = 0;
-    while i < count {
-        let l = lines[i];
-        let at = (l.number - 1) as usize;
-        let m = out[at];
-        out[at] = member_with(m, month, l);
-        i += 1;
+    for line in lines {
+        let at = usize::from(line.number) - 1;
+        let m = members[at];
+        members[at] = member_with(m, month, *line);
     }
-    out
+    members
 }

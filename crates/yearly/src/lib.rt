@@ -2,7 +2,7 @@
 #![tactic(auto)]
 
 use annual::year_text;
-use clerk::args::{Held, first};
+use clerk::args::first;
 use clerk::print;
 use clerk::shelf::{load_at, note_at, refused_at};
 use intake::Intake;
@@ -12,72 +12,45 @@ use say::Terminal;
 // The argument that names the first statement.
 const STATEMENTS: usize = 2;
 
-// The statements so far, and whether there is no more to say of them: one could not be read, or was refused, and that was told.
-#[derive(Clone, Copy)]
-struct Run {
-    intake: Intake,
-    over: bool,
-}
-
 // Why the statement that argument i names is not taken behind those before it, in words, and its refusal.
 fn tell_reason(terminal: &Terminal, i: usize, before: Intake, text: &[u8], place: usize) {
     let year = before.year;
-    let reason = before.reason(text);
     let mut why = io::buffer();
-    let n = reason_text(before.area, year.year, year.month, reason, &mut why);
+    let n = match before.reason(text) {
+        Some(reason) => reason_text(before.area, year.year, year.month, reason, &mut why),
+        None => 0,
+    };
     note_at(terminal, i, first(&why, n));
     refused_at(terminal, 10, place, i);
 }
 
-// The statement that argument i names, behind those before it.
-fn next(terminal: &Terminal, i: usize, run: Run) -> Run {
-    let before = run.intake;
-    let stopped = Run {
-        intake: before,
-        over: true,
-    };
-    if run.over {
-        return run;
-    }
+// The statement that argument i names, behind those before it; none where it could not be read or was refused, and that was told.
+fn next(terminal: &Terminal, i: usize, before: Intake) -> Option<Intake> {
     let mut text = io::large_buffer();
-    let Held::Bytes(n) = load_at(terminal, i, &mut text) else {
-        return stopped;
-    };
+    let n = load_at(terminal, i, &mut text)?;
     let intake = before.with(first(&text, n));
     let year = intake.year;
     if year.number != 0 {
         tell_reason(terminal, i, before, first(&text, n), year.place);
-        return stopped;
+        return None;
     }
-    Run {
-        intake,
-        over: false,
-    }
+    Some(intake)
 }
 
-// All statements that are named.
-fn take_all(terminal: &Terminal) -> Run {
-    let count = say::arguments(terminal);
-    let intake = Intake::start();
-    let mut run = Run {
-        intake,
-        over: false,
-    };
-    let mut i = STATEMENTS;
-    while i < count {
-        run = next(terminal, i, run);
-        i += 1;
+// All statements that are named; none where there is no more to say of them.
+fn take_all(terminal: &Terminal) -> Option<Intake> {
+    let mut intake = Intake::start();
+    for i in STATEMENTS..say::arguments(terminal) {
+        intake = next(terminal, i, intake)?;
     }
-    run
+    Some(intake)
 }
 
 // The year of the statements that the arguments name.
 pub fn tell_year(terminal: &Terminal) {
-    let run = take_all(terminal);
-    if run.over {
+    let Some(taken) = take_all(terminal) else {
         return;
-    }
-    let taken = run.intake;
+    };
     let year = taken.year;
     let mut text = io::large_buffer();
     let n = year_text(taken.area, year, &mut text);

@@ -32,9 +32,10 @@ pub returns : goal.returns
 unfolding member_values
 returns c =
     let a = c.args in
+    let m = a.m.now in
     let e = c.to_fen-charged.ensures in
     let s = c.fen_bits-share.ensures in
     let t = c.fen_bits-amount.ensures in
     let l = c.fen_bits-most.ensures in
     ap (λ (vs : List ℕ). a.number ∷ vs)
-    ((λ i. twelve a.m.months (a.m.sums.compensation.0 ∷ e i ∷ s i ∷ t i ∷ l i ∷ a.m.largest.month ∷ [])) ∙ months-are a.m.months _)
+    ((λ i. twelve m.months (m.sums.compensation.0 ∷ e i ∷ s i ∷ t i ∷ l i ∷ m.largest.month ∷ [])) ∙ months-are m.months _)

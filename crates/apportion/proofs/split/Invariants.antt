@@ -1,5 +1,4 @@
 use mathlib.Core.Path.{◌≡◌}
-use Prim.Native.Nat.{◌-◌, ◌≤◌}
 use lib.ListN.{length}
 use Rattle.apportion.proofs.Loops.{over}
 use Rattle.apportion.specs.Apportion.{rounded_down, remainders}
@@ -7,8 +6,5 @@ use Rattle.apportion.proofs.split.Given as goal
 
 abbrev pub invariant-loop-i : goal.invariant-loop-i
 invariant-loop-i l =
-    (l.i ≤ length l.weights) × (l.shares ≡ over l.initial.shares (rounded_down l.amount l.all l.weights) l.i) × (l.rests ≡ over l.initial.rests (remainders l.amount l.all l.weights) l.i)
+    (l.shares ≡ over l.initial.shares (rounded_down l.amount l.all l.weights) l.i) × (l.rests ≡ over l.initial.rests (remainders l.amount l.all l.weights) l.i)
     × (length l.shares ≡ length l.weights) × (length l.rests ≡ length l.weights)
-
-abbrev pub decreases-loop-i : goal.decreases-loop-i
-decreases-loop-i l = length l.weights - l.i

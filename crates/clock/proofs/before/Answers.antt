@@ -1,10 +1,8 @@
-use mathlib.Core.Path.{◌∙◌, ap}
-use Prim.Native.Nat.{ℕ}
-use lib.ListN.{take}
-use Rattle.clock.proofs.Parts.{take_before}
+use Rattle.clock.proofs.Parts.{cut_before, all_before}
 use Rattle.clock.proofs.before.Goals as goal
 
-pub returns : goal.returns
-returns c =
-    let a = c.args in
-    ap (λ (n : ℕ). take n a.text.now) c.mark_at-n.ensures.value ∙ take_before a.mark a.text.now
+pub returns-in-Some : goal.returns-in-Some
+returns-in-Some c = let a = c.args in cut_before a.mark a.text.now c.in-Some.n c.in-Some.ensures
+
+pub returns-in-None : goal.returns-in-None
+returns-in-None c = let a = c.args in all_before a.mark a.text.now c.in-None.ensures

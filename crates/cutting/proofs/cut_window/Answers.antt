@@ -1,5 +1,6 @@
 use mathlib.Core.Path.{sym, ◌∙◌, ap}
 use native.Mathlib.Omega.{arith}
+use Rattle.std.specs.Prelude.{Ok}
 use Rattle.cutting.specs.Cutting.{cut_new}
 use Rattle.cutting.specs.Outcomes.{Inside}
 use Rattle.cutting.proofs.Cases.{of_highest, of_outside, of_inside, of_free, of_used, inside_is}
@@ -18,11 +19,11 @@ in_two-requires c =
     let i = inside in
     record { revision_bound = omega (arith, c.if-x-ge-HIGHEST.false); start_lt_at = (i.behind, i.before) }
 
-pub returns-in-Missing : goal.returns-in-Missing
-returns-in-Missing c =
-    c.in_two.ensures
-    ∙ sym (of_inside _ _ _ _ c.if-x-ge-HIGHEST.false (sym c.is_inside.ensures ∙ c.if-not-is_inside.false) ∙ ap (cut_new _ _ _) c.in-Missing.is ∙ of_free _ _ _)
+pub returns-in-None : goal.returns-in-None
+returns-in-None c =
+    ap Ok c.in_two.ensures
+    ∙ sym (of_inside _ _ _ _ c.if-x-ge-HIGHEST.false (sym c.is_inside.ensures ∙ c.if-not-is_inside.false) ∙ ap (cut_new _ _ _) c.in-None.is ∙ of_free _ _ _)
 
-pub returns-in-Stands : goal.returns-in-Stands
-returns-in-Stands c =
-    sym (of_inside _ _ _ _ c.if-x-ge-HIGHEST.false (sym c.is_inside.ensures ∙ c.if-not-is_inside.false) ∙ ap (cut_new _ _ _) c.in-Stands.is ∙ of_used _ _ _ _)
+pub returns-in-Some : goal.returns-in-Some
+returns-in-Some c =
+    sym (of_inside _ _ _ _ c.if-x-ge-HIGHEST.false (sym c.is_inside.ensures ∙ c.if-not-is_inside.false) ∙ ap (cut_new _ _ _) c.in-Some.is ∙ of_used _ _ _ _)

@@ -68,4 +68,4 @@ returns c =
     let found = c.parts_before-found.ensures in
     let whole = ap (parts_before a.member a.book.now a.series.now) n ∙ sym (parts_are a.member a.book.now a.series.now) in
     let wh = found.energy ∙ ap (total_z (wh_at a.member (record_at a.book.now))) n in
-    same a.added (found.count ∙ ap length whole) wh (c.month_pay-energy.ensures ∙ zero-add _ ∙ ap energy_pay wh) c.plus-all.ensures (found.parts ∙ ap filled_up whole)
+    same a.added (found.count ∙ ap length whole) wh (c.month_pay.ensures ∙ zero-add _ ∙ ap energy_pay wh) c.plus.ensures (found.parts ∙ ap filled_up whole)

@@ -1,15 +1,14 @@
-use mathlib.Core.Path.{◌∙◌}
 use borrow.Author.Rules.{rules}
 use Rattle.field.proofs.Told.{no_late, no_short, as_told_lem}
 use Rattle.field.proofs.bad_record.Goals as goal
 
 pub returns-then-i-ge-MOST_RECORDS : goal.returns-then-i-ge-MOST_RECORDS
-returns-then-i-ge-MOST_RECORDS c = c.no_record.ensures ∙ no_late _ _ c.if-i-ge-MOST_RECORDS.true
+returns-then-i-ge-MOST_RECORDS c = no_late _ _ c.if-i-ge-MOST_RECORDS.true
 
 pub returns-then-b-at : goal.returns-then-b-at
 returns-then-b-at c =
     let short = c.if-b-at.true in
-    c.no_record-then-b-at.ensures ∙ no_short _ _ c.if-i-ge-MOST_RECORDS.false (search rules)
+    no_short _ _ c.if-i-ge-MOST_RECORDS.false (search rules)
 
 pub returns : goal.returns
 returns c =

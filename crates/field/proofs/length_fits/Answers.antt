@@ -4,4 +4,4 @@ use Rattle.field.proofs.length_fits.Goals as goal
 
 pub returns : goal.returns
 unfolding length_fits
-returns c = refl
+returns c = rw (c.from.ensures, c.from-2.ensures) refl

@@ -6,47 +6,47 @@ use Rattle.field.proofs.limits_of.Goals as goal
 
 pub returns-in-0 : goal.returns-in-0
 unfolding limits_of table
-returns-in-0 c = rw (c.row.ensures, c.in-0.is) refl
+returns-in-0 c = rw c.in-0.is refl
 
 pub returns-in-1 : goal.returns-in-1
 unfolding limits_of table
-returns-in-1 c = rw (c.row-in-1.ensures, c.in-1.is) refl
+returns-in-1 c = rw c.in-1.is refl
 
 pub returns-in-2 : goal.returns-in-2
 unfolding limits_of table
-returns-in-2 c = rw (c.row-in-2.ensures, c.in-2.is) refl
+returns-in-2 c = rw c.in-2.is refl
 
 pub returns-in-3 : goal.returns-in-3
 unfolding limits_of table
-returns-in-3 c = rw (c.row-in-3.ensures, c.in-3.is) refl
+returns-in-3 c = rw c.in-3.is refl
 
 pub returns-in-4 : goal.returns-in-4
 unfolding limits_of table
-returns-in-4 c = rw (c.row-in-4.ensures, c.in-4.is) refl
+returns-in-4 c = rw c.in-4.is refl
 
 pub returns-in-5 : goal.returns-in-5
 unfolding limits_of table
-returns-in-5 c = rw (c.row-in-5.ensures, c.in-5.is) refl
+returns-in-5 c = rw c.in-5.is refl
 
 pub returns-in-6 : goal.returns-in-6
 unfolding limits_of table
-returns-in-6 c = rw (c.row-in-6.ensures, c.in-6.is) refl
+returns-in-6 c = rw c.in-6.is refl
 
 pub returns-in-7 : goal.returns-in-7
 unfolding limits_of table
-returns-in-7 c = rw (c.row-in-7.ensures, c.in-7.is) refl
+returns-in-7 c = rw c.in-7.is refl
 
 pub returns-in-8 : goal.returns-in-8
 unfolding limits_of table
-returns-in-8 c = rw (c.row-in-8.ensures, c.in-8.is) refl
+returns-in-8 c = rw c.in-8.is refl
 
 pub returns-in-9 : goal.returns-in-9
 unfolding limits_of table
-returns-in-9 c = rw (c.row-in-9.ensures, c.in-9.is) refl
+returns-in-9 c = rw c.in-9.is refl
 
 pub returns-in-10 : goal.returns-in-10
 unfolding limits_of table
-returns-in-10 c = rw (c.row-in-10.ensures, c.in-10.is) refl
+returns-in-10 c = rw c.in-10.is refl
 
 pub returns-in_default : goal.returns-in_default
 returns-in_default c =
@@ -54,4 +54,4 @@ returns-in_default c =
     let upTo5 = next (next (next (next (next (next zero-le not.0.0.0.0.0.0.0.0.0.0.1) not.0.0.0.0.0.0.0.0.0.1) not.0.0.0.0.0.0.0.0.1) not.0.0.0.0.0.0.0.1)
     not.0.0.0.0.0.0.1) not.0.0.0.0.0.1 in
     let past = next (next (next (next (next upTo5 not.0.0.0.0.1) not.0.0.0.1) not.0.0.1) not.0.1) not.1 in
-    rw (c.row-in_default.ensures, no_service _ past) refl
+    rw (no_service _ past) refl

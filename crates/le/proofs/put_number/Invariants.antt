@@ -1,5 +1,5 @@
 use mathlib.Core.Path.{◌≡◌}
-use Prim.Native.Nat.{◌+◌, ◌-◌, ◌≤◌}
+use Prim.Native.Nat.{◌+◌, ◌-◌}
 use lib.ListN.{length}
 use lib.Seq.{sets}
 use Rattle.le.specs.Le.{le_bytes}
@@ -7,7 +7,4 @@ use Rattle.le.proofs.put_number.Given as goal
 
 abbrev pub invariant-loop-k : goal.invariant-loop-k
 invariant-loop-k l =
-    (l.k ≤ l.width) × (length l.s ≡ length l.initial.s) × (sets l.s (l.at + l.k) (le_bytes (l.width - l.k) l.rest) ≡ sets l.initial.s l.at (le_bytes l.width l.v))
-
-abbrev pub decreases-loop-k : goal.decreases-loop-k
-decreases-loop-k l = l.width - l.k
+    (length l.s ≡ length l.initial.s) × (sets l.s (l.at + l.k) (le_bytes (l.width - l.k) l.rest) ≡ sets l.initial.s l.at (le_bytes l.width l.v))

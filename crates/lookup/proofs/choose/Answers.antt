@@ -11,45 +11,45 @@ use Rattle.lookup.proofs.choose.Goals as goal
 
 pub place_of-requires : goal.place_of-requires
 place_of-requires c =
-    let in_first : c.in-At.p < count_at c.args.first.now =
-    rw c.in-At.is at c.requires.has_index in
+    let in_first : c.in-Some-Some.p < count_at c.args.first.now =
+    rw c.in-Some-Some.is-0 at c.requires.has_index in
     in_word _ (fits _ _ c.requires.accepted in_first).0
 
-pub place_of-requires-in-At-j-2 : goal.place_of-requires-in-At-j-2
-place_of-requires-in-At-j-2 c =
-    let in_second : c.in-At-j-2.q < count_at c.args.second.now =
-    rw c.in-At-j-2.is at c.requires.has_index_2 in
+pub place_of-requires-in-Some-Some : goal.place_of-requires-in-Some-Some
+place_of-requires-in-Some-Some c =
+    let in_second : c.in-Some-Some.q < count_at c.args.second.now =
+    rw c.in-Some-Some.is-1 at c.requires.has_index_2 in
     in_word _ (fits _ _ c.requires.accepted_2 in_second).0
 
 pub decide_at-requires : goal.decide_at-requires
 decide_at-requires c =
-    let in_first : c.in-At.p < count_at c.args.first.now =
-    rw c.in-At.is at c.requires.has_index in
-    let in_second : c.in-At-j-2.q < count_at c.args.second.now =
-    rw c.in-At-j-2.is at c.requires.has_index_2 in
+    let in_first : c.in-Some-Some.p < count_at c.args.first.now =
+    rw c.in-Some-Some.is-0 at c.requires.has_index in
+    let in_second : c.in-Some-Some.q < count_at c.args.second.now =
+    rw c.in-Some-Some.is-1 at c.requires.has_index_2 in
     record {
-      record_size_in_bounds = omega (arith, fits _ c.in-At.p c.requires.accepted in_first, c.place_of.ensures);
-      record_size_in_bounds_2 = omega (arith, fits _ c.in-At-j-2.q c.requires.accepted_2 in_second, c.place_of-in-At-j-2.ensures);
+      record_size_in_bounds = omega (arith, fits _ c.in-Some-Some.p c.requires.accepted in_first, c.place_of.ensures);
+      record_size_in_bounds_2 = omega (arith, fits _ c.in-Some-Some.q c.requires.accepted_2 in_second, c.place_of-in-Some-Some.ensures);
     }
 
-pub returns-in-Missing-j : goal.returns-in-Missing-j
+pub returns-in-None-None : goal.returns-in-None-None
 unfolding choose
-returns-in-Missing-j c = rw (c.in-Missing.is, c.in-Missing-j.is) refl
+returns-in-None-None c = rw (c.in-None-None.is-0, c.in-None-None.is-1) refl
 
-pub returns-in-At-j : goal.returns-in-At-j
+pub returns-in-None-Some : goal.returns-in-None-Some
 unfolding choose
-returns-in-At-j c = rw (c.in-Missing.is, c.in-At-j.is) refl
+returns-in-None-Some c = rw (c.in-None-Some.is-0, c.in-None-Some.is-1) refl
 
-pub returns-in-Missing-j-2 : goal.returns-in-Missing-j-2
+pub returns-in-Some-None : goal.returns-in-Some-None
 unfolding choose
-returns-in-Missing-j-2 c = rw (c.in-At.is, c.in-Missing-j-2.is) refl
+returns-in-Some-None c = rw (c.in-Some-None.is-0, c.in-Some-None.is-1) refl
 
-pub returns-in-At-j-2 : goal.returns-in-At-j-2
+pub returns-in-Some-Some : goal.returns-in-Some-Some
 unfolding choose record_at
-returns-in-At-j-2 c =
+returns-in-Some-Some c =
     let s = c.args in
-    rw (c.in-At.is, c.in-At-j-2.is)
+    rw (c.in-Some-Some.is-0, c.in-Some-Some.is-1)
     (c.stands_at.ensures
-    ∙ ap (λ (d : Decision). stands_at d c.in-At.p c.in-At-j-2.q)
+    ∙ ap (λ (d : Decision). stands_at d c.in-Some-Some.p c.in-Some-Some.q)
     (c.decide_at.ensures
-    ∙ ap₂ (λ (x y : ℕ). decide (call_at s.first.now x) (call_at s.second.now y)) c.place_of.ensures c.place_of-in-At-j-2.ensures))
+    ∙ ap₂ (λ (x y : ℕ). decide (call_at s.first.now x) (call_at s.second.now y)) c.place_of.ensures c.place_of-in-Some-Some.ensures))

@@ -2,6 +2,7 @@ use mathlib.Core.Path.{◌≡◌, sym, ap, ◌∙◌}
 use Prim.Native.Nat.{◌≤◌}
 use native.Mathlib.Omega.{arith}
 use lib.ListN.{length, take}
+use lib.Seq.{length-take-le}
 use Rattle.book.specs.declared.Verdict.{Verdict}
 use Rattle.book.specs.Check.{check}
 use Rattle.book.proofs.Exact.{Accepted, accepted_tests}
@@ -46,24 +47,30 @@ count_at-n-requires c =
     accepted_tests _ (zero_accepted _ book_is) in
     book_sound.long
 
+pub slice_bounds-entries-end : goal.slice_bounds-entries-end
+slice_bounds-entries-end c =
+    let a = c.args in
+    let long : length a.entries ≡ 64 = search rules in
+    let bad_is : c.first_bad_entry-bad.result ≡ first_bad_entry 0 (take a.count a.entries) =
+    c.first_bad_entry-bad.ensures ∙ ap (first_bad_entry 0) (take_seen a.entries a.count c.seen.result long c.seen.ensures.0) in
+    omega (arith, few_entries a.entries a.count long (omega (arith, bad_is)))
+
+pub slice_bounds-lines-end : goal.slice_bounds-lines-end
+slice_bounds-lines-end c =
+    let a = c.args in
+    let long : length a.entries ≡ 64 = search rules in
+    let bad_is : c.first_bad_entry-bad.result ≡ first_bad_entry 0 (take a.count a.entries) =
+    c.first_bad_entry-bad.ensures ∙ ap (first_bad_entry 0) (take_seen a.entries a.count c.seen.result long c.seen.ensures.0) in
+    sym (length-take-le a.count a.entries (omega (arith, few_entries a.entries a.count long (omega (arith, bad_is)))))
+
 pub first_unlisted-call-requires : goal.first_unlisted-call-requires
 first_unlisted-call-requires c =
-    let bad_is : let a = c.args in c.first_bad_entry-bad.result ≡ first_bad_entry 0 (take a.count a.entries) =
-    let a = c.args in
-    let long : length a.entries ≡ 64 = search rules in
-    c.first_bad_entry-bad.ensures ∙ ap (first_bad_entry 0) (take_seen a.entries a.count c.seen.result long c.seen.ensures.0) in
-    let sound : let a = c.args in a.count ≤ first_bad_entry 0 (take a.count a.entries) =
-    omega (arith, bad_is) in
-    let few : c.args.count ≤ 64 =
-    let a = c.args in
-    let long : length a.entries ≡ 64 = search rules in
-    few_entries a.entries a.count long sound in
     let book_is : (check c.args.book.now).number ≡ 0 =
     sym (ap (λ (v : Verdict). v.number) c.check-verdict.ensures) ∙ c.if-number-ne0.false in
     let book_sound : Accepted c.args.book.now =
     accepted_tests _ (zero_accepted _ book_is) in
     let k = book_sound.count in
-    record { count_le_most_entries = few; n_in_bounds = omega (arith, c.count_at-n.ensures.0) }
+    omega (arith, c.count_at-n.ensures.0)
 
 pub returns-then-call-n : goal.returns-then-call-n
 returns-then-call-n c =

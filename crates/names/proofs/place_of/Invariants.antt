@@ -1,10 +1,7 @@
 use mathlib.Core.Path.{◌≡◌}
-use Prim.Native.Nat.{◌+◌, ◌-◌, ◌≤◌}
+use Prim.Native.Nat.{◌+◌, ◌-◌}
 use Rattle.names.specs.Names.{place_from}
 use Rattle.names.proofs.place_of.Given as goal
 
 abbrev pub invariant-loop-n : goal.invariant-loop-n
-invariant-loop-n l = (1 ≤ l.n) × (l.n ≤ l.most + 1) × (place_from l.words (l.most + 1 - l.n) l.n l.text ≡ place_from l.words l.most 1 l.text)
-
-abbrev pub decreases-loop-n : goal.decreases-loop-n
-decreases-loop-n l = l.most + 1 - l.n
+invariant-loop-n l = place_from l.words (l.most + 1 - l.n) l.n l.text ≡ place_from l.words l.most 1 l.text

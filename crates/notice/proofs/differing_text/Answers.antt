@@ -8,8 +8,9 @@ use lib.Dec.{ltb}
 use lib.IntN.{ℤ}
 use lib.ListN.{get_or}
 use Rattle.form.specs.Form.{bits, flag}
+use Rattle.std.specs.Prelude.{Option, Some, None}
 use Rattle.drawer.specs.declared.apart.Field.{Field}
-use Rattle.drawer.specs.declared.apart.Field.TheVariants.{Service, Start, Length, A, B, C, Nothing}
+use Rattle.drawer.specs.declared.apart.Field.TheVariants.{Service, Start, Length, A, B, C}
 use Rattle.notice.specs.Forms.{field_flags, highest_revision, differing_values}
 use borrow.Author.Rules.{rules}
 use Rattle.notice.proofs.differing_text.Goals as goal
@@ -18,16 +19,16 @@ use Rattle.notice.proofs.differing_text.Goals as goal
 abbrev seven : List ℕ → List ℕ → List ℕ
 seven w rest = get_or w 0 0 ∷ get_or w 1 0 ∷ get_or w 2 0 ∷ get_or w 3 0 ∷ get_or w 4 0 ∷ get_or w 5 0 ∷ get_or w 6 0 ∷ rest
 
-flags-seven : (f : Field) (rest : List ℕ) → seven (field_flags f) rest ≡ field_flags f ++ rest
-flags-seven Service rest = refl
-flags-seven Start rest = refl
-flags-seven Length rest = refl
-flags-seven A rest = refl
-flags-seven B rest = refl
-flags-seven C rest = refl
-flags-seven Nothing rest = refl
+flags-seven : (f : Option Field) (rest : List ℕ) → seven (field_flags f) rest ≡ field_flags f ++ rest
+flags-seven (Some Service) rest = refl
+flags-seven (Some Start) rest = refl
+flags-seven (Some Length) rest = refl
+flags-seven (Some A) rest = refl
+flags-seven (Some B) rest = refl
+flags-seven (Some C) rest = refl
+flags-seven None rest = refl
 
-values-are : (r : ℕ) (f : Field) (x y : ℤ) {w : List ℕ} {a b higher : ℕ} → w ≡ field_flags f → a ≡ bits x → b ≡ bits y → higher ≡ flag (ltb r highest_revision)
+values-are : (r : ℕ) (f : Option Field) (x y : ℤ) {w : List ℕ} {a b higher : ℕ} → w ≡ field_flags f → a ≡ bits x → b ≡ bits y → higher ≡ flag (ltb r highest_revision)
     → (r ∷ seven w (a ∷ b ∷ higher ∷ (r + 1) ∷ [])) ≡ differing_values r f x y
 values-are r f x y e p q h = (λ i. r ∷ seven (e i) (p i ∷ q i ∷ h i ∷ (r + 1) ∷ [])) ∙ ap (λ (vs : List ℕ). r ∷ vs) (flags-seven f _)
 

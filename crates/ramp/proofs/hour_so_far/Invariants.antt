@@ -1,10 +1,6 @@
-use Prim.Native.Nat.{◌-◌, ◌≤◌}
 use Rattle.ramp.specs.Bytes.{actions_from}
 use Rattle.ramp.specs.Inner.{SoFar}
 use Rattle.ramp.proofs.hour_so_far.Given as goal
 
 abbrev pub invariant-loop-i : goal.invariant-loop-i
-invariant-loop-i l = (l.i ≤ l.count) × SoFar (actions_from l.s 0 l.i) l.h
-
-abbrev pub decreases-loop-i : goal.decreases-loop-i
-decreases-loop-i l = l.count - l.i
+invariant-loop-i l = SoFar (actions_from l.s 0 l.i) l.h

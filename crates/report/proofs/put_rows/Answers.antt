@@ -1,19 +1,23 @@
-use mathlib.Core.Path.{◌∙◌}
+use mathlib.Core.Path.{refl, ap, ◌∙◌}
 use native.Mathlib.Omega.{arith}
 use Rattle.month.specs.Settling.{blank_row}
+use Rattle.render.proofs.Placed.{looser, same_put}
+use Rattle.report.specs.Texts.{rows_text}
 use Rattle.report.proofs.Rows.{rows_none, rows_more}
-use borrow.Author.Rules.{rules}
 use Rattle.report.proofs.put_rows.Goals as goal
 
-pub loop-i-init : goal.loop-i-init
-loop-i-init c = let a = c.args in (omega arith, search rules, rows_none a.rows a.out.now 0)
+pub loop-row-init : goal.loop-row-init
+loop-row-init c = let a = c.args in (refl, rows_none a.rows.now a.out.now 0)
 
-pub loop-i-preserved : goal.loop-i-preserved
+pub loop-row-preserved : goal.loop-row-preserved
 unfolding blank_row
-loop-i-preserved c =
-    let l = c.loop-i in
-    let a = c.args in (
-      omega arith,
-      c.put_row-next.auto.out ∙ l.invariant.1,
-      rows_more a.rows l.i l.invariant.2 c.put_row-next.ensures,
-    )
+loop-row-preserved c =
+    let l = c.loop-row in
+    let a = c.args in
+    (c.put_row-next.auto.out ∙ l.invariant.0, rows_more a.rows.now l.row-index l.invariant.1 c.put_row-next.ensures)
+
+pub returns : goal.returns
+returns c =
+    let l = c.loop-row in
+    let a = c.args in
+    looser _ (omega arith) (same_put (ap (rows_text a.rows.now) (omega arith)) l.invariant.1)

@@ -9,4 +9,4 @@ pub loop-i-preserved : goal.loop-i-preserved
 loop-i-preserved c =
     let row = bad_row c.loop-i.before c.args.s.now c.loop-i.i c.args.count (omega arith) (sym c.bytes_are_sound.ensures ∙ c.if-not-bytes_are_sound.false) in
     let next = ap (λ (x : Line). bad_from x.number c.args.s.now (c.loop-i.i + 1) c.args.count) c.fields_at-l.ensures in
-    (omega arith, omega (arith, c.loop-i.invariant.1, row, next))
+    omega (arith, c.loop-i.invariant, row, next)

@@ -9,13 +9,13 @@ pub overflow_add-c : goal.overflow_add-c
 overflow_add-c c =
     let e = ap compensated (row_step c.args.s.now c.args.count c.loop-i.i (omega arith)) in
     let f = ap (λ (x : Line). x.compensation.0) c.fields_at-l.ensures in
-    record { fits = omega (arith, c.requires.count_bound, c.loop-i.invariant.1) }
+    record { fits = omega (arith, c.requires.count_bound, c.loop-i.invariant.0) }
 
 pub overflow_add-a : goal.overflow_add-a
 overflow_add-a c =
     let e = ap assessed (row_step c.args.s.now c.args.count c.loop-i.i (omega arith)) in
     let f = ap (λ (x : Line). assessment_fen x) c.fields_at-l.ensures in
-    record { fits = omega (arith, c.to_fen-fen.ensures, c.requires.count_bound_2, c.loop-i.invariant.2) }
+    record { fits = omega (arith, c.to_fen-fen.ensures, c.requires.count_bound_2, c.loop-i.invariant.1) }
 
 pub loop-i-preserved : goal.loop-i-preserved
 loop-i-preserved c =
@@ -24,7 +24,7 @@ loop-i-preserved c =
     let f = ap assessed step in
     let g = ap (λ (x : Line). x.compensation.0) c.fields_at-l.ensures in
     let h = ap (λ (x : Line). assessment_fen x) c.fields_at-l.ensures in
-    (omega arith, omega (arith, e, g, c.loop-i.invariant.1), omega (arith, f, h, c.to_fen-fen.ensures, c.loop-i.invariant.2))
+    (omega (arith, e, g, c.loop-i.invariant.0), omega (arith, f, h, c.to_fen-fen.ensures, c.loop-i.invariant.1))
 
 pub returns : goal.returns
 returns c =

@@ -10,7 +10,7 @@ use Rattle.share_bytes.proofs.weights_into.Goals as goal
 
 pub weight_of-requires : goal.weight_of-requires
 weight_of-requires c =
-    rw c.fields_at-l.ensures (row_within c.args.s.now (length c.args.weights.now) c.loop-i.i c.requires.lines_within (omega (arith, c.loop-i.invariant.1))).energy
+    rw c.fields_at-l.ensures (row_within c.args.s.now (length c.args.weights.now) c.loop-i.i c.requires.lines_within (omega (arith, c.loop-i.invariant.0))).energy
 
 pub loop-i-preserved : goal.loop-i-preserved
 loop-i-preserved c =
@@ -18,11 +18,10 @@ loop-i-preserved c =
     let n = length a.weights.now in
     let long = length_row_weights a.s.now n a.negative in
     let is = c.weight_of.ensures ∙ ap (λ (x : Line). weight_of a.negative x) c.fields_at-l.ensures in (
-      omega (arith, c.loop-i.invariant.1),
-      simp length-set c.loop-i.invariant.1,
-      over_step a.weights.now (weights_of a.negative (spelt_lines a.s.now n)) c.loop-i.weights c.loop-i.i 0 _ c.loop-i.invariant.2 (omega (arith, c.loop-i.invariant.1))
-          (omega (arith, c.loop-i.invariant.1, long))
-          (row_weight a.s.now n a.negative c.loop-i.i (omega (arith, c.loop-i.invariant.1)) ∙ sym is),
+      simp length-set c.loop-i.invariant.0,
+      over_step a.weights.now (weights_of a.negative (spelt_lines a.s.now n)) c.loop-i.weights c.loop-i.i 0 _ c.loop-i.invariant.1 (omega (arith, c.loop-i.invariant.0))
+          (omega (arith, c.loop-i.invariant.0, long))
+          (row_weight a.s.now n a.negative c.loop-i.i (omega (arith, c.loop-i.invariant.0)) ∙ sym is),
     )
 
 pub returns : goal.returns
@@ -30,5 +29,5 @@ returns c =
     let a = c.args in
     let n = length a.weights.now in
     let long = length_row_weights a.s.now n a.negative in
-    over_end a.weights.now (weights_of a.negative (spelt_lines a.s.now n)) c.loop-i.weights c.loop-i.i c.loop-i.invariant.2 (omega (arith, c.loop-i.invariant.1, long))
-    (omega (arith, c.loop-i.invariant.1))
+    over_end a.weights.now (weights_of a.negative (spelt_lines a.s.now n)) c.loop-i.weights c.loop-i.i c.loop-i.invariant.1 (omega (arith, c.loop-i.invariant.0, long))
+    (omega (arith, c.loop-i.invariant.0))

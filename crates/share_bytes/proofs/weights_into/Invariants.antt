@@ -1,5 +1,4 @@
 use mathlib.Core.Path.{◌≡◌}
-use Prim.Native.Nat.{◌-◌, ◌≤◌}
 use lib.ListN.{length}
 use Rattle.apportion.proofs.Loops.{over}
 use Rattle.share.specs.Sharing.{weights_of}
@@ -8,7 +7,4 @@ use Rattle.share_bytes.proofs.weights_into.Given as goal
 
 abbrev pub invariant-loop-i : goal.invariant-loop-i
 invariant-loop-i l =
-    (l.i ≤ length l.initial.weights) × (length l.weights ≡ length l.initial.weights) × (l.weights ≡ over l.initial.weights (weights_of l.negative (spelt_lines l.s (length l.initial.weights))) l.i)
-
-abbrev pub decreases-loop-i : goal.decreases-loop-i
-decreases-loop-i l = length l.initial.weights - l.i
+    (length l.weights ≡ length l.initial.weights) × (l.weights ≡ over l.initial.weights (weights_of l.negative (spelt_lines l.s (length l.initial.weights))) l.i)

@@ -13,7 +13,7 @@ use Rattle.share_bytes.proofs.write_parts.Goals as goal
 
 pub loop-i-init : goal.loop-i-init
 loop-i-init c =
-    (omega arith, search rules, parts_none (parts_by c.args.negative (spelt_lines c.args.s.now (length c.args.shares.now)) c.args.shares.now) c.args.out.now)
+    (search rules, parts_none (parts_by c.args.negative (spelt_lines c.args.s.now (length c.args.shares.now)) c.args.shares.now) c.args.out.now)
 
 pub finish-done-requires : goal.finish-done-requires
 finish-done-requires c =
@@ -29,12 +29,11 @@ loop-i-preserved c =
     let here = c.loop-i-test.true in
     let line = c.fields_at-l.ensures ∙ sym (line_of (fields_at c.args.s.now) n c.loop-i.i blank_line (omega (arith, here))) in
     let done = c.finish-done.ensures ∙ ap (λ (x : Line). filled x (part_of c.args.negative x (get_or c.args.shares.now c.loop-i.i 0))) line in (
-      omega (arith, here),
-      c.write_part.auto.out ∙ c.loop-i.invariant.1,
-      part_more c.args.negative (spelt_lines c.args.s.now n) c.args.shares.now each c.loop-i.i blank_line _ (omega (arith, here, each)) done c.loop-i.invariant.2 c.write_part.ensures,
+      c.write_part.auto.out ∙ c.loop-i.invariant.0,
+      part_more c.args.negative (spelt_lines c.args.s.now n) c.args.shares.now each c.loop-i.i blank_line _ (omega (arith, here, each)) done c.loop-i.invariant.1 c.write_part.ensures,
     )
 
 pub returns : goal.returns
 returns c =
     let each : length c.args.shares.now ≡ length (spelt_lines c.args.s.now (length c.args.shares.now)) = sym (length_lines (fields_at c.args.s.now) 0 (length c.args.shares.now)) in
-    all_written c.args.negative (spelt_lines c.args.s.now (length c.args.shares.now)) c.args.shares.now each c.loop-i.i (omega (arith, each)) c.loop-i.invariant.2
+    all_written c.args.negative (spelt_lines c.args.s.now (length c.args.shares.now)) c.args.shares.now each c.loop-i.i (omega (arith, each)) c.loop-i.invariant.1

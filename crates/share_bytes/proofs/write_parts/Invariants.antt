@@ -1,5 +1,4 @@
 use mathlib.Core.Path.{◌≡◌}
-use Prim.Native.Nat.{◌-◌, ◌≤◌}
 use lib.ListN.{length, take}
 use Rattle.le.specs.Le.{Stores}
 use Rattle.share.specs.Sharing.{parts_by}
@@ -9,7 +8,4 @@ use Rattle.share_bytes.proofs.write_parts.Given as goal
 
 abbrev pub invariant-loop-i : goal.invariant-loop-i
 invariant-loop-i l =
-    (l.i ≤ length l.shares) × (length l.out ≡ length l.initial.out) × Stores l.initial.out 0 (parts_bytes (take l.i (parts_by l.negative (spelt_lines l.s (length l.shares)) l.shares))) l.out
-
-abbrev pub decreases-loop-i : goal.decreases-loop-i
-decreases-loop-i l = length l.shares - l.i
+    (length l.out ≡ length l.initial.out) × Stores l.initial.out 0 (parts_bytes (take l.i (parts_by l.negative (spelt_lines l.s (length l.shares)) l.shares))) l.out

@@ -6,7 +6,7 @@ use Rattle.book.specs.Book.{count_at, record_at}
 use Rattle.book.specs.Check.{check}
 use Rattle.book.proofs.Judged.{zero_accepted}
 use Rattle.lookup.specs.Lookup.{index_of}
-use Rattle.wish.specs.declared.Old.TheVariants.{Stands}
+use Rattle.std.specs.Prelude.{Some}
 use Rattle.wish.specs.Wish.{old_in}
 use Rattle.wish.proofs.Olds.{not_sound, no_index, at_index}
 use Rattle.wish.proofs.old_in.Goals as goal
@@ -26,24 +26,24 @@ call_of-requires c =
     ap (λ (v : Verdict). v.number) (sym c.check-v.ensures) ∙ c.if-v-ne0.false in
     let index : let s = c.args in c.index_of.result ≡ index_of (key_of s.member s.number) s.book.now =
     c.index_of.ensures ∙ ap (λ (k : ℕ). index_of k c.args.book.now) c.key_of.ensures in
-    let at_i : let s = c.args in (c.in-At.i < count_at s.book.now) × (Stands (record_at s.book.now c.in-At.i) ≡ old_in s.book.now s.member s.number) =
-    at_index _ _ _ zero c.index_of.result index _ c.in-At.is in
+    let at_i : let s = c.args in (c.in_ok-i.i < count_at s.book.now) × (Some (record_at s.book.now c.in_ok-i.i) ≡ old_in s.book.now s.member s.number) =
+    at_index _ _ _ zero c.index_of.result index _ c.in_ok-i.was in
     record { b_value = zero_accepted _ zero; i_bound = at_i.0 }
 
-pub returns-in-Missing : goal.returns-in-Missing
-returns-in-Missing c =
+pub returns-in_err-i : goal.returns-in_err-i
+returns-in_err-i c =
     let zero : (check c.args.book.now).number ≡ 0 =
     ap (λ (v : Verdict). v.number) (sym c.check-v.ensures) ∙ c.if-v-ne0.false in
     let index : let s = c.args in c.index_of.result ≡ index_of (key_of s.member s.number) s.book.now =
     c.index_of.ensures ∙ ap (λ (k : ℕ). index_of k c.args.book.now) c.key_of.ensures in
-    no_index _ _ _ zero c.index_of.result index c.in-Missing.is
+    c.from_residual.ensures ∙ no_index _ _ _ zero c.index_of.result index c.in_err-i.was
 
-pub returns-in-At : goal.returns-in-At
-returns-in-At c =
+pub returns : goal.returns
+returns c =
     let zero : (check c.args.book.now).number ≡ 0 =
     ap (λ (v : Verdict). v.number) (sym c.check-v.ensures) ∙ c.if-v-ne0.false in
     let index : let s = c.args in c.index_of.result ≡ index_of (key_of s.member s.number) s.book.now =
     c.index_of.ensures ∙ ap (λ (k : ℕ). index_of k c.args.book.now) c.key_of.ensures in
-    let at_i : let s = c.args in (c.in-At.i < count_at s.book.now) × (Stands (record_at s.book.now c.in-At.i) ≡ old_in s.book.now s.member s.number) =
-    at_index _ _ _ zero c.index_of.result index _ c.in-At.is in
-    ap Stands c.call_of.ensures ∙ at_i.1
+    let at_i : let s = c.args in (c.in_ok-i.i < count_at s.book.now) × (Some (record_at s.book.now c.in_ok-i.i) ≡ old_in s.book.now s.member s.number) =
+    at_index _ _ _ zero c.index_of.result index _ c.in_ok-i.was in
+    ap Some c.call_of.ensures ∙ at_i.1

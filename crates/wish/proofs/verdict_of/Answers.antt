@@ -2,10 +2,10 @@ use mathlib.Core.Path.{refl}
 use Rattle.wish.specs.Wish.{verdict}
 use Rattle.wish.proofs.verdict_of.Goals as goal
 
-pub returns-in-Missing : goal.returns-in-Missing
+pub returns-in-None : goal.returns-in-None
 unfolding verdict
-returns-in-Missing c = rw c.in-Missing.is refl
+returns-in-None c = rw c.in-None.is refl
 
-pub returns-in-Stands : goal.returns-in-Stands
+pub returns-in-Some : goal.returns-in-Some
 unfolding verdict
-returns-in-Stands c = rw c.in-Stands.is c.over.ensures
+returns-in-Some c = rw c.in-Some.is c.over.ensures

@@ -1,15 +1,24 @@
-use lib.ListN.{length}
-use mathlib.Core.Path.{◌≡◌}
+use mathlib.Core.Path.{◌≡◌, ◌∙◌, ap}
 use native.Mathlib.Omega.{arith}
 use borrow.Author.Rules.{rules}
+use lib.ListN.{length}
+use Rattle.annual.specs.Sums.{with_member, year_totals}
 use Rattle.annual.proofs.Rows.{totals_none, totals_more}
 use Rattle.annual.proofs.sums.year_totals.Goals as goal
 
-pub loop-i-init : goal.loop-i-init
-loop-i-init c = (omega arith, totals_none c.args.members)
+pub loop-m-init : goal.loop-m-init
+loop-m-init c = c.no_lines-t.ensures ∙ totals_none c.args.members.now
 
-pub loop-i-preserved : goal.loop-i-preserved
-loop-i-preserved c =
-    let l = c.loop-i in
-    let long : length c.args.members ≡ 64 = search rules in
-    (omega arith, totals_more c.args.members l.i _ (omega arith) l.t c.with_member-t.result l.invariant.1 c.with_member-t.ensures)
+pub loop-m-preserved : goal.loop-m-preserved
+unfolding with_member
+loop-m-preserved c =
+    let l = c.loop-m in
+    let a = c.args in
+    totals_more a.members.now l.m-index _ (omega arith) l.t c.with_line-t.result l.invariant c.with_line-t.ensures
+
+pub returns : goal.returns
+returns c =
+    let l = c.loop-m in
+    let a = c.args in
+    let long : length a.members.now ≡ 64 = search rules in
+    l.invariant ∙ ap (year_totals a.members.now) (omega arith)

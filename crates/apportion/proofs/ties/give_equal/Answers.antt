@@ -2,7 +2,7 @@ use Prim.Native.Nat.{◌<◌}
 use native.Mathlib.Omega.{arith}
 use lib.ListN.{length}
 use Rattle.apportion.proofs.Loops.{get_d_total}
-use Rattle.apportion.proofs.InTurn.{goes_on_lem, given_more, serve_step, turn_le}
+use Rattle.apportion.proofs.InTurn.{given_more, serve_step, turn_le}
 use Rattle.apportion.proofs.ties.give_equal.Goals as goal
 
 pub overflow_add-shares : goal.overflow_add-shares
@@ -12,8 +12,8 @@ overflow_add-shares c =
 
 pub loop-i-preserved : goal.loop-i-preserved
 loop-i-preserved c =
-    let here : c.loop-i.i < length c.loop-i.rests = let l = c.loop-i in goes_on_lem l.i (length l.rests) l.k c.loop-i-test.true in
     let l = c.loop-i in
+    let here : l.i < length l.rests = omega arith in
     let x = c.one_in_turn-x.result in
-    let t = serve_step c.args.most l.k x l.i l.rests l.shares here (omega arith) l.invariant.2 c.one_in_turn-x.ensures in
-    rw c.unless_one.ensures (omega (arith, here), given_more l.invariant.1 t.0, t.1)
+    let t = serve_step c.args.most l.k x l.i l.rests l.shares here (omega arith) l.invariant.1 c.one_in_turn-x.ensures in
+    rw c.unless_one.ensures (given_more l.invariant.0 t.0, t.1)

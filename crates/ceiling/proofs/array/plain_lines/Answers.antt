@@ -12,12 +12,11 @@ use Rattle.ceiling.proofs.array.plain_lines.Goals as goal
 
 pub loop-i-preserved : goal.loop-i-preserved
 loop-i-preserved c =
+    let ls = c.args.lines.now in
     let out = c.blank_lines-out.result in
-    let long : length c.args.lines ≡ 64 = search rules in
-    let long₂ : length out ≡ 64 = search rules in
-    let lm = length-map c.args.lines (λ (l' : LimitedLine). l'.line) in (
-      omega arith,
-      simp length-set c.loop-i.invariant.1,
-      over_step out (plain_lines c.args.lines) c.loop-i.out c.loop-i.i blank_line _ c.loop-i.invariant.2 (omega arith) (omega arith)
-          (get_d_mapped (λ (l' : LimitedLine). l'.line) c.args.lines c.loop-i.i blank_limited blank_line (omega arith)),
+    let long : length out ≡ 64 = search rules in
+    let lm = length-map ls (λ (l' : LimitedLine). l'.line) in (
+      simp length-set c.loop-i.invariant.0,
+      over_step out (plain_lines ls) c.loop-i.out c.loop-i.i blank_line _ c.loop-i.invariant.1 (omega arith) (omega arith)
+          (get_d_mapped (λ (l' : LimitedLine). l'.line) ls c.loop-i.i blank_limited blank_line (omega arith)),
     )

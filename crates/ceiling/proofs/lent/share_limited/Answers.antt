@@ -1,62 +1,57 @@
-use Rattle.std.proofs.Common.{◌≡◌, ◌≤◌, min, List, length, get_or, set, refl, sym, ap, ◌∙◌, arith}
-use lib.ListN.{length-set}
-use native.Mathlib.Numerals.{add-one}
-use Rattle.ceiling.specs.declared.LimitedLine.{LimitedLine}
-use Rattle.ceiling.specs.declared.Ceiled.{Ceiled}
-use Rattle.ceiling.specs.Forms.{ceiled_array}
-use Rattle.ceiling.specs.Inner.{blank_limited, kept_limited, answer_in_ceiled}
-use Rattle.ceiling.proofs.Gather.{gathered, scattered, form_of, lent, gathered_none, gathered_more, scattered_none, scattered_more, kept_few}
+use mathlib.Core.Path.{◌≡◌, ap, ◌∙◌}
+use mathlib.Core.List.{◌++◌}
+use Prim.Native.Nat.{ℕ, ◌≤◌}
+use native.Mathlib.Omega.{arith}
+use lib.ListN.{length, take, drop}
+use lib.Seq.{take_at}
+use Rattle.ceiling.specs.Ceiling.{first_bad_limited, ceiling_refused}
+use Rattle.ceiling.proofs.Turns.{bad_few}
+use Rattle.ceiling.proofs.Refusals.{on_part, on_10}
+use Rattle.ceiling.proofs.PastFirst.{first_refused, first_small, long_shared, finished, refused_as}
 use Rattle.ceiling.proofs.lent.share_limited.Goals as goal
 
-pub loop-i-init : goal.loop-i-init
-loop-i-init c = record { few = omega arith; front = c.blank_limiteds-a.ensures ∙ gathered_none c.args.lines.now }
+pub returns-then-part-gt-MOST_PART : goal.returns-then-part-gt-MOST_PART
+returns-then-part-gt-MOST_PART c = refused_as c.args.part c.args.lines.now _ _ c.refused.result c.refused.ensures (on_part c.args.part c.args.lines.now c.if-part-gt-MOST_PART.true)
 
-pub loop-i-preserved : goal.loop-i-preserved
-loop-i-preserved c =
-    let l = c.loop-i in
+pub returns-then-bad-count : goal.returns-then-bad-count
+returns-then-bad-count c =
+    let bad = c.first_bad_limited-bad.ensures in
+    refused_as c.args.part c.args.lines.now _ _ c.refused-then-bad-count.result c.refused-then-bad-count.ensures
+    (ap (λ (p : ℕ). ceiling_refused 10 p) bad ∙ on_10 c.args.part c.args.lines.now c.if-part-gt-MOST_PART.false (omega (arith, bad, c.if-bad-count.true)))
+
+pub plain_lines-shared-requires : goal.plain_lines-shared-requires
+plain_lines-shared-requires c = omega (arith, c.first_bad_limited-bad.ensures, bad_few c.args.lines.now, c.if-bad-count.false)
+
+pub returns-then-first-ne0 : goal.returns-then-first-ne0
+returns-then-first-ne0 c =
+    let ls = c.args.lines.now in
+    let lent = rw c.plain_lines-shared.ensures at c.share_lines-first.ensures in
+    let sound : length ls ≤ first_bad_limited 0 ls = omega (arith, c.first_bad_limited-bad.ensures, c.if-bad-count.false) in
+    refused_as c.args.part ls _ _ c.refused-then-first-ne0.result c.refused-then-first-ne0.ensures
+    (first_refused c.args.part ls c.share_lines-first.new.lines c.share_lines-first.result lent c.if-part-gt-MOST_PART.false sound c.if-first-ne0.true)
+
+pub second_sharing-requires : goal.second_sharing-requires
+second_sharing-requires c =
+    let ls = c.args.lines.now in
+    let n = length ls in
+    let new = c.share_lines-first.new.lines in
+    let first = c.share_lines-first.result in
+    let lent = rw c.plain_lines-shared.ensures at c.share_lines-first.ensures in
+    let long = long_shared c.args.part ls new first lent in
+    let same : take n (new ++ drop n c.plain_lines-shared.result) ≡ new = take_at new (drop n c.plain_lines-shared.result) n long in
     record {
-      few = omega arith;
-      front = ap (λ (a : List LimitedLine). set a l.i (get_or c.args.lines.now l.i blank_limited)) l.invariant.front ∙ gathered_more c.args.lines.now l.i ∙ ap (gathered c.args.lines.now)
-          (sym (add-one l.i));
-    }
-
-pub loop-j-init : goal.loop-j-init
-loop-j-init c = record { few = omega arith; long = refl; front = scattered_none c.args.lines.now c.ceiled_array-s.result.lines }
-
-pub take_limited-requires : goal.take_limited-requires
-take_limited-requires c =
-    let ys = c.args.lines.now in
-    let i : c.loop-i.i ≡ min (length ys) 64 = omega (arith, c.seen-m.ensures.0) in
-    let e : c.ceiled_array-s.result ≡ form_of c.args.part ys =
-    c.ceiled_array-s.ensures ∙ ap (λ (a : List LimitedLine). ceiled_array c.args.part a (length ys)) (c.loop-i.invariant.front ∙ ap (gathered ys) i) in
-    let k : c.kept_limited-k.result ≤ 64 = rw (c.kept_limited-k.ensures.0, e) (kept_few c.args.part ys) in
-    omega arith
-
-pub loop-j-preserved : goal.loop-j-preserved
-loop-j-preserved c =
-    let l = c.loop-j in
-    let ys = c.args.lines.now in
-    let ls = c.ceiled_array-s.result.lines in
-    record {
-      few = omega arith;
-      long = simp length-set l.invariant.long;
-      front =
-          ap (λ (a : List LimitedLine). set a l.j c.take_limited.result) l.invariant.front ∙ ap (λ (x : LimitedLine). set (scattered ys ls l.j) l.j x) c.take_limited.ensures
-          ∙ scattered_more ys ls l.j ∙ ap (scattered ys ls) (sym (add-one l.j));
+      few = omega (arith, c.first_bad_limited-bad.ensures, bad_few ls, c.if-bad-count.false);
+      each_shared = rw same long;
+      small = rw same (first_small c.args.part ls new first lent c.if-first-ne0.false);
     }
 
 pub returns : goal.returns
 returns c =
-    let ys = c.args.lines.now in
-    let s = c.ceiled_array-s.result in
-    let i : c.loop-i.i ≡ min (length ys) 64 = omega (arith, c.seen-m.ensures.0) in
-    let j : c.loop-j.j ≡ c.kept_limited-k.result = omega arith in
-    let e : s ≡ form_of c.args.part ys =
-    c.ceiled_array-s.ensures ∙ ap (λ (a : List LimitedLine). ceiled_array c.args.part a (length ys)) (c.loop-i.invariant.front ∙ ap (gathered ys) i) in
-    lent c.args.part ys c.loop-j.lines c.answer_in_ceiled.result
-    (record {
-      answer = c.answer_in_ceiled.ensures ∙ ap answer_in_ceiled e;
-      lines =
-          c.loop-j.invariant.front ∙ ap (scattered ys s.lines) (j ∙ c.kept_limited-k.ensures.0)
-          ∙ ap (λ (s : Ceiled). scattered ys s.lines (kept_limited s (length ys))) e;
-    })
+    let ls = c.args.lines.now in
+    let n = length ls in
+    let new = c.share_lines-first.new.lines in
+    let first = c.share_lines-first.result in
+    let lent = rw c.plain_lines-shared.ensures at c.share_lines-first.ensures in
+    let same : take n (new ++ drop n c.plain_lines-shared.result) ≡ new = take_at new (drop n c.plain_lines-shared.result) n (long_shared c.args.part ls new first lent) in
+    let sound : length ls ≤ first_bad_limited 0 ls = omega (arith, c.first_bad_limited-bad.ensures, c.if-bad-count.false) in
+    finished c.args.part ls new first lent c.if-first-ne0.false c.if-part-gt-MOST_PART.false sound (rw same at c.second_sharing.ensures)

@@ -1,37 +1,26 @@
 use mathlib.Core.Path.{◌≡◌, sym, ◌∙◌}
 use native.Mathlib.Omega.{arith}
-use lib.ListN.{length, length-set}
-use Rattle.apportion.proofs.Loops.{over_step}
-use Rattle.ceiling.specs.Forms.{ceiled_lines, cleared_lines}
+use lib.ListN.{length, get_or}
+use Rattle.apportion.proofs.Loops.{over_step, over_here, over_end}
+use Rattle.ceiling.specs.Forms.{ceiled_lines}
 use Rattle.ceiling.specs.Inner.{blank_limited}
-use Rattle.ceiling.proofs.Places.{got, got_at, got_all, length_all}
-use borrow.Author.Rules.{rules}
+use Rattle.ceiling.proofs.Places.{got, got_at, length_ceiled}
 use Rattle.ceiling.proofs.second.ceiled_lines.Goals as goal
 
 pub loop-i-preserved : goal.loop-i-preserved
 loop-i-preserved c =
-    let n = c.args.count in
-    let out = c.cleared_lines-out.result in
-    let long : length c.args.lines ≡ 64 = search rules in
-    let long₂ : length c.args.shared ≡ 64 = search rules in
-    let long₃ : length c.args.us ≡ 64 = search rules in
-    let long₄ : length c.args.gs ≡ 64 = search rules in
-    let long₅ : length out ≡ 64 = search rules in
-    let g = got c.args.lines c.args.shared c.args.us c.args.gs n (omega arith) (omega arith) (omega arith) (omega arith) in
-    let lf = length_all g c.args.lines in (
-      omega arith,
-      simp length-set c.loop-i.invariant.1,
-      over_step out (ceiled_lines g (cleared_lines c.args.lines)) c.loop-i.out c.loop-i.i blank_limited _ c.loop-i.invariant.2 (omega arith) (omega arith)
-          (got_at c.args.lines c.args.shared c.args.us c.args.gs n (omega arith) (omega arith) (omega arith) (omega arith) c.loop-i.i (omega arith) ∙ sym c.ceiled_line.ensures),
-    )
+    let l = c.loop-i in
+    let a = c.args in
+    let ls = a.lines.now in
+    let f = ceiled_lines (got a.shared.now a.us.now a.gs.now) ls in
+    let lf : length f ≡ length ls = length_ceiled (got a.shared.now a.us.now a.gs.now) ls in
+    let here : get_or l.lines l.i blank_limited ≡ get_or ls l.i blank_limited = over_here ls f l.lines l.i blank_limited l.invariant (omega arith) (omega arith) in
+    over_step ls f l.lines l.i blank_limited _ l.invariant (omega arith) (omega arith)
+    (got_at ls a.shared.now a.us.now a.gs.now c.requires.each_shared c.requires.each_uncollected c.requires.each_given l.i (omega arith) ∙ rw (← here) (sym c.ceiled_line.ensures))
 
 pub returns : goal.returns
 returns c =
-    let long : length c.args.lines ≡ 64 = search rules in
-    let long₂ : length c.args.shared ≡ 64 = search rules in
-    let long₃ : length c.args.us ≡ 64 = search rules in
-    let long₄ : length c.args.gs ≡ 64 = search rules in
-    let e : c.loop-i.i ≡ c.args.count = omega arith in
-    c.loop-i.invariant.2
-    ∙ rw (e, c.cleared_lines-out.ensures)
-    (got_all c.args.lines c.args.shared c.args.us c.args.gs c.args.count (omega arith) (omega arith) (omega arith) (omega arith))
+    let a = c.args in
+    let ls = a.lines.now in
+    over_end ls (ceiled_lines (got a.shared.now a.us.now a.gs.now) ls) _ c.loop-i.i c.loop-i.invariant
+    (omega (arith, length_ceiled (got a.shared.now a.us.now a.gs.now) ls)) (omega arith)

@@ -1,13 +1,9 @@
 use mathlib.Core.Path.{◌≡◌}
-use Prim.Native.Nat.{◌-◌, ◌≤◌}
-use lib.ListN.{length, take, replicate}
+use lib.ListN.{length, replicate}
 use Rattle.apportion.proofs.Loops.{over}
 use Rattle.ceiling.specs.Ceiling.{positives}
 use Rattle.ceiling.specs.Inner.{parts_in}
 use Rattle.ceiling.proofs.second.positives.Given as goal
 
 abbrev pub invariant-loop-i : goal.invariant-loop-i
-invariant-loop-i l = (l.i ≤ l.count) × (length l.ps ≡ 64) × (l.ps ≡ over (replicate 64 0) (positives (parts_in (take l.count l.shared))) l.i)
-
-abbrev pub decreases-loop-i : goal.decreases-loop-i
-decreases-loop-i l = l.count - l.i
+invariant-loop-i l = (length l.ps ≡ 64) × (l.ps ≡ over (replicate 64 0) (positives (parts_in l.shared)) l.i)

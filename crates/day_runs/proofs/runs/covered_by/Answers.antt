@@ -9,17 +9,17 @@ returns-then-covers c =
     let a = c.args in
     let l = c.loop-k in
     let t = rw c.record_at-x.ensures at (sym c.covers.ensures ∙ c.if-covers.true) in
-    sym (l.invariant.1 ∙ rw (covered_hit a.b.now a.places.now a.minute l.k (omega arith) t) (add-zero l.k))
+    sym (l.invariant ∙ rw (covered_hit a.b.now a.places.now a.minute l.k (omega arith) t) (add-zero l.k))
 
 pub loop-k-preserved : goal.loop-k-preserved
 loop-k-preserved c =
     let a = c.args in
     let l = c.loop-k in
     let t = rw c.record_at-x.ensures at (sym c.covers.ensures ∙ c.if-covers.false) in
-    (omega arith, omega (arith, l.invariant.1, covered_miss a.b.now a.places.now a.minute l.k (omega arith) t))
+    omega (arith, l.invariant, covered_miss a.b.now a.places.now a.minute l.k (omega arith) t)
 
 pub returns : goal.returns
 returns c =
     let a = c.args in
     let l = c.loop-k in
-    sym (l.invariant.1 ∙ rw (covered_none a.b.now a.places.now a.minute l.k (omega arith)) (add-zero l.k))
+    omega (arith, l.invariant, covered_none a.b.now a.places.now a.minute l.k (omega arith))

@@ -11,7 +11,7 @@ returns-then-not-goes_on c =
     let l = c.loop-gone in
     let h = sym c.goes_on.ensures ∙ c.if-not-goes_on.true in
     let n = no_longer a.series.now (calls_at a.b.now a.places.now) a.minute a.left l.gone (omega arith) h in
-    (sym (l.invariant.1 ∙ rw n refl), omega arith)
+    (sym (l.invariant ∙ rw n refl), omega arith)
 
 pub loop-gone-preserved : goal.loop-gone-preserved
 loop-gone-preserved c =
@@ -19,11 +19,11 @@ loop-gone-preserved c =
     let l = c.loop-gone in
     let h = sym c.goes_on.ensures ∙ c.if-not-goes_on.false in
     let n = one_longer a.series.now (calls_at a.b.now a.places.now) a.minute a.left l.gone (omega arith) h in
-    (omega arith, omega (arith, l.invariant.1, n))
+    omega (arith, l.invariant, n)
 
 pub returns : goal.returns
 returns c =
     let a = c.args in
     let l = c.loop-gone in
     let e : a.left - l.gone ≡ 1 = omega arith in
-    (sym (l.invariant.1 ∙ rw (e, length_last a.series.now (calls_at a.b.now a.places.now) (a.minute + l.gone)) refl), omega arith)
+    (omega (arith, rw e at l.invariant, length_last a.series.now (calls_at a.b.now a.places.now) (a.minute + l.gone)), omega arith)

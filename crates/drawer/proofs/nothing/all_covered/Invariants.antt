@@ -1,5 +1,4 @@
 use mathlib.Core.Path.{◌≡◌}
-use Prim.Native.Nat.{◌-◌, ◌≤◌}
 use Rattle.book.specs.Book.{calls_of}
 use Rattle.rule.specs.Whole.{all}
 use Rattle.drawer.specs.Nothing.{is_covered}
@@ -7,7 +6,4 @@ use Rattle.drawer.proofs.Covering.{all_left}
 use Rattle.drawer.proofs.nothing.all_covered.Given as goal
 
 abbrev pub invariant-loop-i : goal.invariant-loop-i
-invariant-loop-i l = (l.i ≤ l.n) × (all_left (is_covered (calls_of l.others)) l.book l.i l.n ≡ all (is_covered (calls_of l.others)) (calls_of l.book))
-
-abbrev pub decreases-loop-i : goal.decreases-loop-i
-decreases-loop-i l = l.n - l.i
+invariant-loop-i l = all_left (is_covered (calls_of l.others)) l.book l.i l.i-end ≡ all (is_covered (calls_of l.others)) (calls_of l.book)

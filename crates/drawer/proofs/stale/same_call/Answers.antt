@@ -1,16 +1,8 @@
-use mathlib.Core.Path.{refl}
-use mir.Syntax.{w32}
-use mir.Val.{SFits}
-use mir.ValLaws.{to_z-of_z}
-use borrow.Author.Rules.{rules}
+use mathlib.Core.Path.{◌∙◌}
 use Rattle.rule.specs.Standing.{same_call}
+use Rattle.drawer.proofs.Signs.{same_int, and_both}
 use Rattle.drawer.proofs.stale.same_call.Goals as goal
 
 pub returns : goal.returns
 unfolding same_call
-returns c =
-    let a-fits : SFits w32 c.args.x.a =
-    search rules in
-    let b_fits : SFits w32 c.args.y.a =
-    search rules in
-    rw (to_z-of_z w32 c.args.x.a a-fits, to_z-of_z w32 c.args.y.a b_fits) refl
+returns c = c.eq.ensures ∙ rw (same_int c.args.x.a c.args.y.a) (simp and_both)

@@ -7,4 +7,4 @@ use Rattle.explain.proofs.parts.blank_parts.Goals as goal
 
 pub returns : goal.returns
 unfolding filled_up
-returns c = ap (λ (p : CallPart). replicate most_keys p) c.blank_part-none.ensures
+returns c = ap (λ (p : CallPart). replicate most_keys p) c.blank_part.ensures

@@ -1,5 +1,5 @@
 use mathlib.Core.Path.{◌≡◌}
-use Prim.Native.Nat.{◌+◌, ◌-◌, ◌*◌, ◌≤◌}
+use Prim.Native.Nat.{◌+◌, ◌*◌, ◌≤◌}
 use lib.ListN.{length}
 use lib.Signed.{mag}
 use Rattle.book.specs.Book.{record_at}
@@ -12,11 +12,7 @@ use Rattle.explain.proofs.parts.parts_before.Given as goal
 
 abbrev pub invariant-loop-i : goal.invariant-loop-i
 invariant-loop-i l =
-    (l.i ≤ l.n)
-    × (l.count ≡ length (parts_before l.member l.b l.series l.i))
+    (l.count ≡ length (parts_before l.member l.b l.series l.i))
     × (l.parts ≡ filled_up (parts_before l.member l.b l.series l.i))
     × (l.wh.0 ≡ total_z (wh_at l.member (record_at l.b)) l.i)
     × (mag l.wh.0 ≤ l.i * (most_wh + 1))
-
-abbrev pub decreases-loop-i : goal.decreases-loop-i
-decreases-loop-i l = l.n - l.i

@@ -1,4 +1,4 @@
-use Rattle.std.proofs.Common.{sym, ◌∙◌}
+use Rattle.std.proofs.Common.{sym, refl, ◌∙◌}
 use Rattle.faults.proofs.Walking.{by_heading, by_blank}
 use Rattle.faults.proofs.Walk.ended.Goals as goal
 
@@ -13,6 +13,6 @@ pub returns-then-is_blank : goal.returns-then-is_blank
 returns-then-is_blank c = record {
   by_index = λ text end. by_blank text c.args.self end (sym c.is_heading.ensures
       ∙ c.if-is_heading.false) (sym c.is_blank.ensures ∙ c.if-is_blank.true) c.passing-then-is_blank.result
-      c.wrapping_add_usize.result c.wrapping_add_usize.ensures.value c.passing-then-is_blank.ensures;
+      _ refl c.passing-then-is_blank.ensures;
   at_value = λ s. c.passing-then-is_blank.ensures.at;
 }

@@ -1,29 +1,22 @@
-use mathlib.Core.Path.{◌≡◌, sym, ◌∙◌}
+use mathlib.Core.Path.{refl}
 use native.Mathlib.Omega.{arith}
-use lib.ListN.{length}
+use Rattle.std.proofs.lemmas.Result.{err_from_is_err_and}
+use Rattle.fitting.proofs.Findings.{not_fits, is_fits_lem}
 use Rattle.fitting.proofs.Walks.{own_on, own_off, own_end}
-use borrow.Author.Rules.{rules}
 use Rattle.fitting.proofs.own.first_own.Goals as goal
 
-pub returns-then-not-is_fits : goal.returns-then-not-is_fits
-returns-then-not-is_fits c =
+pub returns-in_err-own_apart : goal.returns-in_err-own_apart
+returns-in_err-own_apart c =
     let l = c.loop-i in
-    let a = c.args in
-    let long : length a.rows ≡ 64 = search rules in
-    let not = sym c.is_fits.ensures ∙ c.if-not-is_fits.true in
-    own_off a.negative a.rows a.count (omega arith) l.i (omega arith) _ _ c.own_apart-f.ensures not l.invariant.1
+    let p = err_from_is_err_and c.from_residual.result c.from_residual.ensures.1 in
+    rw (p.1, p.2) (own_off c.args.negative c.args.rows.now l.i (omega arith) _ _ c.in_err-own_apart.ensures (not_fits _) l.invariant)
 
 pub loop-i-preserved : goal.loop-i-preserved
 loop-i-preserved c =
     let l = c.loop-i in
-    let a = c.args in
-    let long : length a.rows ≡ 64 = search rules in
-    let fits = sym c.is_fits.ensures ∙ c.if-not-is_fits.false in
-    (omega arith, own_on a.negative a.rows a.count (omega arith) l.i (omega arith) _ _ c.own_apart-f.ensures fits l.invariant.1)
+    own_on c.args.negative c.args.rows.now l.i (omega arith) _ _ c.in_ok-own_apart.ensures (is_fits_lem _ refl) l.invariant
 
 pub returns : goal.returns
 returns c =
     let l = c.loop-i in
-    let a = c.args in
-    let long : length a.rows ≡ 64 = search rules in
-    own_end a.negative a.rows a.count (omega arith) l.i (omega arith) l.invariant.1
+    own_end c.args.negative c.args.rows.now l.i (omega arith) l.invariant

@@ -8,5 +8,5 @@ pub returns : goal.returns
 unfolding limit_for
 returns c =
     let a = c.args in
-    let e = c.less-most.ensures ∙ ap (λ (p : ℕ). p - a.uncollected.0) c.paid.ensures in
+    let e = c.saturating_sub-most.ensures ∙ ap (λ (p : ℕ). p - a.uncollected.0) c.paid.ensures in
     λ i. record { none = eqb a.uncollected.0 0; fen = record { 0 = e i } }

@@ -19,9 +19,8 @@ loop-i-preserved c =
     let long₂ : length a.shared ≡ 64 = search rules in
     let all = own_limits a.negative (take a.count a.rows) (parts_in (take a.count a.shared)) in
     let lu = length_limits_of a.negative a.rows a.shared a.count (omega arith) (omega arith) in (
-      omega arith,
-      simp length-set l.invariant.1,
-      over_step blank all l.limited l.i blank_limited c.own_limited.result l.invariant.2 (omega arith) (omega arith)
+      simp length-set l.invariant.0,
+      over_step blank all l.limited l.i blank_limited c.own_limited.result l.invariant.1 (omega arith) (omega arith)
           (limit_of a.negative a.rows a.shared a.count (omega arith) (omega arith) l.i _ blank_limited (omega arith) ∙ sym c.own_limited.ensures),
     )
 
@@ -33,4 +32,4 @@ returns c =
     let long₂ : length a.shared ≡ 64 = search rules in
     let all = own_limits a.negative (take a.count a.rows) (parts_in (take a.count a.shared)) in
     let lu = length_limits_of a.negative a.rows a.shared a.count (omega arith) (omega arith) in
-    ap (take a.count) (l.invariant.2 ∙ rw (take_all l.i all (omega arith))) ∙ take_at all (drop l.i c.blank_limiteds-limited.result) a.count lu
+    ap (take a.count) (l.invariant.1 ∙ rw (take_all l.i all (omega arith))) ∙ take_at all (drop l.i c.blank_limiteds-limited.result) a.count lu

@@ -1,5 +1,4 @@
 use mathlib.Core.Path.{◌≡◌}
-use Prim.Native.Nat.{◌-◌, ◌≤◌}
 use lib.ListN.{length, take}
 use Rattle.apportion.proofs.Loops.{over}
 use Rattle.ceiling.specs.Inner.{parts_in}
@@ -8,7 +7,4 @@ use Rattle.fitting.proofs.own.own_limits.Given as goal
 
 abbrev pub invariant-loop-i : goal.invariant-loop-i
 invariant-loop-i l =
-    (l.i ≤ l.count) × (length l.limited ≡ 64) × (l.limited ≡ over l.initial.limited (own_limits l.negative (take l.count l.rows) (parts_in (take l.count l.shared))) l.i)
-
-abbrev pub decreases-loop-i : goal.decreases-loop-i
-decreases-loop-i l = l.count - l.i
+    (length l.limited ≡ 64) × (l.limited ≡ over l.initial.limited (own_limits l.negative (take l.count l.rows) (parts_in (take l.count l.shared))) l.i)

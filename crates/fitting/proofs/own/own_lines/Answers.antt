@@ -18,4 +18,4 @@ loop-i-preserved c =
     let long₂ : length blank ≡ 64 = rw c.blank_lines-lines.ensures (length-replicate 64 blank_line) in
     let long₃ = length-map rows (own_line a.negative) in
     let v = get_d_mapped (own_line a.negative) rows l.i _ blank_line (omega arith) ∙ sym c.own_line.ensures in
-    (omega arith, simp length-set l.invariant.1, over_step blank (own_lines a.negative rows) l.lines l.i blank_line c.own_line.result l.invariant.2 (omega arith) (omega (arith, long₃)) v)
+    (simp length-set l.invariant.0, over_step blank (own_lines a.negative rows) l.lines l.i blank_line c.own_line.result l.invariant.1 (omega arith) (omega (arith, long₃)) v)

@@ -1,18 +1,20 @@
-use mathlib.Core.Path.{◌≡◌, sym, ◌∙◌}
+use mathlib.Core.Path.{◌≡◌, refl}
 use native.Mathlib.Omega.{arith}
 use lib.ListN.{length}
+use Rattle.std.proofs.lemmas.Result.{err_from_is_err_and}
+use Rattle.fitting.proofs.Findings.{not_fits, is_fits_lem}
 use Rattle.fitting.proofs.Walks.{part_on, part_off, parts_end}
 use borrow.Author.Rules.{rules}
 use Rattle.fitting.proofs.parts.first_part.Goals as goal
 
-pub returns-then-not-is_fits : goal.returns-then-not-is_fits
-returns-then-not-is_fits c =
+pub returns-in_err-part_apart : goal.returns-in_err-part_apart
+returns-in_err-part_apart c =
     let l = c.loop-i in
     let a = c.args in
     let long : length a.rows ≡ 64 = search rules in
     let long₂ : length a.lines ≡ 64 = search rules in
-    let not = sym c.is_fits.ensures ∙ c.if-not-is_fits.true in
-    part_off a.rows a.lines a.count (omega arith) (omega arith) l.i (omega arith) _ _ _ c.part_apart-f.ensures not l.invariant.1
+    let p = err_from_is_err_and c.from_residual.result c.from_residual.ensures.1 in
+    rw (p.1, p.2) (part_off a.rows a.lines a.count (omega arith) (omega arith) l.i (omega arith) _ _ _ c.in_err-part_apart.ensures (not_fits _) l.invariant)
 
 pub loop-i-preserved : goal.loop-i-preserved
 loop-i-preserved c =
@@ -20,8 +22,7 @@ loop-i-preserved c =
     let a = c.args in
     let long : length a.rows ≡ 64 = search rules in
     let long₂ : length a.lines ≡ 64 = search rules in
-    let fits = sym c.is_fits.ensures ∙ c.if-not-is_fits.false in
-    (omega arith, part_on a.rows a.lines a.count (omega arith) (omega arith) l.i (omega arith) _ _ _ c.part_apart-f.ensures fits l.invariant.1)
+    part_on a.rows a.lines a.count (omega arith) (omega arith) l.i (omega arith) _ _ _ c.in_ok-part_apart.ensures (is_fits_lem _ refl) l.invariant
 
 pub returns : goal.returns
 returns c =
@@ -29,4 +30,4 @@ returns c =
     let a = c.args in
     let long : length a.rows ≡ 64 = search rules in
     let long₂ : length a.lines ≡ 64 = search rules in
-    parts_end a.rows a.lines a.count (omega arith) (omega arith) l.i (omega arith) l.invariant.1
+    parts_end a.rows a.lines a.count (omega arith) (omega arith) l.i (omega arith) l.invariant

@@ -1,5 +1,5 @@
 use mathlib.Core.Path.{◌≡◌}
-use Prim.Native.Nat.{◌+◌, ◌-◌, ◌≤◌}
+use Prim.Native.Nat.{◌+◌}
 use lib.ListN.{take, drop}
 use Rattle.fitting.specs.Fitting.{first_part_of}
 use Rattle.fitting.specs.Inner.{got_of}
@@ -7,7 +7,4 @@ use Rattle.fitting.proofs.parts.first_part.Given as goal
 
 abbrev pub invariant-loop-i : goal.invariant-loop-i
 invariant-loop-i l =
-    (l.i ≤ l.count) × (first_part_of (1 + l.i) (drop l.i (take l.count l.rows)) (got_of (drop l.i (take l.count l.lines))) ≡ first_part_of 1 (take l.count l.rows) (got_of (take l.count l.lines)))
-
-abbrev pub decreases-loop-i : goal.decreases-loop-i
-decreases-loop-i l = l.count - l.i
+    first_part_of (1 + l.i) (drop l.i (take l.count l.rows)) (got_of (drop l.i (take l.count l.lines))) ≡ first_part_of 1 (take l.count l.rows) (got_of (take l.count l.lines))

@@ -1,12 +1,8 @@
 use mathlib.Core.Path.{sym, ap}
 use native.Mathlib.Omega.{arith}
-use Rattle.render.proofs.Placed.{looser, same_put, none_put}
+use Rattle.render.proofs.Placed.{looser, same_put}
 use Rattle.fitting.specs.Told.{finding_text, most_finding}
 use Rattle.fitting.proofs.told.put_finding.Goals as goal
-
-pub returns-in-Fits : goal.returns-in-Fits
-unfolding finding_text
-returns-in-Fits c = same_put (sym (ap finding_text c.in-Fits.is)) (looser most_finding (omega arith) (none_put c.args.out.now 0))
 
 pub returns-in-NotShared : goal.returns-in-NotShared
 unfolding finding_text

@@ -6,4 +6,4 @@ use Rattle.grid.proofs.Grid.dashed.Goals as goal
 
 pub returns : goal.returns
 returns c = let g = c.args.self in
-    λ ended. by_dash_byte g ended c.requires _ (ap (λ (x : Cell). record { stage = g.stage; separator = g.separator; filled = true; shut = false; cell = x; at = g.at }) c.dash-next.ensures)
+    λ ended. by_dash_byte g ended c.requires _ (ap (λ (x : Cell). record { stage = g.stage; separator = g.separator; filled = true; shut = false; cell = x; at = g.at }) c.dash-cell.ensures)

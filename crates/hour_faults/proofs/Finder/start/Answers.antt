@@ -10,5 +10,5 @@ month-few hours = omega arith
 
 pub returns : goal.returns
 returns c = let a = c.args in
-    found_start (month_hours a.hours) (month-few a.hours) c.start-grid.result c.start-grid.ensures _ c.start-judge.result
-    (c.start-judge.ensures ∙ ap judge_first c.month_hours.ensures)
+    found_start (month_hours a.hours) (month-few a.hours) c.start.result c.start.ensures _ c.start-2.result
+    (c.start-2.ensures ∙ ap judge_first c.month_hours.ensures)

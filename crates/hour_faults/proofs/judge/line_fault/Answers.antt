@@ -1,7 +1,7 @@
-use Rattle.std.proofs.Common.{sym, ap, ◌∙◌}
+use Rattle.std.proofs.Common.{sym, ap}
 use Rattle.hour_faults.proofs.Judging.{low_standard}
 use Rattle.hour_faults.specs.HourFaults.{is_sound}
 use Rattle.hour_faults.proofs.judge.line_fault.Goals as goal
 
 pub action_fault-requires : goal.action_fault-requires
-action_fault-requires c = low_standard _ _ (ap is_sound (sym c.cells_fault-wrong.ensures) ∙ sym c.is_sound.ensures ∙ c.if-not-is_sound.false)
+action_fault-requires c = low_standard _ _ (ap is_sound (sym c.in-None.ensures))

@@ -1,4 +1,5 @@
-use Rattle.std.proofs.Common.{◌≡◌, ℕ, List, ◌++◌, take, subst, arith, take_all, rules}
+use Rattle.hours.proofs.Taking.{held_is}
+use Rattle.std.proofs.Common.{◌≡◌, ◌∙◌, ℕ, List, ◌++◌, take, subst, arith, take_all, rules}
 use Rattle.hours.specs.declared.Reader.{Reader}
 use Rattle.hours.specs.Stream.{HasRead}
 use Rattle.hours.proofs.Streaming.{feed_line, feed_step}
@@ -10,8 +11,8 @@ loop-i-preserved-then-bytes-i-eq10 c = let a = c.args in
     let r : Reader = record { grid = l.grid; ended = l.ended; blank = l.blank; sheet = l.sheet } in (
       omega arith,
       l.invariant.1,
-      feed_line a.bytes.now a.self l.i (omega arith) c.if-bytes-i-eq10.true r c.next-grid.result c.after-sheet.result c.held_behind-blank.result
-          c.next-grid.ensures c.held_behind-blank.ensures c.after-sheet.ensures l.invariant.2,
+      feed_line a.bytes.now a.self l.i (omega arith) c.if-bytes-i-eq10.true r c.next-grid.result c.after-sheet.result c.holds_blank-blank.result
+          c.next-grid.ensures (λ held e. c.holds_blank-blank.ensures ∙ held_is l.grid l.blank held e) c.after-sheet.ensures l.invariant.2,
     )
 
 pub loop-i-preserved : goal.loop-i-preserved

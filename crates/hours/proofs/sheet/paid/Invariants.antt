@@ -1,9 +1,6 @@
-use Rattle.std.proofs.Common.{◌-◌, ◌≤◌, take}
+use Rattle.std.proofs.Common.{take}
 use Rattle.ramp.specs.Inner.{SoFar}
 use Rattle.hours.proofs.sheet.paid.Given as goal
 
-abbrev pub invariant-loop-i : goal.invariant-loop-i
-invariant-loop-i l = (l.i ≤ l.n) × SoFar (take l.i l.kept) l.h
-
-abbrev pub decreases-loop-i : goal.decreases-loop-i
-decreases-loop-i l = l.n - l.i
+abbrev pub invariant-loop-a : goal.invariant-loop-a
+invariant-loop-a l = SoFar (take l.a-index l.actions) l.h

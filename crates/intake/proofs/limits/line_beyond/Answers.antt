@@ -9,20 +9,20 @@ returns-then-not-head_is_within c = at_head c.args.s (sym c.head_is_within.ensur
 
 pub returns-then-bad-count : goal.returns-then-bad-count
 returns-then-bad-count c =
-    let b = c.first_beyond-bad.ensures.value in
+    let b = c.first_beyond-bad.ensures in
     let head = sym c.head_is_within.ensures ∙ c.if-not-head_is_within.false in
     ap (λ (n : ℕ). 1 + n) b ∙ at_row c.args.s head (omega (arith, b, c.if-bad-count.true))
 
 pub returns-then-not-gap_is_within : goal.returns-then-not-gap_is_within
 returns-then-not-gap_is_within c =
-    let b = c.first_beyond-bad.ensures.value in
+    let b = c.first_beyond-bad.ensures in
     let head = sym c.head_is_within.ensures ∙ c.if-not-head_is_within.false in
     at_gap c.args.s head (omega (arith, b, c.if-bad-count.false)) (sym
     c.gap_is_within.ensures ∙ c.if-not-gap_is_within.true)
 
 pub returns-then-not-is_within : goal.returns-then-not-is_within
 returns-then-not-is_within c =
-    let b = c.first_beyond-bad.ensures.value in
+    let b = c.first_beyond-bad.ensures in
     let head = sym c.head_is_within.ensures ∙ c.if-not-head_is_within.false in
     let gap = sym c.gap_is_within.ensures ∙ c.if-not-gap_is_within.false in
     at_user c.args.s head
@@ -30,7 +30,7 @@ returns-then-not-is_within c =
 
 pub returns : goal.returns
 returns c =
-    let b = c.first_beyond-bad.ensures.value in
+    let b = c.first_beyond-bad.ensures in
     let head = sym c.head_is_within.ensures ∙ c.if-not-head_is_within.false in
     let gap = sym c.gap_is_within.ensures ∙ c.if-not-gap_is_within.false in
     at_none c.args.s head

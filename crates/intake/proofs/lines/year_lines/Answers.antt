@@ -17,4 +17,4 @@ loop-i-preserved c =
     let long₂ : length blank ≡ 64 = rw c.blank_lines-lines.ensures (length-replicate 64 blank_line) in
     let long₃ = length-map rows year_line in
     let v = get_d_mapped year_line rows l.i _ blank_line (omega arith) ∙ sym c.year_line.ensures in
-    (omega arith, simp length-set l.invariant.1, over_step blank (year_lines rows) l.lines l.i blank_line c.year_line.result l.invariant.2 (omega arith) (omega (arith, long₃)) v)
+    (simp length-set l.invariant.0, over_step blank (year_lines rows) l.lines l.i blank_line c.year_line.result l.invariant.1 (omega arith) (omega (arith, long₃)) v)

@@ -9,5 +9,5 @@ pub returns : goal.returns
 unfolding line_text
 returns c =
     let p = c.put_word-a.ensures in
-    let q = same_put (ap decimal (c.from_one.ensures)) (c.put_decimal-b.ensures) in
+    let q = same_put (ap decimal (c.saturating_add.ensures)) (c.put_decimal-b.ensures) in
     looser _ (omega arith) (and_then (and_then p q) (c.put_word.ensures))

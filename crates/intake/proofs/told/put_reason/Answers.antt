@@ -1,14 +1,8 @@
 use mathlib.Core.Path.{sym, ap}
 use native.Mathlib.Omega.{arith}
-use Rattle.render.proofs.Placed.{looser, same_put, none_put}
+use Rattle.render.proofs.Placed.{looser, same_put}
 use Rattle.intake.specs.Told.{reason_text, most_reason}
 use Rattle.intake.proofs.told.put_reason.Goals as goal
-
-pub returns-in-Nothing : goal.returns-in-Nothing
-unfolding reason_text
-returns-in-Nothing c =
-    let a = c.args in
-    same_put (sym (ap (reason_text (a.area) (a.year) (a.month)) (c.in-Nothing.is))) (looser most_reason (omega arith) (none_put (a.out.now) 0))
 
 pub returns-in-NotLine : goal.returns-in-NotLine
 unfolding reason_text
@@ -29,14 +23,14 @@ unfolding reason_text
 returns-in-OtherArea c =
     let a = c.args in
     same_put (sym (ap (reason_text (a.area) (a.year) (a.month)) (c.in-OtherArea.is))) (looser most_reason (omega arith)
-    (c.put_other.ensures))
+    (rw (c.from.ensures, c.from-in-OtherArea.ensures) at c.put_other.ensures))
 
 pub returns-in-OtherYear : goal.returns-in-OtherYear
 unfolding reason_text
 returns-in-OtherYear c =
     let a = c.args in
     same_put (sym (ap (reason_text (a.area) (a.year) (a.month)) (c.in-OtherYear.is))) (looser most_reason (omega arith)
-    (c.put_other-in-OtherYear.ensures))
+    (rw (c.from-in-OtherYear.ensures, c.from-in-OtherYear-2.ensures) at c.put_other-in-OtherYear.ensures))
 
 pub returns-in-NotLater : goal.returns-in-NotLater
 unfolding reason_text

@@ -15,6 +15,5 @@ loop-i-preserved c =
     let f = compensations c.args.grains in
     let long : length c.args.grains ≡ 64 = search rules in
     let long₂ = length-map c.args.grains fen_of in
-    let long₃ = c.no_fens-fens.ensures in
     let v = get_d_mapped fen_of c.args.grains l.i no_grains no_fen (omega arith) ∙ sym (ap (λ (n : ℕ). record { 0 = n }) c.to_fen.ensures) in
-    (omega arith, simp length-set l.invariant.1, over_step c.no_fens-fens.result f l.fens l.i no_fen c.to_fen.result l.invariant.2 (omega arith) (omega arith) v)
+    (simp length-set l.invariant.0, over_step _ f l.fens l.i no_fen c.to_fen.result l.invariant.1 (omega arith) (omega arith) v)

@@ -32,11 +32,11 @@ loop-i-preserved c =
     let long₂ : length blank ≡ 64 = rw c.blank_rows-rows.ensures (length-replicate 64 blank_row) in
     let long₃ = length_counted c.args.negative c.args.lines c.args.grains c.args.ramped c.args.count (omega arith) in
     let v = row_counted c.args.negative c.args.lines c.args.grains c.args.ramped c.args.count (omega arith) l.i blank_row (omega arith) ∙ sym c.row_in.ensures in
-    (omega arith, simp length-set l.invariant.1, over_step blank rows l.rows l.i blank_row c.row_in.result l.invariant.2 (omega arith) (omega arith) v)
+    (simp length-set l.invariant.0, over_step blank rows l.rows l.i blank_row c.row_in.result l.invariant.1 (omega arith) (omega arith) v)
 
 pub returns : goal.returns
 returns c =
     let l = c.loop-i in
     let long : length c.args.lines ≡ 64 = search rules in
     let e : l.i ≡ c.args.count = omega arith in
-    rows_done c.args.negative c.args.lines c.args.grains c.args.ramped c.args.count (omega arith) l.rows l.i e (rw c.blank_rows-rows.ensures at l.invariant.2)
+    rows_done c.args.negative c.args.lines c.args.grains c.args.ramped c.args.count (omega arith) l.rows l.i e (rw c.blank_rows-rows.ensures at l.invariant.1)

@@ -1,10 +1,7 @@
-use Rattle.std.proofs.Common.{◌≡◌, ◌-◌, ◌*◌, ◌≤◌, length}
+use Rattle.std.proofs.Common.{◌≡◌, ◌*◌, ◌≤◌, length}
 use Rattle.tally.specs.Room.{series_room}
 use Rattle.month_files.proofs.series.read_all.Given as goal
 
 abbrev pub invariant-loop-i : goal.invariant-loop-i
 invariant-loop-i l =
-    (l.i ≤ l.count) × (l.lengths.bad ≤ l.i) × (l.lengths.all ≤ l.i * series_room) × (length l.series ≡ length l.initial.series)
-
-abbrev pub decreases-loop-i : goal.decreases-loop-i
-decreases-loop-i l = l.count - l.i
+    (l.lengths.bad ≤ l.i) × (l.lengths.all ≤ l.i * series_room) × (length l.series ≡ length l.initial.series)

@@ -1,12 +1,9 @@
 use mathlib.Core.Path.{◌≡◌}
-use Prim.Native.Nat.{◌-◌, ◌≤◌}
+use Prim.Native.Nat.{◌≤◌}
 use Rattle.pay.specs.Sum.{total}
 use Rattle.pay.specs.Window.{quarter_counts}
 use Rattle.pay.proofs.window.window_quarters.Given as goal
 
 abbrev pub invariant-loop-k : goal.invariant-loop-k
 invariant-loop-k l =
-    (l.k ≤ l.count) × (l.sum ≤ l.k) × (l.sum ≡ total (quarter_counts l.member l.service l.top.0 l.series) l.from l.k)
-
-abbrev pub decreases-loop-k : goal.decreases-loop-k
-decreases-loop-k l = l.count - l.k
+    (l.sum ≤ l.k) × (l.sum ≡ total (quarter_counts l.member l.service l.top.0 l.series) l.from l.k)

@@ -1,4 +1,5 @@
 use native.Mathlib.Omega.{arith}
+use native.Mathlib.Decide.{dec_lt}
 use mathlib.Core.Path.{◌≡◌, sym, ◌∙◌}
 use Prim.Native.Nat.{◌^◌, ◌<◌}
 use lib.Signed.{mag}
@@ -16,11 +17,12 @@ returns-then-is_by_energy c =
 
 pub returns-in-1 : goal.returns-in-1
 returns-in-1 c =
-    deep_turned c.args.member c.args.x c.requires.x_value_2 (sym c.is_by_energy.ensures ∙ c.if-is_by_energy.false) c.in-1.is
-
-pub returns-in-2 : goal.returns-in-2
-returns-in-2 c =
-    reserve_turned c.args.member c.args.x c.requires.x_value_2 (sym c.is_by_energy.ensures ∙ c.if-is_by_energy.false) c.in-2.is
+    let a = c.args in
+    let h = sym c.is_by_energy.ensures ∙ c.if-is_by_energy.false in
+    elim (dec_lt a.x.service 2) [
+      | yes l ↦ deep_turned a.member a.x c.requires.x_value_2 h (omega arith)
+      | no l ↦ reserve_turned a.member a.x c.requires.x_value_2 h (omega arith)
+    ]
 
 pub returns-in_default : goal.returns-in_default
 returns-in_default c =

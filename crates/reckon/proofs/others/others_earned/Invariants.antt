@@ -1,5 +1,5 @@
 use mathlib.Core.Path.{◌≡◌}
-use Prim.Native.Nat.{◌+◌, ◌-◌, ◌*◌, ◌≤◌}
+use Prim.Native.Nat.{◌+◌, ◌*◌, ◌≤◌}
 use lib.Signed.{mag}
 use Rattle.book.specs.Book.{record_at}
 use Rattle.pay.specs.Sum.{total, total_z}
@@ -10,11 +10,7 @@ use Rattle.reckon.proofs.others.others_earned.Given as goal
 
 abbrev pub invariant-loop-i : goal.invariant-loop-i
 invariant-loop-i l =
-    (l.i ≤ l.n)
-    × (l.grains ≡ total (other_at l.member (record_at l.b)) 0 l.i)
+    (l.grains ≡ total (other_at l.member (record_at l.b)) 0 l.i)
     × (l.grains ≤ l.i * most_pay)
     × (l.wh.0 ≡ total_z (wh_at l.member (record_at l.b)) l.i)
     × (mag l.wh.0 ≤ l.i * (most_wh + 1))
-
-abbrev pub decreases-loop-i : goal.decreases-loop-i
-decreases-loop-i l = l.n - l.i

@@ -8,10 +8,10 @@ use Rattle.reckon.proofs.walk.minutes_walked.Goals as goal
 pub loop-minute-init : goal.loop-minute-init
 loop-minute-init c =
     let a = c.args in
-    (omega arith, sym (total_none (minute_at a.member a.series.now (calls_at a.b.now a.places.now)) 0), omega arith)
+    (sym (total_none (minute_at a.member a.series.now (calls_at a.b.now a.places.now)) 0), omega arith)
 
 pub loop-minute-preserved : goal.loop-minute-preserved
 loop-minute-preserved c =
     let l = c.loop-minute in
     let e = c.minute_at-pay.ensures in
-    (omega arith, total0_step _ l.minute l.invariant.1 e.0, omega arith)
+    (total0_step _ l.minute l.invariant.0 e.0, omega arith)

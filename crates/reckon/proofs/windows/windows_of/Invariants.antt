@@ -1,5 +1,4 @@
 use mathlib.Core.Path.{◌≡◌}
-use Prim.Native.Nat.{◌-◌, ◌≤◌}
 use lib.ListN.{length, take}
 use Rattle.book.specs.Book.{most_keys, record_at}
 use Rattle.reckon.specs.Inner.{places_of}
@@ -7,10 +6,6 @@ use Rattle.reckon.proofs.windows.windows_of.Given as goal
 
 abbrev pub invariant-loop-i : goal.invariant-loop-i
 invariant-loop-i l =
-    (l.i ≤ l.n)
-    × (take l.count l.at ≡ places_of l.member l.service (record_at l.b) l.i)
+    (take l.count l.at ≡ places_of l.member l.service (record_at l.b) l.i)
     × (l.count ≡ length (places_of l.member l.service (record_at l.b) l.i))
     × (length l.at ≡ most_keys)
-
-abbrev pub decreases-loop-i : goal.decreases-loop-i
-decreases-loop-i l = l.n - l.i

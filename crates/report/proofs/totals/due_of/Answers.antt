@@ -14,4 +14,4 @@ pub returns-else-n-lt0 : goal.returns-else-n-lt0
 returns-else-n-lt0 c =
     let fits : SFits w64 c.args.n =
     search rules in
-    due_above c.args.n fits c.size.result c.size.ensures c.if-n-lt0.false
+    due_above c.args.n fits c.unsigned_abs.result c.unsigned_abs.ensures.value c.if-n-lt0.false

@@ -8,7 +8,7 @@ pub returns-then-n-lt0 : goal.returns-then-n-lt0
 returns-then-n-lt0 c =
     let fits : SFits w64 c.args.n =
     search rules in
-    owed_below c.args.n fits c.size.result c.size.ensures c.if-n-lt0.true
+    owed_below c.args.n fits c.unsigned_abs.result c.unsigned_abs.ensures.value c.if-n-lt0.true
 
 pub returns-else-n-lt0 : goal.returns-else-n-lt0
 returns-else-n-lt0 c =

@@ -22,18 +22,10 @@ loop-i-init c =
     let k = skipped c.args.month c.args.member c.args.series.now book f.result n in
     (omega arith, k.refusals, sym k.pays, omega arith, sym k.energy, omega arith, kept_none c.args.member.number book f.result n)
 
-pub turn_of-t-requires : goal.turn_of-t-requires
-turn_of-t-requires c =
+pub turn_of-t-requires-clause-none_before : goal.turn_of-t-requires-clause-none_before
+turn_of-t-requires-clause-none_before c =
     let f = c.first_own-first in
-    let l = c.loop-i in
-    let n = before_own c.args.member.number (record_at c.args.b.now) c.args.count f.result f.ensures in
-    record {
-      small = c.requires.small;
-      has_record = omega arith;
-      record_is_sound = c.requires.by_index l.i (omega arith);
-      none_before = n;
-      ends_kept = l.invariant.6;
-    }
+    before_own c.args.member.number (record_at c.args.b.now) c.args.count f.result f.ensures
 
 pub returns-then-number-ne0 : goal.returns-then-number-ne0
 returns-then-number-ne0 c =

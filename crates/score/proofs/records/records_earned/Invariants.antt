@@ -1,5 +1,5 @@
 use mathlib.Core.Path.{◌≡◌}
-use Prim.Native.Nat.{◌+◌, ◌-◌, ◌*◌, ◌≤◌}
+use Prim.Native.Nat.{◌+◌, ◌*◌, ◌≤◌}
 use Rattle.score.specs.First.{first_nonzero}
 use Rattle.score.specs.Refusing.{refusal_at}
 use Rattle.score.specs.Scoring.{pay_at, wh_at}
@@ -19,6 +19,3 @@ invariant-loop-i l =
     × (l.wh.0 ≡ total_z (wh_at l.member (record_at l.b)) l.i)
     × (mag l.wh.0 ≤ l.i * (most_wh + 1))
     × EndsKept l.member.number (record_at l.b) l.i l.ends
-
-abbrev pub decreases-loop-i : goal.decreases-loop-i
-decreases-loop-i l = l.count - l.i

@@ -1,6 +1,5 @@
 use mathlib.Core.Bool.{false}
 use mathlib.Core.Path.{◌≡◌}
-use Prim.Native.Nat.{◌-◌}
 use Rattle.score.specs.First.{any_below}
 use Rattle.score.specs.Refusing.{clash_at}
 use Rattle.book.specs.Book.{record_at}
@@ -8,6 +7,3 @@ use Rattle.score.proofs.refusal.clash_before.Given as goal
 
 abbrev pub invariant-loop-j : goal.invariant-loop-j
 invariant-loop-j l = any_below (clash_at l.number l.x (record_at l.b)) l.j ≡ false
-
-abbrev pub decreases-loop-j : goal.decreases-loop-j
-decreases-loop-j l = l.i - l.j

@@ -5,11 +5,10 @@ use mathlib.Core.Path.{◌≡◌, sym, ◌∙◌, ap}
 use Rattle.score.proofs.First.{first_none, first_more, first_hit}
 use Rattle.score.specs.Refusing.{own_at, first_own}
 use Rattle.book.specs.Book.{record_at}
-use borrow.Author.Rules.{rules}
 use Rattle.score.proofs.refusal.first_own.Goals as goal
 
 pub loop-i-init : goal.loop-i-init
-loop-i-init c = (search rules, first_none _)
+loop-i-init c = first_none _
 
 pub returns-then-x-number : goal.returns-then-x-number
 unfolding first_own
@@ -18,7 +17,7 @@ returns-then-x-number c =
     let a = c.args in
     let x = ap (λ (y : Call). y.participant) c.record_at-x.ensures in
     let book = record_at a.b.now in
-    sym (first_hit (own_at a.number book) l.i a.count (omega arith) l.invariant.1 (own_yes a.number book l.i (sym x ∙ c.if-x-number.true)))
+    sym (first_hit (own_at a.number book) l.i a.count (omega arith) l.invariant (own_yes a.number book l.i (sym x ∙ c.if-x-number.true)))
 
 pub loop-i-preserved : goal.loop-i-preserved
 loop-i-preserved c =
@@ -26,11 +25,11 @@ loop-i-preserved c =
     let a = c.args in
     let x = ap (λ (y : Call). y.participant) c.record_at-x.ensures in
     let book = record_at a.b.now in
-    (search rules, first_more (own_at a.number book) l.i l.invariant.1 (own_not a.number book l.i (λ e. c.if-x-number.false (x ∙ e))))
+    first_more (own_at a.number book) l.i l.invariant (own_not a.number book l.i (λ e. c.if-x-number.false (x ∙ e)))
 
 pub returns : goal.returns
 unfolding first_own
 returns c =
     let l = c.loop-i in
     let e : l.i ≡ c.args.count = omega arith in
-    rw (← e) (sym l.invariant.1)
+    rw (← e) (sym l.invariant)

@@ -1,60 +1,43 @@
-use Rattle.std.proofs.Common.{◌≡◌, ◌≤◌, min, List, length, get_or, set, refl, sym, ap, ◌∙◌, arith}
-use lib.ListN.{length-set}
-use native.Mathlib.Numerals.{add-one}
+use mathlib.Core.Path.{◌≡◌, sym, ap, ◌∙◌}
+use mathlib.Core.List.{List}
+use Prim.Native.Nat.{◌<◌}
+use native.Mathlib.Omega.{arith}
+use Rattle.units.specs.declared.SignedFen.{SignedFen}
 use Rattle.share.specs.declared.Line.{Line}
-use Rattle.share.specs.declared.Shared.{Shared}
-use Rattle.share.specs.Forms.{blank_line, shared_array, kept_of, answer_in}
-use Rattle.share.proofs.Gather.{gathered, scattered, form_of, lent, gathered_none, gathered_more, scattered_none, scattered_more, kept_few}
+use Rattle.share.specs.declared.Answer.{Answer}
+use Rattle.share.specs.declared.settle.Carried.{Carried}
+use Rattle.share.specs.Sharing.{Part, SharingOutcome, sharing}
+use Rattle.share.specs.Forms.{answer_of, fill_in}
+use Rattle.share.specs.Inner.{Carries, Told}
+use Rattle.share.proofs.Outcomes.{none_given}
 use Rattle.share.proofs.lent.share_lines.Goals as goal
 
-pub loop-i-init : goal.loop-i-init
-loop-i-init c = record { few = omega arith; front = c.blank_lines-a.ensures ∙ gathered_none c.args.lines.now }
+-- what is said is the outcome's answer
+says : {ls : List Line} {o : SharingOutcome} {r : Carried} {a : Answer} → Carries ls o r → Told r a → a ≡ answer_of o
+says k t =
+    let gap = ap (λ (f : SignedFen). f.0) t.gap ∙ k.gap in
+    let user = ap (λ (f : SignedFen). f.0) t.user ∙ k.user in
+    λ i. record { number = (t.number ∙ k.number) i; place = (t.place ∙ k.place) i; gap = record { 0 = gap i }; user = record { 0 = user i } }
 
-pub loop-i-preserved : goal.loop-i-preserved
-loop-i-preserved c =
-    let l = c.loop-i in
+pub returns-then-o-ne0 : goal.returns-then-o-ne0
+returns-then-o-ne0 c =
+    let ls = c.args.lines.now in
+    let some : 0 < (sharing c.args.part ls).number = omega (arith, c.outcome-o.ensures.number, c.if-o-ne0.true) in
     record {
-      few = omega arith;
-      front = ap (λ (a : List Line). set a l.i (get_or c.args.lines.now l.i blank_line)) l.invariant.front ∙ gathered_more c.args.lines.now l.i ∙ ap (gathered c.args.lines.now) (sym (add-one l.i));
+      says = says c.outcome-o.ensures c.told-answer.ensures;
+      lines = sym (ap (λ (ps : List Part). fill_in ps ls) (none_given c.args.part _ _ ls some));
     }
 
-pub loop-j-init : goal.loop-j-init
-loop-j-init c = record { few = omega arith; long = refl; front = scattered_none c.args.lines.now c.share-s.result.lines }
-
-pub take_line-requires : goal.take_line-requires
-take_line-requires c =
-    let ys = c.args.lines.now in
-    let i : c.loop-i.i ≡ min (length ys) 64 = omega (arith, c.seen-m.ensures.0) in
-    let e : c.share-s.result ≡ form_of c.args.part ys =
-    c.share-s.ensures ∙ ap (λ (a : List Line). shared_array c.args.part a (length ys)) (c.loop-i.invariant.front ∙ ap (gathered ys) i) in
-    let k : c.kept_of-k.result ≤ 64 = rw (c.kept_of-k.ensures.0, e) (kept_few c.args.part ys) in
-    omega arith
-
-pub loop-j-preserved : goal.loop-j-preserved
-loop-j-preserved c =
-    let l = c.loop-j in
-    let ys = c.args.lines.now in
-    let ls = c.share-s.result.lines in
-    record {
-      few = omega arith;
-      long = simp length-set l.invariant.long;
-      front =
-          ap (λ (a : List Line). set a l.j c.take_line.result) l.invariant.front ∙ ap (λ (x : Line). set (scattered ys ls l.j) l.j x) c.take_line.ensures
-          ∙ scattered_more ys ls l.j ∙ ap (scattered ys ls) (sym (add-one l.j));
-    }
+pub fill_in-requires : goal.fill_in-requires
+fill_in-requires c =
+    let given = c.outcome-o.ensures.given (sym c.outcome-o.ensures.number ∙ c.if-o-ne0.false) in
+    record { few = given.few; lines_within = given.within; by_index = given.small }
 
 pub returns : goal.returns
 returns c =
-    let ys = c.args.lines.now in
-    let s = c.share-s.result in
-    let i : c.loop-i.i ≡ min (length ys) 64 = omega (arith, c.seen-m.ensures.0) in
-    let j : c.loop-j.j ≡ c.kept_of-k.result = omega arith in
-    let e : s ≡ form_of c.args.part ys =
-    c.share-s.ensures ∙ ap (λ (a : List Line). shared_array c.args.part a (length ys)) (c.loop-i.invariant.front ∙ ap (gathered ys) i) in
-    lent c.args.part ys c.loop-j.lines c.answer_in.result
-    (record {
-      answer = c.answer_in.ensures ∙ ap answer_in e;
-      lines =
-          c.loop-j.invariant.front ∙ ap (scattered ys s.lines) (j ∙ c.kept_of-k.ensures.0)
-          ∙ ap (λ (s : Shared). scattered ys s.lines (kept_of s (length ys))) e;
-    })
+    let ls = c.args.lines.now in
+    let given = c.outcome-o.ensures.given (sym c.outcome-o.ensures.number ∙ c.if-o-ne0.false) in
+    record {
+      says = says c.outcome-o.ensures c.told-answer.ensures;
+      lines = c.fill_in.ensures ∙ ap (λ (ps : List Part). fill_in ps ls) given.parts;
+    }

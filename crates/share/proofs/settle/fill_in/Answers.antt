@@ -1,29 +1,47 @@
 use mathlib.Core.Path.{◌≡◌, sym, ◌∙◌}
 use native.Mathlib.Omega.{arith}
-use lib.ListN.{length, take, length-set}
-use Rattle.apportion.proofs.Loops.{over_step}
-use Rattle.share.specs.Sharing.{parts_by}
-use Rattle.share.specs.Forms.{blank_line, fill_in, clear}
-use Rattle.share.proofs.Lines.{length_filled, filled_at, filled_all}
+use lib.ListN.{length, get_or, take}
+use lib.Seq.{length-take-le, get_or-take}
+use Rattle.apportion.proofs.Loops.{over_step, over_here, over_end}
+use Rattle.share.specs.Sharing.{part_of, parts_by}
+use Rattle.share.specs.Forms.{blank_line, fill_in}
+use Rattle.share.proofs.Lines.{length_fill, length_parts, fill_at, part_at}
 use borrow.Author.Rules.{rules}
 use Rattle.share.proofs.settle.fill_in.Goals as goal
 
+pub finish-requires : goal.finish-requires
+finish-requires c =
+    let l = c.loop-i in
+    let ls = c.args.lines.now in
+    let n = length ls in
+    let f = fill_in (parts_by c.args.negative ls (take n c.args.shares.0)) ls in
+    let lf : length f ≡ n = length_fill (parts_by c.args.negative ls (take n c.args.shares.0)) ls in
+    let here : get_or l.lines l.i blank_line ≡ get_or ls l.i blank_line = over_here ls f l.lines l.i blank_line l.invariant (omega arith) (omega arith) in
+    record {
+      line_within = rw here (c.requires.lines_within l.i blank_line (omega arith));
+      s_le_most_compensation = c.requires.by_index l.i (omega arith);
+    }
+
 pub loop-i-preserved : goal.loop-i-preserved
 loop-i-preserved c =
-    let long : length c.args.lines ≡ 64 = search rules in
-    let long₂ : length c.args.shares.0 ≡ 64 = search rules in
-    let long₃ : length c.clear-out.result ≡ 64 = search rules in
-    let f = fill_in (parts_by c.args.negative (take c.args.count c.args.lines) (take c.args.count c.args.shares.0)) (clear c.args.lines) in
-    let lf : length f ≡ 64 = length_filled (parts_by c.args.negative (take c.args.count c.args.lines) (take c.args.count c.args.shares.0)) c.args.lines ∙ long in (
-      omega arith,
-      simp length-set c.loop-i.invariant.1,
-      over_step c.clear-out.result f c.loop-i.out c.loop-i.i blank_line _ c.loop-i.invariant.2 (omega arith) (omega arith)
-          (filled_at c.args.negative c.args.lines c.args.shares.0 c.args.count c.loop-i.i blank_line (omega arith) (omega arith) (omega arith) ∙ sym c.finish.ensures),
-    )
+    let l = c.loop-i in
+    let ls = c.args.lines.now in
+    let n = length ls in
+    let long : length c.args.shares.0 ≡ 64 = search rules in
+    let ss = take n c.args.shares.0 in
+    let same : length ss ≡ n = length-take-le n c.args.shares.0 (omega arith) in
+    let ps = parts_by c.args.negative ls ss in
+    let f = fill_in ps ls in
+    let lf : length f ≡ n = length_fill ps ls in
+    let lp : length ps ≡ n = length_parts c.args.negative ls ss same in
+    let here : get_or l.lines l.i blank_line ≡ get_or ls l.i blank_line = over_here ls f l.lines l.i blank_line l.invariant (omega arith) (omega arith) in
+    over_step ls f l.lines l.i blank_line _ l.invariant (omega arith) (omega arith)
+    (fill_at ps ls l.i blank_line (part_of c.args.negative blank_line 0) (omega arith) (omega arith)
+    ∙ rw (part_at c.args.negative ls ss l.i blank_line (part_of c.args.negative blank_line 0) same (omega arith), get_or-take n c.args.shares.0 l.i 0 (omega arith), ← here) (sym c.finish.ensures))
 
 pub returns : goal.returns
 returns c =
-    let long : length c.args.lines ≡ 64 = search rules in
-    let long₂ : length c.args.shares.0 ≡ 64 = search rules in
-    let e : c.loop-i.i ≡ c.args.count = omega arith in
-    c.loop-i.invariant.2 ∙ rw (e, c.clear-out.ensures) (filled_all c.args.negative c.args.lines c.args.shares.0 c.args.count (omega arith) (omega arith))
+    let l = c.loop-i in
+    let ls = c.args.lines.now in
+    let ps = parts_by c.args.negative ls (take (length ls) c.args.shares.0) in
+    over_end ls (fill_in ps ls) _ l.i l.invariant (omega (arith, length_fill ps ls)) (omega arith)

@@ -20,4 +20,4 @@ loop-i-preserved-then-text-i-eq10 c = let l = c.loop-i in
 pub returns : goal.returns
 returns c = let l = c.loop-i in
     let text = c.args.text.now in
-    c.answer.ensures ∙ register_end l.roll l.grid l.ended text l.i c.after-last.result (omega arith) c.after-last.ensures ∙ l.invariant.2
+    c.answer.ensures ∙ register_end l.roll l.grid l.ended text l.i c.after.result (omega arith) c.after.ensures ∙ l.invariant.2

@@ -23,5 +23,5 @@ loop-i-preserved-then-text-i-eq10 c = let l = c.loop-i in
 pub returns : goal.returns
 returns c = let l = c.loop-i in
     let a = c.args in
-    let p = c.put_line-last in
+    let p = c.put_line in
     series_end l.out l.place l.grid l.ended (omega arith) a.text.now l.i _ p.result (omega arith) p.ensures ∙ l.invariant.4

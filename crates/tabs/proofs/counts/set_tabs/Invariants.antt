@@ -1,9 +1,5 @@
-use Prim.Native.Nat.{◌-◌}
 use Rattle.tabs.proofs.Retabbing.{Tabbing}
 use Rattle.tabs.proofs.counts.set_tabs.Given as goal
 
 abbrev pub invariant-loop-member : goal.invariant-loop-member
 invariant-loop-member l = Tabbing l.initial.page l.all l.member l.below l.page
-
-abbrev pub decreases-loop-member : goal.decreases-loop-member
-decreases-loop-member l = 65 - l.member

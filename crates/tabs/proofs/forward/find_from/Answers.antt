@@ -1,6 +1,7 @@
 use Prim.Native.Nat.{◌<◌}
 use native.Mathlib.Omega.{arith}
 use lib.ListN.{length}
+use borrow.Author.Tests.{eq-eqb, ne_eqb}
 use Rattle.join.proofs.Taken.{lies}
 use Rattle.tabs.proofs.Bringing.{seeks_next, seeks_there, seeks_over, run_there}
 use Rattle.tabs.proofs.forward.find_from.Goals as goal
@@ -11,11 +12,19 @@ call_number_at-own-requires c =
     run_there c.loop-at.invariant.run c.loop-at-test.true in
     (lies c.loop-at.invariant.run.coming.read there).long
 
-pub returns-then-number-own : goal.returns-then-number-own
-returns-then-number-own c =
+pub returns-then-own-number : goal.returns-then-own-number
+returns-then-own-number c =
     let n = c.call_number_at-number.ensures in
     let k = c.call_number_at-own.ensures in
-    seeks_there c.loop-at.invariant c.loop-at-test.true (omega (arith, c.if-number-own.true)) _ _ k n
+    rw (eq-eqb _ _ c.if-own-number.true) at
+    (seeks_there c.loop-at.invariant c.loop-at-test.true (omega (arith, c.if-number-own.true)) _ _ k n)
+
+pub returns-else-own-number : goal.returns-else-own-number
+returns-else-own-number c =
+    let n = c.call_number_at-number.ensures in
+    let k = c.call_number_at-own.ensures in
+    rw (ne_eqb _ _ c.if-own-number.false) at
+    (seeks_there c.loop-at.invariant c.loop-at-test.true (omega (arith, c.if-number-own.true)) _ _ k n)
 
 pub loop-at-preserved : goal.loop-at-preserved
 loop-at-preserved c =

@@ -15,7 +15,7 @@ loop-member-init c = fit_starts _ _ (λ i. omega (arith, c.type_inv.b i)) c.requ
 
 pub returns-then-not-fits_from : goal.returns-then-not-fits_from
 returns-then-not-fits_from c =
-    fit_not c.loop-member.invariant c.loop-member-test.true (sym c.fits_from.ensures ∙ c.if-not-fits_from.true)
+    fit_not c.loop-member.invariant (omega (arith, c.loop-member-test.true)) (sym c.fits_from.ensures ∙ c.if-not-fits_from.true)
 
 pub count_on-requires : goal.count_on-requires
 count_on-requires c =
@@ -28,7 +28,7 @@ overflow_add-at c =
     let fits : let s = c.args in fits_at s.page.now (calls_of s.b.now) c.loop-member.member ≡ true =
     sym c.fits_from.ensures ∙ c.if-not-fits_from.false in
     let next : let s = c.args in Fitting s.page.now s.b.now (c.loop-member.member + 1) (c.loop-member.at + 32 * c.count_on.result) =
-    fit_next c.loop-member.invariant c.loop-member-test.true fits c.count_on.result c.count_on.ensures in
+    fit_next c.loop-member.invariant (omega (arith, c.loop-member-test.true)) fits c.count_on.result c.count_on.ensures in
     omega (arith, place_few next.up)
 
 pub loop-member-preserved : goal.loop-member-preserved
@@ -36,7 +36,7 @@ loop-member-preserved c =
     let fits : let s = c.args in fits_at s.page.now (calls_of s.b.now) c.loop-member.member ≡ true =
     sym c.fits_from.ensures ∙ c.if-not-fits_from.false in
     let next : let s = c.args in Fitting s.page.now s.b.now (c.loop-member.member + 1) (c.loop-member.at + 32 * c.count_on.result) =
-    fit_next c.loop-member.invariant c.loop-member-test.true fits c.count_on.result c.count_on.ensures in
+    fit_next c.loop-member.invariant (omega (arith, c.loop-member-test.true)) fits c.count_on.result c.count_on.ensures in
     next
 
 pub returns : goal.returns

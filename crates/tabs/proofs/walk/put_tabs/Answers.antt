@@ -13,5 +13,5 @@ overflow_add-at c =
 
 pub loop-member-preserved : goal.loop-member-preserved
 loop-member-preserved c =
-    put_next c.loop-member.invariant c.loop-member-test.true c.tab_from-t.result c.tab_from-t.ensures
+    put_next c.loop-member.invariant (omega (arith, c.loop-member-test.true)) c.tab_from-t.result c.tab_from-t.ensures
     (rw c.tab_place.ensures at c.put_tab.ensures)

@@ -1,12 +1,8 @@
 use mathlib.Core.Path.{◌≡◌}
-use Prim.Native.Nat.{◌-◌, ◌≤◌}
 use lib.ListN.{length, drop}
 use lib.Seq.{sets}
 use Rattle.text.specs.Texts.{shown_name}
 use Rattle.text.proofs.told.put_shown.Given as goal
 
 abbrev pub invariant-loop-k : goal.invariant-loop-k
-invariant-loop-k l = (l.k ≤ length l.name) × (length l.out ≡ length l.initial.out) × (sets l.out l.k (drop l.k (shown_name l.name)) ≡ sets l.initial.out 0 (shown_name l.name))
-
-abbrev pub decreases-loop-k : goal.decreases-loop-k
-decreases-loop-k l = length l.name - l.k
+invariant-loop-k l = (length l.out ≡ length l.initial.out) × (sets l.out l.k (drop l.k (shown_name l.name)) ≡ sets l.initial.out 0 (shown_name l.name))

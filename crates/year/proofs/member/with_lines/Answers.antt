@@ -1,52 +1,42 @@
-use mathlib.Core.Path.{◌≡◌}
 use native.Mathlib.Omega.{arith}
-use lib.ListN.{length, get_or, take, length-set}
-use borrow.Author.Rules.{rules}
-use Rattle.year.specs.Verdict.{blank_line, LineFits}
+use lib.ListN.{length-set}
 use Rattle.year.specs.Every.{with_lines}
 use Rattle.year.proofs.Adding.{fits_at_lem, lines_on, lines_end}
 use Rattle.year.proofs.member.with_lines.Goals as goal
 
 pub overflow_sub-at : goal.overflow_sub-at
 overflow_sub-at c =
-    let line : LineFits (get_or c.args.lines c.loop-i.i blank_line) = let long : length c.args.lines ≡ 64 = search rules in
-    fits_at_lem c.args.lines c.args.count (omega arith) c.loop-i.i (omega arith) c.requires.lines_value in
-    line.number.0
+    let line = fits_at_lem c.args.lines.now c.loop-line.line-index (omega arith) c.requires.lines_value in
+    omega (arith, line.number.0, c.from-at.ensures)
 
-pub bounds-out-at : goal.bounds-out-at
-bounds-out-at c =
-    let line : LineFits (get_or c.args.lines c.loop-i.i blank_line) = let long : length c.args.lines ≡ 64 = search rules in
-    fits_at_lem c.args.lines c.args.count (omega arith) c.loop-i.i (omega arith) c.requires.lines_value in
-    omega (arith, line.number)
+pub bounds-members-at : goal.bounds-members-at
+bounds-members-at c =
+    let line = fits_at_lem c.args.lines.now c.loop-line.line-index (omega arith) c.requires.lines_value in
+    omega (arith, line.number, c.from-at.ensures, c.loop-line.invariant.0)
 
 pub member_with-requires : goal.member_with-requires
-member_with-requires c =
-    let line : LineFits (get_or c.args.lines c.loop-i.i blank_line) = let long : length c.args.lines ≡ 64 = search rules in
-    fits_at_lem c.args.lines c.args.count (omega arith) c.loop-i.i (omega arith) c.requires.lines_value in record {
-      month = c.requires.month;
-      line_fits = line;
-    }
+member_with-requires c = record {
+  month = c.requires.month;
+  line_fits = fits_at_lem c.args.lines.now c.loop-line.line-index (omega arith) c.requires.lines_value;
+}
 
-pub bounds-out-at-in-loop-i : goal.bounds-out-at-in-loop-i
-bounds-out-at-in-loop-i c =
-    let line : LineFits (get_or c.args.lines c.loop-i.i blank_line) = let long : length c.args.lines ≡ 64 = search rules in
-    fits_at_lem c.args.lines c.args.count (omega arith) c.loop-i.i (omega arith) c.requires.lines_value in
-    omega (arith, line.number)
+pub bounds-members-at-in-loop-line : goal.bounds-members-at-in-loop-line
+bounds-members-at-in-loop-line c =
+    let line = fits_at_lem c.args.lines.now c.loop-line.line-index (omega arith) c.requires.lines_value in
+    omega (arith, line.number, c.from-at.ensures, c.loop-line.invariant.0)
 
-pub loop-i-preserved : goal.loop-i-preserved
-loop-i-preserved c =
-    let line : LineFits (get_or c.args.lines c.loop-i.i blank_line) = let long : length c.args.lines ≡ 64 = search rules in
-    fits_at_lem c.args.lines c.args.count (omega arith) c.loop-i.i (omega arith) c.requires.lines_value in
-    let long : length c.args.lines ≡ 64 = search rules in
-    let room = c.loop-i.invariant.1 in (
-      omega arith,
+pub loop-line-preserved : goal.loop-line-preserved
+loop-line-preserved c =
+    let l = c.loop-line in
+    let line = fits_at_lem c.args.lines.now l.line-index (omega arith) c.requires.lines_value in
+    let room = l.invariant.0 in (
       simp length-set room,
-      lines_on c.args.lines c.args.count (omega arith) c.loop-i.i (omega arith) c.loop-i.out (with_lines c.args.members c.args.month (take c.args.count c.args.lines)) c.args.month
+      rw c.from-at.ensures (lines_on c.args.lines.now l.line-index (omega arith) l.members (with_lines c.args.members c.args.month c.args.lines.now) c.args.month
           c.member_with.result _
-          (omega (arith, line.number, room)) c.member_with.ensures c.loop-i.invariant.2,
+          (omega (arith, line.number, room)) (rw c.from-at.ensures at c.member_with.ensures) l.invariant.1),
     )
 
 pub returns : goal.returns
 returns c =
-    let long : length c.args.lines ≡ 64 = search rules in
-    lines_end c.args.lines c.args.count (omega arith) c.loop-i.i (omega arith) c.loop-i.out (with_lines c.args.members c.args.month (take c.args.count c.args.lines)) c.args.month c.loop-i.invariant.2
+    let l = c.loop-line in
+    lines_end c.args.lines.now l.line-index (omega arith) l.members (with_lines c.args.members c.args.month c.args.lines.now) c.args.month l.invariant.1

@@ -1,7 +1,8 @@
+use Rattle.std.proofs.Common.{refl}
 use Rattle.hour_faults.proofs.Judging.{taking_is}
 use Rattle.hour_faults.proofs.judge.Judge.taking.Goals as goal
 
 pub returns : goal.returns
 returns c = let a = c.args in
-    taking_is a.self a.cells c.filled_for-n.result c.standard_for-first.result c.wrapping_add_usize.result c.wrapping_add_usize-2.result
-    c.filled_for-n.ensures c.standard_for-first.ensures c.wrapping_add_usize.ensures.value c.wrapping_add_usize-2.ensures.value
+    taking_is a.self a.cells c.filled_for-n.result c.standard_for-first.result _ _
+    c.filled_for-n.ensures c.standard_for-first.ensures refl refl

@@ -1,4 +1,5 @@
-use Rattle.std.proofs.Common.{◌∙◌}
+use Rattle.std.proofs.Common.{sym, ◌∙◌}
+use Rattle.hours.proofs.Adding.{with_is}
 use Rattle.hours.proofs.Taking.{refused_answer, answered}
 use Rattle.hours.proofs.sheet.Sheet.answer.Goals as goal
 
@@ -12,4 +13,4 @@ returns c =
     let s = c.args.self in
     let n = c.hours_with in
     let g = c.grains_sum in
-    λ m hours ls j. answered m hours ls s (j.yes c.if-self.false) n.result g.result.0 n.ensures g.ensures
+    λ m hours ls j. answered m hours ls s (j.yes c.if-self.false) n.result g.result.0 (n.ensures ∙ sym (with_is s.actions)) g.ensures

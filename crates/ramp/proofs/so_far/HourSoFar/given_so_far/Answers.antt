@@ -1,6 +1,4 @@
-use mathlib.Core.Path.{refl}
 use native.Mathlib.Omega.{arith}
-use Rattle.ramp.specs.Inner.{given_so_far}
 use Rattle.ramp.proofs.Paid.{rates_most, right_most, delay_le, early_most, given_most}
 use Rattle.ramp.proofs.so_far.HourSoFar.given_so_far.Goals as goal
 
@@ -21,7 +19,3 @@ overflow_add-result c = omega (arith, rates_most c.args.self c.requires.goes, ea
 
 pub overflow_mul-result : goal.overflow_mul-result
 overflow_mul-result c = omega (arith, given_most c.args.self c.requires.goes c.args.rated.0 c.requires.rated_le_most_rated)
-
-pub returns : goal.returns
-unfolding given_so_far
-returns c = refl

@@ -1,12 +1,6 @@
-use mathlib.Core.Path.{refl}
 use native.Mathlib.Omega.{arith}
-use Rattle.ramp.specs.Inner.{over_so_far}
 use Rattle.ramp.proofs.Paid.{over_most}
 use Rattle.ramp.proofs.so_far.HourSoFar.over_so_far.Goals as goal
 
 pub overflow_mul-result-2 : goal.overflow_mul-result-2
 overflow_mul-result-2 c = omega (arith, over_most c.args.self c.requires.goes c.args.rated.0 c.requires.rated_le_most_rated)
-
-pub returns : goal.returns
-unfolding over_so_far
-returns c = refl

@@ -6,7 +6,7 @@ use Rattle.tables.proofs.roll.Roll.answer.Goals as goal
 
 pub returns-then-self : goal.returns-then-self
 returns-then-self c =
-    answer_no register_entries lawful (roll_so_far c.args.self) c.blank_entries-none.result c.blank_entries-none.ensures c.if-self.true
+    answer_no register_entries lawful (roll_so_far c.args.self) c.blank_entries-entries.result c.blank_entries-entries.ensures c.if-self.true
 
 pub returns : goal.returns
 returns c = answer_yes register_entries lawful (roll_so_far c.args.self) c.if-self.false

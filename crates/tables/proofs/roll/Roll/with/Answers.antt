@@ -1,9 +1,12 @@
-use mathlib.Core.Path.{refl}
+use mathlib.Core.Path.{refl, ap, ◌∙◌}
+use mathlib.Core.Bool.{Bool}
 use mathlib.Core.List.{List, map}
 use native.Mathlib.Omega.{arith}
 use Rattle.row.proofs.Judging.{with_refused, with_bad, with_full, with_sound}
 use Rattle.grid.specs.declared.Grid.{Grid}
-use Prim.Native.Nat.{ℕ}
+use Prim.Native.Nat.{ℕ, ◌+◌}
+use lib.ListN.{set}
+use Rattle.row.specs.Inner.{judged_on}
 use Rattle.register.specs.declared.Entry.{Entry}
 use Rattle.tables.specs.Register.{as_entry, register_entries}
 use Rattle.tables.specs.Meaning.{entry_cells, roll_so_far}
@@ -41,7 +44,9 @@ pub returns : goal.returns
 returns c =
     let a = c.args in
     let e = c.entry_in-e in record {
-      by_index = (λ rows. with_sound register_entries lawful (roll_so_far a.self) (said a.grid a.ended) c.if-self.false e.result e.ensures
+      by_index = (λ rows. ap (λ (b : Bool). judged_on register_entries
+          (record { refused = b; before = e.result.member.number; count = a.self.count + 1; all = set a.self.entries a.self.count e.result }) (map as_entry rows)) c.if-self.false
+          ∙ with_sound register_entries lawful (roll_so_far a.self) (said a.grid a.ended) c.if-self.false e.result e.ensures
           c.if-e-self.false (omega (arith, c.if-at-ge-MOST_ENTRIES.false)) (map as_entry rows));
       blank_value = refl;
     }
