@@ -1,4 +1,4 @@
-// The program's arguments: words, files, numbers, dates. What gives None has said in one line why.
+// The program's arguments: words, files, numbers, dates. What gives None has said in one line why, but for `argument` and `number_at`, whose callers say it.
 ghost use Rattle.std.specs.Prelude.{◌≤◌, length, IfSome};
 
 use crate::print;

@@ -333,3 +333,16 @@ pub fn other_month_at(terminal: &Terminal, i: usize, h: Header, before: Header) 
         |name| print::other_month(terminal, name, h, before),
     );
 }
+
+// Why joining refuses the book that argument i names, in words: it is of another month than the one before it, or there would be too many calls.
+pub fn tell_unjoined(terminal: &Terminal, i: usize, number: u32, one: &[u8], two: &[u8]) {
+    match number {
+        7 => other_month_at(terminal, i, header_of(two).header, header_of(one).header),
+        8 => note_at(
+            terminal,
+            i,
+            b"with it there would be more than 2000 different calls",
+        ),
+        _ => {}
+    }
+}

@@ -44,7 +44,7 @@ fn call_in(b: &[u8], i: usize) -> Option<Call> {
     None
 }
 
-// A member's records that scoring would refuse: as many as a book may have records.
+// A member's records that scoring would refuse, in as many steps as a book may have records.
 fn refuse_member(member: Member, joined: &[u8], refusals: &mut Refusals) {
     let mut next: usize = 0;
     for _ in 0..MOST_RECORDS {

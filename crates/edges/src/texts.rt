@@ -6,7 +6,8 @@ use crate::spelling::spell;
 use crate::tally::Tally;
 use lines::{Reader, Taken};
 use say::Terminal;
-use share::lent::share_front;
+use share::array::blank_lines;
+use share::lent::share_lines;
 use share::{Line, Shared, share};
 
 fn same(x: Taken, y: Taken) -> bool {
@@ -17,10 +18,22 @@ fn same(x: Taken, y: Taken) -> bool {
         & (x.lines == y.lines)
 }
 
-// Whether the array form and the lent form share the first `count` lines alike.
-// Stays by hand: the count may be one more than there are lines, which both forms refuse.
+// Whether the array form and the lent form share the first `count` lines alike. There is a blank line behind the 64, so that a count of one more can be lent, which both refuse. A refusal
+// changes none of the lines that are lent, and the array form clears its own: the lines are compared where there is none.
 fn forms_agree(part: u32, lines: [Line; 64], count: usize) -> bool {
-    share(part, lines, count) == share_front(part, lines, count)
+    let array = share(part, lines, count);
+    let mut lent = [blank_lines()[0]; 65];
+    lent[..64].copy_from_slice(&lines);
+    let Some(front) = lent.get_mut(..count) else {
+        return false;
+    };
+    let answer = share_lines(part, front);
+    let told = (answer.number == array.number)
+        & (answer.place == array.place)
+        & (answer.gap == array.gap)
+        & (answer.user == array.user);
+    let shared = front.iter().zip(&array.lines).all(|(a, b)| a == b);
+    told & (shared | (answer.number != 0))
 }
 
 // The same of the lines read, of all 64, and of one more than there can be: where fewer were read, both refuse. So do they with a part above

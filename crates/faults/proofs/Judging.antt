@@ -27,19 +27,14 @@ use Rattle.std.proofs.Common.{
   take_all,
   get_or-take,
   take-suc-set,
-  eq-eqb,
-  ne_eqb,
 }
 use lib.Seq.{take-append-le}
 use Rattle.grid.specs.declared.Grid.{Grid}
 use Rattle.grid.specs.Meaning.{cell_told, row_left}
 use Rattle.grid.proofs.Ends.{cells_here, cells_end}
-use Rattle.faults.specs.declared.Table.{Table}
-use Rattle.faults.specs.declared.Table.TheVariants.{Register, Series}
-use Rattle.faults.specs.declared.Wrong.TheVariants.{Blank, Columns}
-use Rattle.std.specs.Prelude.{Option, Some}
+use Rattle.std.specs.Prelude.{Option}
 use Rattle.faults.specs.declared.Wrong.{Wrong}
-use Rattle.faults.specs.Faults.{or_else, entry_fault, columns_of, cells_fault, line_fault, number_of}
+use Rattle.faults.specs.Faults.{or_else, number_of}
 use Rattle.faults.specs.Inner.{as_told}
 
 module _ (grid : Grid) (ended : List ℕ) (room : length ended ≡ 8) where
@@ -56,39 +51,6 @@ module _ (grid : Grid) (ended : List ℕ) (room : length ended ≡ 8) where
       ∙ ap (λ (x : ℕ). take grid.at ended ++ x ∷ []) (sym e)
       ∙ sym (take-suc-set ended grid.at v (omega arith))
       ∙ ap (λ (n : ℕ). take n (set ended grid.at v)) (sym (add-one grid.at))
-
--- seven cells and one are judged by those alone
-cells_part : (table : Table) (before : ℕ) (cells : List ℕ) (count : ℕ) → count ≡ columns_of table → cells_fault table before cells ≡ cells_fault table before (take count cells)
-unfolding cells_fault columns_of entry_fault
-cells_part Register before cells count e = rw (
-  e,
-  get_or-take 7 cells 0 0 (omega arith),
-  get_or-take 7 cells 1 0 (omega arith),
-  get_or-take 7 cells 2 0 (omega arith),
-  get_or-take 7 cells 3 0
-      (omega arith),
-  get_or-take 7 cells 4 0 (omega arith),
-  get_or-take 7 cells 5 0 (omega arith),
-  get_or-take 7 cells 6 0 (omega arith),
-)
-cells_part Series before cells count e = rw (e, get_or-take 1 cells 0 0 (omega arith))
-
-module _ (table : Table) (before : ℕ) (cells : List ℕ) (count : ℕ) (few : count ≤ length cells) where
-  long : length (take count cells) ≡ count
-  long = omega (arith, length-take count cells)
-
-  pub line_blank : count ≡ 0 → Some Blank ≡ line_fault table before (take count cells)
-  unfolding line_fault
-  line_blank e = rw (eq-eqb (length (take count cells)) 0 (long ∙ e))
-
-  pub line_cells : (count ≡ 0 → ⊥) → count ≡ columns_of table → cells_fault table before cells ≡ line_fault table before (take count cells)
-  unfolding line_fault
-  line_cells n e = rw (ne_eqb (length (take count cells)) 0 (λ z. n (sym long ∙ z)), eq-eqb (length (take count cells)) (columns_of table) (long ∙ e)) (cells_part table before cells count e)
-
-  pub line_columns_lem : (count ≡ 0 → ⊥) → (count ≡ columns_of table → ⊥) → Some (Columns count (columns_of table)) ≡ line_fault table before (take count cells)
-  unfolding line_fault
-  line_columns_lem n m = rw (ne_eqb (length (take count cells)) 0 (λ z. n (sym long ∙ z)), ne_eqb (length (take count cells)) (columns_of table) (λ z. m (sym long ∙ z)))
-      (ap (λ (k : ℕ). Some (Columns k (columns_of table))) (sym long))
 
 -- the first cell of a line that has one
 pub first_cell : (cells : List ℕ) (count : ℕ) → 1 ≤ count → get_or cells 0 0 ≡ get_or (take count cells) 0 0

@@ -6,6 +6,7 @@ pub mod words;
 ghost use Rattle.std.specs.Prelude.{◌≡◌, ℕ, ◌+◌, ◌%◌, ◌^◌, ◌<◌, ◌≤◌, true, false, List, [], length, take, drop, slice_index, is_none};
 ghost use Rattle.faults.specs.declared.Found.{Found};
 ghost use Rattle.faults.specs.Faults.{is_sound, column_fault, limit_fault, rising_fault, entry_fault, columns_of, cells_fault, line_fault, number_of, first_line, table_faults};
+ghost use Rattle.tables.specs.Register.{register_columns};
 ghost use Rattle.faults.specs.Inner.{first_row, first_of, Walks, AtEnd, ToEnd, Ended, CellsOf, Passes, IsLine, IsHeld};
 
 use ceiling::MOST_LIMIT;
@@ -67,6 +68,7 @@ pub fn is_sound(wrong: Option<Wrong>) -> bool
     wrong.is_none()
 }
 
+// Stays two functions: a ramping file's (hour_faults) is a fault of another kind, and names no limits beside a cell that is no number.
 #[tactic(auto, unfolding(crate::specs::Faults::column_fault))]
 fn column_fault(column: usize, least: u64, most: u64, n: u64) -> Option<Wrong>
     ensures { result ≡ column_fault column least most n }
@@ -103,8 +105,9 @@ fn rising_fault(before: u64, n: u64) -> Option<Wrong>
 
 // The first of a register line's cells that is wrong.
 #[tactic(auto, unfolding(crate::specs::Faults::entry_fault))]
-fn entry_fault(cells: [u64; MOST_COLUMNS]) -> Option<Wrong>
-    ensures { result ≡ entry_fault cells }
+fn entry_fault(cells: &[u64]) -> Option<Wrong>
+    requires { length cells.now ≡ register_columns }
+    ensures { result ≡ entry_fault cells.now }
 {
     let a = column_fault(6, 0, 10_000_000, cells[5]).or(limit_fault(cells[6]));
     let e = column_fault(5, 0, 5_000_000, cells[4]).or(a);
@@ -126,9 +129,10 @@ pub fn columns_of(table: Table) -> usize
 }
 
 // The first of them that is wrong.
-#[tactic(auto, unfolding(crate::specs::Faults::cells_fault))]
-fn cells_fault(table: Table, before: u64, cells: [u64; MOST_COLUMNS]) -> Option<Wrong>
-    ensures { result ≡ cells_fault table before cells }
+#[tactic(auto, unfolding(crate::specs::Faults::cells_fault, crate::specs::Faults::columns_of))]
+fn cells_fault(table: Table, before: u64, cells: &[u64]) -> Option<Wrong>
+    requires { length cells.now ≡ columns_of table }
+    ensures { result ≡ cells_fault table before cells.now }
 {
     match table {
         Table::Register => entry_fault(cells).or(rising_fault(before, cells[0])),
@@ -136,11 +140,12 @@ fn cells_fault(table: Table, before: u64, cells: [u64; MOST_COLUMNS]) -> Option<
     }
 }
 
-// What is wrong with a line of so many cells.
-fn line_fault(table: Table, before: u64, cells: [u64; MOST_COLUMNS], count: usize) -> Option<Wrong>
-    requires { count ≤ 8 }
-    ensures { result ≡ line_fault table before (take count cells) }
+// What is wrong with a line of these cells.
+#[tactic(auto, unfolding(crate::specs::Faults::line_fault))]
+fn line_fault(table: Table, before: u64, cells: &[u64]) -> Option<Wrong>
+    ensures { result ≡ line_fault table before cells.now }
 {
+    let count = cells.len();
     if count == 0 {
         return Some(Wrong::Blank);
     }
@@ -260,9 +265,8 @@ impl Walk {
     {
         let ended = self.ended;
         let row = cells_of(self.grid, ended);
-        let cells = row.cells;
-        let next = self.passing(self.line.wrapping_add(1), number_of(cells[0]), 0);
-        match line_fault(self.table, self.before, cells, row.count) {
+        let next = self.passing(self.line.wrapping_add(1), number_of(row.cells[0]), 0);
+        match line_fault(self.table, self.before, &row.cells[..row.count]) {
             None => next,
             Some(wrong) => Faulted {
                 found: Some(Found {

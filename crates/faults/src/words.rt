@@ -22,6 +22,7 @@ const MOST_COUNT: usize = 104;
 // The column of a register that may say that there is none.
 const LIMIT_COLUMN: usize = 7;
 
+// Stays two functions: a ramping file's columns (hour_faults) have other names.
 fn put_name(out: &mut [u8], at: usize, column: usize) -> usize
     requires { at + most_name ≤ length out.old }
     ensures { Puts most_name out.old at (column_name column) out.new result }
@@ -48,6 +49,7 @@ fn put_name(out: &mut [u8], at: usize, column: usize) -> usize
 }
 
 // Which cell it is.
+// Stays two functions: a ramping file's (hour_faults) names its own columns, and a series has one cell alone.
 fn put_column(out: &mut [u8], at: usize, table: Table, column: usize) -> usize
     requires { at + most_column ≤ length out.old }
     ensures { Puts most_column out.old at (column_text table column) out.new result }
@@ -217,10 +219,7 @@ pub fn fault_text(table: Table, name: &[u8], found: Found, out: &mut [u8]) -> us
     ensures renders { Renders (most_fault name.now) (fault_text table name.now found) out.old out.new result }
     ensures prefix_len { IsPrefixLen result out.new }
 {
-    if out.len() < MOST_FAULT {
-        return 0;
-    }
-    if out.len() - MOST_FAULT < name.len() {
+    if out.len() < MOST_FAULT + name.len() {
         return 0;
     }
     put_fault(out, table, name, found)
@@ -308,10 +307,7 @@ pub fn count_text(
     ensures renders { Renders (most_count name.now) (count_text name.now count year month wanted) out.old out.new result }
     ensures prefix_len { IsPrefixLen result out.new }
 {
-    if out.len() < MOST_COUNT {
-        return 0;
-    }
-    if out.len() - MOST_COUNT < name.len() {
+    if out.len() < MOST_COUNT + name.len() {
         return 0;
     }
     put_count(out, name, count, year, month, wanted)

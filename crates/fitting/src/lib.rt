@@ -42,7 +42,7 @@ pub fn is_fits(f: Result<(), Finding>) -> bool
 }
 
 // R, on the line behind the members'.
-// Stays two functions: total_apart and user_apart are two definitions (specs/Fitting.antt), of two fields on two lines, and a closure for each would be as long
+// Stays two functions: total_apart and user_apart are two definitions (specs/Fitting.antt), of two fields on two lines, and a closure for each would be as long.
 fn total_apart(s: Statement, follows: SignedFen) -> Result<(), Finding>
     requires { s.count ≤ most_entries }
     ensures { result ≡ total_apart s follows.0 }

@@ -11,7 +11,7 @@ use month::Row;
 use register::MOST_ENTRIES;
 use units::SignedFen;
 
-// Stays by hand: SignedFen has no ==, and same_fen (specs/Fitting.antt), which moved_share_taken changes in code, is told here once
+// Stays by hand: `==` of SignedFen asks for as long a proof that it is same_fen (specs/Fitting.antt).
 pub fn is_same(a: SignedFen, b: SignedFen) -> bool
     ensures { result ≡ same_fen a.0 b.0 }
 {

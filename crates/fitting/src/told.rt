@@ -11,7 +11,7 @@ use render::{put_decimal, put_field, put_word};
 use units::SignedFen;
 
 // A line of the text, as people count it, from 1 on, and what is said of it.
-// Stays two functions: intake has the same, and fitting and intake share no crate that tells lines; line_text stands in the specs of each
+// Stays two functions: intake has the same, and fitting and intake share no crate that tells lines; line_text stands in the specs of each.
 pub fn put_line(out: &mut [u8], line: u64, why: &[u8]) -> usize
     requires { most_line + length why.now ≤ length out.old }
     ensures { Puts (most_line + length why.now) out.old 0 (line_text line why.now) out.new result }
@@ -21,7 +21,7 @@ pub fn put_line(out: &mut [u8], line: u64, why: &[u8]) -> usize
     put_word(out, b, why)
 }
 
-// Stays two functions: this and those of fen and of signed amounts name their own words (decimal, yuan, signed_yuan) in a clause, and a trait over the three is longer than they are
+// Stays two functions: this and those of fen and of signed amounts name their own words (decimal, yuan, signed_yuan) in a clause, and a trait over the three is longer than they are.
 fn put_number_apart(out: &mut [u8], line: u64, name: &[u8], stands: u64, follows: u64) -> usize
     requires { most_apart + length name.now ≤ length out.old }
     ensures { Puts (most_apart + length name.now) out.old 0 (apart_text line name.now (decimal stands) (decimal follows)) out.new result }

@@ -6,7 +6,7 @@ use Rattle.row.specs.Numbers.{ceiling}
 use Rattle.grid.specs.Told.{row_in, rows_by}
 use Rattle.pay.specs.Member.{member_is_sound}
 use Rattle.ramp.specs.Ramping.{is_ramping, first_standard}
-use Rattle.hours.specs.declared.HoursFault.TheVariants.{NoFault, AtLine}
+use Rattle.hours.specs.declared.HoursFault.TheVariants.{AtLine}
 use Rattle.hours.specs.Hours.{as_hour_line, of_hour, last_hour, read_hours}
 use Rattle.pay.specs.declared.Member.{Member}
 use Rattle.faults.specs.Faults.{first_line}
@@ -41,12 +41,12 @@ unfolding hour_fault_text earlier_text line_text decimal decimal_in
 falls_told = refl
 
 -- so reading it refuses row 1
-pub falls_refused : (read_hours coal 744 falling).fault ≡ AtLine 1
+pub falls_refused : (read_hours coal 744 falling).fault ≡ Some (AtLine 1)
 unfolding falling member_is_sound is_ramping first_line
 falls_refused = (first_refused_lem 744 (omega arith) coal refl refl falling 1).1 (record { line = 3; wrong = Earlier 3 5 }, falls, refl)
 
 -- a file of the same actions in their order is taken
-pub rising_taken : (read_hours coal 744 rising).fault ≡ NoFault
+pub rising_taken : (read_hours coal 744 rising).fault ≡ None
 unfolding rising member_is_sound is_ramping first_hour_fault found_from hour_fault row_fault cells_fault month_fault column_fault action_fault rising_fault full_fault standard_fault fast_fault
     move_fault first_line rows_by row_in as_hour_line of_hour last_hour first_standard
 rising_taken = (none_taken 744 (omega arith) coal refl refl rising).1 refl

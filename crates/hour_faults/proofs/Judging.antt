@@ -1,5 +1,5 @@
 -- What is wrong with a line of so many cells, and what it does to the judge. Assumes nothing.
-use Rattle.std.proofs.Common.{◌≡◌, ℕ, ◌+◌, ◌%◌, ◌^◌, ◌<◌, ◌≤◌, Bool, true, false, cond, ◌&&◌, ltb, leb, List, [], length, get_or, take, sym, refl, ap, ◌∙◌, arith, length-take, get_or-take}
+use Rattle.std.proofs.Common.{◌≡◌, ℕ, ◌+◌, ◌%◌, ◌^◌, ◌≤◌, Bool, true, false, cond, ◌&&◌, ltb, leb, List, [], length, get_or, sym, refl, ap, ◌∙◌, arith}
 use Rattle.std.proofs.Common.{eq-eqb, ne_eqb, leb-true}
 use native.Mathlib.Decide.{ℕ_discrete}
 use Rattle.le.proofs.Tests.{holds_or_fails}
@@ -62,69 +62,37 @@ taking_is j cells n first count filled a b e f =
       first = (b ∙ ap (λ (x : ℕ). standard_for j x (get_or cells 6 0)) a) i;
     }
 
--- A line of so many cells
+-- A line of these cells
 
-module _ (j : Judge) (cells : List ℕ) (count : ℕ) (few : count ≤ length cells) where
-  abbrev row : List ℕ
-  row = take count cells
-
-  long : length row ≡ count
-  long = omega (arith, length-take count cells)
-
-  pub fault_blank : count ≡ 0 → Some Blank ≡ judge_fault j row
+module _ (j : Judge) (row : List ℕ) where
+  pub fault_blank : length row ≡ 0 → Some Blank ≡ judge_fault j row
   unfolding judge_fault row_fault
-  fault_blank e = rw (eq-eqb (length row) 0 (long ∙ e))
+  fault_blank e = rw (eq-eqb (length row) 0 e)
 
-  pub fault_columns : (count ≡ 0 → ⊥) → (count ≡ 7 → ⊥) → Some (Columns count 7) ≡ judge_fault j row
+  pub fault_columns : (length row ≡ 0 → ⊥) → (length row ≡ 7 → ⊥) → Some (Columns (length row) 7) ≡ judge_fault j row
   unfolding judge_fault row_fault
-  fault_columns n m = rw (ne_eqb (length row) 0 (λ z. n (sym long ∙ z)), ne_eqb (length row) 7 (λ z. m (sym long ∙ z))) (ap (λ (k : ℕ). Some (Columns k 7)) (sym long))
+  fault_columns n m = rw (ne_eqb (length row) 0 n, ne_eqb (length row) 7 m)
 
-  -- seven are judged by those alone
-  cell : count ≡ 7 → (i : ℕ) → i < 7 → get_or cells i 0 ≡ get_or row i 0
-  cell e i h = sym (get_or-take count cells i 0 (omega (arith, e, h)))
-
-  cells_part : count ≡ 7 → (hours last n first : ℕ) → or_else (cells_fault hours cells) (action_fault last n first cells) ≡ or_else (cells_fault hours row) (action_fault last n first row)
-  unfolding cells_fault action_fault
-  cells_part e hours last n first =
-      rw (cell e 0 (omega arith), cell e 1 (omega arith), cell e 2 (omega arith), cell e 3 (omega arith), cell e 4 (omega arith), cell e 5 (omega arith), cell e 6 (omega arith))
-
-  pub fault_cells : count ≡ 7 → (n first : ℕ) → n ≡ filled_for j (get_or cells 0 0) → first ≡ standard_for j n (get_or cells 6 0)
-      → or_else (cells_fault j.hours cells) (action_fault j.last n first cells) ≡ judge_fault j row
+  pub fault_cells : length row ≡ 7 → (n first : ℕ) → n ≡ filled_for j (get_or row 0 0) → first ≡ standard_for j n (get_or row 6 0)
+      → or_else (cells_fault j.hours row) (action_fault j.last n first row) ≡ judge_fault j row
   unfolding judge_fault row_fault
   fault_cells e n first a b =
-      let n_is : n ≡ filled_for j (get_or row 0 0) = a ∙ ap (filled_for j) (cell e 0 (omega arith)) in
-      let first_is : first ≡ standard_for j (filled_for j (get_or row 0 0)) (get_or row 6 0) = b ∙ (λ i. standard_for j (n_is i) (cell e 6 (omega arith) i)) in
-      rw (ne_eqb (length row) 0 (λ z. omega (arith, z, long, e)), eq-eqb (length row) 7 (long ∙ e))
-      (cells_part e j.hours j.last n first ∙ (λ i. or_else (cells_fault j.hours row) (action_fault j.last (n_is i) (first_is i) row)))
+      let first_is : first ≡ standard_for j (filled_for j (get_or row 0 0)) (get_or row 6 0) = b ∙ ap (λ (x : ℕ). standard_for j x (get_or row 6 0)) a in
+      rw (ne_eqb (length row) 0 (λ z. omega (arith, z, e)), eq-eqb (length row) 7 e)
+      (λ i. or_else (cells_fault j.hours row) (action_fault j.last (a i) (first_is i) row))
 
   -- a line without a fault has seven
-  pub sound_seven : is_sound (judge_fault j row) ≡ true → count ≡ 7
+  pub sound_seven : judge_fault j row ≡ None → length row ≡ 7
   unfolding judge_fault row_fault
-  sound_seven h = go (ℕ_discrete count 7)
+  sound_seven h = go (ℕ_discrete (length row) 7)
     where
-      go : Dec (count ≡ 7) → count ≡ 7
+      go : Dec (length row ≡ 7) → length row ≡ 7
       go (yes e) = e
-      go (no n) = blank (ℕ_discrete count 0)
+      go (no n) = blank (ℕ_discrete (length row) 0)
         where
-          blank : Dec (count ≡ 0) → count ≡ 7
-          blank (yes z) = absurd (holds_or_fails h (ap is_sound (sym (fault_blank z))))
-          blank (no k) = absurd (holds_or_fails h (ap is_sound (sym (fault_columns k n))))
-
-  taking_part : count ≡ 7 → judge_taking j cells ≡ judge_taking j row
-  unfolding judge_taking
-  taking_part e = rw (cell e 0 (omega arith), cell e 6 (omega arith))
-
-  pub judged_found : is_sound j.wrong ≡ false → j ≡ judge_of j row
-  unfolding judge_of
-  judged_found s = rw s
-
-  pub judged_bad : is_sound j.wrong ≡ true → (wrong : HourWrong) → judge_fault j row ≡ Some wrong → judge_refusing j wrong ≡ judge_of j row
-  unfolding judge_of
-  judged_bad s wrong b = rw (s, b)
-
-  pub judged_sound : is_sound j.wrong ≡ true → judge_fault j row ≡ None → judge_taking j cells ≡ judge_of j row
-  unfolding judge_of
-  judged_sound s b = rw (s, b) (taking_part (sound_seven (ap is_sound b)))
+          blank : Dec (length row ≡ 0) → length row ≡ 7
+          blank (yes z) = absurd (holds_or_fails (ap is_sound h) (ap is_sound (sym (fault_blank z))))
+          blank (no k) = absurd (holds_or_fails (ap is_sound h) (ap is_sound (sym (fault_columns k n))))
 
 -- A blank line
 

@@ -41,7 +41,7 @@ use Rattle.pay.specs.Member.{member_is_sound}
 use Rattle.ramp.specs.Ramping.{is_ramping}
 use Rattle.hours.specs.declared.HourLine.{HourLine}
 use Rattle.hours.specs.declared.HoursFault.{HoursFault}
-use Rattle.hours.specs.declared.HoursFault.TheVariants.{NoFault, OfMember, AtLine}
+use Rattle.hours.specs.declared.HoursFault.TheVariants.{OfMember, AtLine}
 use Rattle.hours.specs.Hours.{hour_columns, most_hours, as_hour_line, hour_lines, hour_line_is_sound, first_bad_line, hours_refused, hours_paid, hours_of_lines, read_hours}
 use Rattle.faults.specs.Faults.{first_line}
 use Rattle.hour_faults.specs.declared.HourWrong.{HourWrong}
@@ -132,22 +132,22 @@ module _ (hours : ℕ) (few : hours ≤ most_hours) where
     abbrev first : ℕ
     first = first_bad_line hours [] (lines_by rows)
 
-    fault_is : (read_hours m hours text).fault ≡ cond (ltb first (length (lines_by rows))) (AtLine first) NoFault
+    fault_is : (read_hours m hours text).fault ≡ cond (ltb first (length (lines_by rows))) (Some (AtLine first)) None
     unfolding read_hours hours_of_lines hours_refused hours_paid
     fault_is = rw (line, kind, lines_are text) (go (ltb first (length (lines_by rows))))
       where
-        go : (t : Bool) → (cond t (hours_refused (AtLine first)) (hours_paid m.rated.0 (lines_by rows))).fault ≡ cond t (AtLine first) NoFault
+        go : (t : Bool) → (cond t (hours_refused (AtLine first)) (hours_paid m.rated.0 (lines_by rows))).fault ≡ cond t (Some (AtLine first)) None
         go true = refl
         go false = refl
 
     -- the place of a fault
-    place : HoursFault → ℕ
-    place NoFault = 0
-    place (OfMember number) = 0
-    place (AtLine p) = suc p
+    place : Option HoursFault → ℕ
+    place None = 0
+    place (Some (OfMember number)) = 0
+    place (Some (AtLine p)) = suc p
 
     -- THE FIRST FAULT IS WHERE READING REFUSES: at the row of that line, and only there.
-    pub first_refused_lem : (p : ℕ) → ((read_hours m hours text).fault ≡ AtLine p)
+    pub first_refused_lem : (p : ℕ) → ((read_hours m hours text).fault ≡ Some (AtLine p))
         ↔ ((found : HourFound) × (first_hour_fault hours text ≡ Some found) × (found.line ≡ first_line text + p))
     unfolding first_hour_fault place
     first_refused_lem p = go (dec_lt first (length (lines_by rows)))
@@ -155,39 +155,39 @@ module _ (hours : ℕ) (few : hours ≤ most_hours) where
         f : Finds (first_line text) [] rows
         f = finds rows (first_line text) []
 
-        go : Dec (first < length (lines_by rows)) → ((read_hours m hours text).fault ≡ AtLine p)
+        go : Dec (first < length (lines_by rows)) → ((read_hours m hours text).fault ≡ Some (AtLine p))
             ↔ ((found : HourFound) × (found_from hours (first_line text) [] rows ≡ Some found) × (found.line ≡ first_line text + p))
         go (yes h) =
-            let told : (read_hours m hours text).fault ≡ AtLine first = fault_is ∙ rw (lt-ltb first (length (lines_by rows)) h) in
+            let told : (read_hours m hours text).fault ≡ Some (AtLine first) = fault_is ∙ rw (lt-ltb first (length (lines_by rows)) h) in
             let b = f.bad h in (
               λ e. let same : suc first ≡ suc p = ap place (sym told ∙ e) in
                   (b.0, b.1, omega (arith, b.2, same)),
-              λ q. let one : b.0.line ≡ q.0.line = ap line_of (sym b.1 ∙ q.1) in let same : first ≡ p = omega (arith, b.2, q.2, one) in told ∙ ap AtLine same,
+              λ q. let one : b.0.line ≡ q.0.line = ap line_of (sym b.1 ∙ q.1) in let same : first ≡ p = omega (arith, b.2, q.2, one) in told ∙ ap (λ (x : ℕ). Some (AtLine x)) same,
             )
         go (no h) =
-            let told : (read_hours m hours text).fault ≡ NoFault = fault_is ∙ rw (le-ltb first (length (lines_by rows)) (omega (arith, h))) in
+            let told : (read_hours m hours text).fault ≡ None = fault_is ∙ rw (le-ltb first (length (lines_by rows)) (omega (arith, h))) in
             let n = f.none (omega (arith, h)) in (
               λ e. let never : 0 ≡ suc p = ap place (sym told ∙ e) in absurd (omega (arith, never)),
               λ q. absurd (some_or_none (sym q.1 ∙ n)),
             )
 
     -- A FILE WITHOUT A FAULT IS TAKEN, and no other.
-    pub none_taken : ((read_hours m hours text).fault ≡ NoFault) ↔ (first_hour_fault hours text ≡ none_found)
+    pub none_taken : ((read_hours m hours text).fault ≡ None) ↔ (first_hour_fault hours text ≡ none_found)
     unfolding first_hour_fault place
     none_taken = go (dec_lt first (length (lines_by rows)))
       where
         f : Finds (first_line text) [] rows
         f = finds rows (first_line text) []
 
-        go : Dec (first < length (lines_by rows)) → ((read_hours m hours text).fault ≡ NoFault) ↔ (found_from hours (first_line text) [] rows ≡ none_found)
+        go : Dec (first < length (lines_by rows)) → ((read_hours m hours text).fault ≡ None) ↔ (found_from hours (first_line text) [] rows ≡ none_found)
         go (yes h) =
-            let told : (read_hours m hours text).fault ≡ AtLine first = fault_is ∙ rw (lt-ltb first (length (lines_by rows)) h) in
+            let told : (read_hours m hours text).fault ≡ Some (AtLine first) = fault_is ∙ rw (lt-ltb first (length (lines_by rows)) h) in
             let b = f.bad h in (
               λ e. let never : suc first ≡ 0 = ap place (sym told ∙ e) in absurd (omega (arith, never)),
               λ q. absurd (some_or_none (sym b.1 ∙ q)),
             )
         go (no h) =
-            let told : (read_hours m hours text).fault ≡ NoFault = fault_is ∙ rw (le-ltb first (length (lines_by rows)) (omega (arith, h))) in
+            let told : (read_hours m hours text).fault ≡ None = fault_is ∙ rw (le-ltb first (length (lines_by rows)) (omega (arith, h))) in
             (λ e. f.none (omega (arith, h)), λ q. told)
 
 -- The stream

@@ -1,6 +1,7 @@
 // What the lines so far come to: none of them has a fault, or which the first has.
-ghost use Rattle.std.specs.Prelude.{◌≡◌, ◌≤◌, [], take};
+ghost use Rattle.std.specs.Prelude.{◌≡◌, [], length};
 ghost use Rattle.grid.specs.Meaning.{row_left};
+ghost use Rattle.hours.specs.Hours.{hour_columns};
 ghost use Rattle.faults.specs.Inner.{as_told};
 ghost use Rattle.hour_faults.specs.HourFaults.{or_else, cells_fault, action_fault};
 ghost use Rattle.hour_faults.specs.Inner.{judge_first, filled_for, standard_for, judge_fault, judge_taking, judge_refusing, judge_of, judge_after};
@@ -26,14 +27,9 @@ pub struct Judge {
 }
 
 // What is wrong with the cells of a line, each by itself or together.
-fn line_fault(
-    hours: u16,
-    last: u64,
-    n: usize,
-    first: u64,
-    cells: [u64; MOST_COLUMNS],
-) -> Option<HourWrong>
-    ensures { result ≡ or_else (cells_fault hours cells) (action_fault last n first cells) }
+fn line_fault(hours: u16, last: u64, n: usize, first: u64, cells: &[u64]) -> Option<HourWrong>
+    requires { length cells.now ≡ hour_columns }
+    ensures { result ≡ or_else (cells_fault hours cells.now) (action_fault last n first cells.now) }
 {
     match cells_fault(hours, cells) {
         None => action_fault(last, n, first, cells),
@@ -58,6 +54,7 @@ impl Judge {
     }
 
     // How many actions of an hour were taken.
+    // Stays two functions: the sheet of hours keeps its hours in 16 bits, and of an hour its actions; a judge keeps any number that a cell may hold, and no action.
     #[tactic(auto, unfolding(crate::specs::Inner::filled_for))]
     fn filled_for(self, hour: u64) -> usize
         ensures { result ≡ filled_for self hour }
@@ -66,6 +63,7 @@ impl Judge {
     }
 
     // The standard rate that an action must have, where its hour has n before it.
+    // Stays two functions: the sheet of hours reads the rate off the first action that it keeps, a judge keeps the rate alone.
     #[tactic(auto, unfolding(crate::specs::Inner::standard_for))]
     fn standard_for(self, n: usize, own: u64) -> u64
         ensures { result ≡ standard_for self n own }
@@ -73,11 +71,11 @@ impl Judge {
         if n == 0 { own } else { self.first }
     }
 
-    // What is wrong with a line of so many cells.
-    fn fault(self, cells: [u64; MOST_COLUMNS], count: usize) -> Option<HourWrong>
-        requires { count ≤ 8 }
-        ensures { result ≡ judge_fault self (take count cells) }
+    // What is wrong with a line of these cells.
+    fn fault(self, cells: &[u64]) -> Option<HourWrong>
+        ensures { result ≡ judge_fault self cells.now }
     {
+        let count = cells.len();
         if count == 0 {
             return Some(HourWrong::Blank);
         }
@@ -90,8 +88,9 @@ impl Judge {
     }
 
     // The judge behind a line without a fault.
-    fn taking(self, cells: [u64; MOST_COLUMNS]) -> Judge
-        ensures { result ≡ judge_taking self cells }
+    fn taking(self, cells: &[u64]) -> Judge
+        requires { length cells.now ≡ hour_columns }
+        ensures { result ≡ judge_taking self cells.now }
     {
         let hour = cells[0];
         let n = self.filled_for(hour);
@@ -117,15 +116,14 @@ impl Judge {
         }
     }
 
-    // The judge behind a line of so many cells.
-    fn judged(self, cells: [u64; MOST_COLUMNS], count: usize) -> Judge
-        requires { count ≤ 8 }
-        ensures { result ≡ judge_of self (take count cells) }
+    // The judge behind a line of these cells.
+    fn judged(self, cells: &[u64]) -> Judge
+        ensures { result ≡ judge_of self cells.now }
     {
         if !is_sound(self.wrong) {
             return self;
         }
-        match self.fault(cells, count) {
+        match self.fault(cells) {
             None => self.taking(cells),
             Some(wrong) => self.refusing(wrong),
         }
@@ -136,8 +134,7 @@ impl Judge {
         ensures { result ≡ judge_of self (row_left as_told grid ended []) }
     {
         let row = cells_of(grid, ended);
-        let cells = row.cells;
-        self.judged(cells, row.count)
+        self.judged(&row.cells[..row.count])
     }
 
     // The judge behind a blank line, behind which another stands.

@@ -4,7 +4,7 @@
 mod judge;
 pub mod words;
 
-ghost use Rattle.std.specs.Prelude.{◌≡◌, ℕ, ◌≤◌, true, List, [], ◌++◌, slice_index};
+ghost use Rattle.std.specs.Prelude.{◌≡◌, ℕ, ◌≤◌, true, List, [], ◌++◌, length, slice_index};
 ghost use Rattle.ramp.specs.Ramping.{most_ramp_rate};
 ghost use Rattle.hour_faults.specs.HourFaults.{
   is_sound,
@@ -19,7 +19,7 @@ ghost use Rattle.hour_faults.specs.HourFaults.{
   action_fault,
   first_hour_fault,
 };
-ghost use Rattle.hours.specs.Hours.{month_hours};
+ghost use Rattle.hours.specs.Hours.{hour_columns, month_hours};
 ghost use Rattle.hour_faults.specs.Inner.{found_by, fault_is_known, finder_is_settled, found_left};
 
 use faults::first_row;
@@ -71,6 +71,7 @@ pub fn is_sound(wrong: Option<HourWrong>) -> bool
     wrong.is_none()
 }
 
+// Stays two functions: a register's (faults) is a fault of another kind, and names the limits beside a cell that is no number too.
 #[tactic(auto, unfolding(crate::specs::HourFaults::column_fault))]
 fn column_fault(column: usize, least: u64, most: u64, n: u64) -> Option<HourWrong>
     ensures { result ≡ column_fault column least most n }
@@ -101,8 +102,9 @@ fn month_fault(hours: u16, n: u64) -> Option<HourWrong>
 
 // The first of a line's cells that is wrong.
 #[tactic(auto, unfolding(crate::specs::HourFaults::cells_fault))]
-fn cells_fault(hours: u16, cells: [u64; MOST_COLUMNS]) -> Option<HourWrong>
-    ensures { result ≡ cells_fault hours cells }
+fn cells_fault(hours: u16, cells: &[u64]) -> Option<HourWrong>
+    requires { length cells.now ≡ hour_columns }
+    ensures { result ≡ cells_fault hours cells.now }
 {
     let g = column_fault(7, 1, u64::from(MOST_RAMP_RATE), cells[6]);
     let f = column_fault(6, 0, u64::from(MOST_RAMP_RATE), cells[5]).or(g);
@@ -166,9 +168,10 @@ fn move_fault(start: u64, command: u64) -> Option<HourWrong>
 
 // What is wrong with cells that are within their limits: behind a line of the last hour, where their own has n actions before them and its first a standard rate.
 #[tactic(auto, unfolding(crate::specs::HourFaults::action_fault))]
-fn action_fault(last: u64, n: usize, first: u64, cells: [u64; MOST_COLUMNS]) -> Option<HourWrong>
-    requires { slice_index cells 6 ≤ most_ramp_rate }
-    ensures { result ≡ action_fault last n first cells }
+fn action_fault(last: u64, n: usize, first: u64, cells: &[u64]) -> Option<HourWrong>
+    requires seven { length cells.now ≡ hour_columns }
+    requires rate { slice_index cells.now 6 ≤ most_ramp_rate }
+    ensures { result ≡ action_fault last n first cells.now }
 {
     let hour = cells[0];
     let move_ = move_fault(cells[1], cells[3]);
@@ -205,6 +208,8 @@ impl Finder {
     }
 
     // The finder after some bytes more.
+    // Stays two functions: a reader (hours) takes the same steps, and keeps a sheet where this keeps a judge. A walk over both would take the end of a line
+    // as a closure, with a contract for each, and be longer than the two.
     pub fn feed(self, bytes: &[u8]) -> Finder
         ensures { (rest : List ℕ) → found_left result rest ≡ found_left self (bytes.now ++ rest) }
     {

@@ -13,6 +13,7 @@ use render::{put_field, put_word};
 // The most bytes of a fault's line, but for the file's name.
 const MOST_FAULT: usize = 170;
 
+// Stays two functions: a register's columns (faults) have other names.
 fn put_name(out: &mut [u8], at: usize, column: usize) -> usize
     requires { at + most_name ≤ length out.old }
     ensures { Puts most_name out.old at (column_name column) out.new result }
@@ -39,6 +40,7 @@ fn put_name(out: &mut [u8], at: usize, column: usize) -> usize
 }
 
 // Which cell it is.
+// Stays two functions: a register's (faults) names its own columns.
 fn put_column(out: &mut [u8], at: usize, column: usize) -> usize
     requires { at + most_column ≤ length out.old }
     ensures { Puts most_column out.old at (column_text column) out.new result }
@@ -152,10 +154,7 @@ pub fn hour_fault_text(name: &[u8], found: HourFound, out: &mut [u8]) -> usize
     ensures renders { Renders (most_hour_fault name.now) (hour_fault_text name.now found) out.old out.new result }
     ensures prefix_len { IsPrefixLen result out.new }
 {
-    if out.len() < MOST_FAULT {
-        return 0;
-    }
-    if out.len() - MOST_FAULT < name.len() {
+    if out.len() < MOST_FAULT + name.len() {
         return 0;
     }
     put_fault(out, name, found)

@@ -8,7 +8,8 @@ use Rattle.pay.specs.declared.Member.{Member}
 use Rattle.pay.specs.Member.{member_is_sound}
 use Rattle.ramp.specs.Ramping.{is_ramping, action_is_sound, first_standard, apart, is_right_way, move_of, error_of, k1, k2, k3, index, right_way, moves, distance, mean_index, hour_worth, hour_grains}
 use Rattle.ramp.specs.Fractions.{fraction, plus, less, times, sum, mean, cut}
-use Rattle.hours.specs.declared.HoursFault.TheVariants.{NoFault, AtLine}
+use Rattle.std.specs.Prelude.{None}
+use Rattle.hours.specs.declared.HoursFault.TheVariants.{AtLine}
 use Rattle.hours.specs.Hours.{most_hours, as_hour_line, hour_lines, of_hour, last_hour, hour_line_is_sound, first_bad_line, pays_from, actions_from, hours_with}
 use Rattle.hours.specs.Hours.{grains_sum, hours_refused, hours_paid, hours_of_lines, read_hours}
 
@@ -34,7 +35,7 @@ grains n = record { 0 = n }
 -- Hour 3 has one action and hour 5 two: 984,600,000 and 1,778,103,211 grains, 2,762,703,211 together.
 pub two_hours_lem : read_hours coal 744 (first ++ 10 ∷ second ++ 10 ∷ third)
     ≡ record {
-      fault = NoFault;
+      fault = None;
       count = 2;
       sum = grains 2762703211;
       grains = set (set (replicate most_hours (grains 0)) 3 (grains 984600000)) 5 (grains 1778103211);

@@ -41,20 +41,22 @@ use Rattle.ramp.proofs.Bounds.{most_hour, grains_most}
 use Rattle.ramp.proofs.Top.{EachHourMost, hours_total, hours_most, hours_below_top}
 use Rattle.hours.specs.declared.HourLine.{HourLine}
 use Rattle.hours.specs.declared.HoursFault.{HoursFault}
-use Rattle.hours.specs.declared.HoursFault.TheVariants.{NoFault, OfMember, AtLine}
+use Rattle.std.specs.Prelude.{Option, Some, None}
+use Rattle.hours.specs.declared.HoursFault.TheVariants.{OfMember, AtLine}
 use Rattle.hours.specs.declared.Hours.{Hours}
 use Rattle.hours.specs.declared.Reader.{Reader}
 use Rattle.hours.specs.Hours.{most_hours, of_hour, hour_lines, pays_from, grains_sum, is_fault, hours_refused, hours_paid, read_hours}
 use Rattle.hours.specs.Outcomes.{LineWithinAt, LinesWithin, MayRead, HoursOutcome, bad_member, other_kind, bad_line_lem, paid}
 use Rattle.hours.specs.Stream.{ended_part, HasRead, Settled, reader_is_settled, Stops}
 use Rattle.hours.proofs.Sound.{good_most, good_sound, AllSound, all_sound}
+use Rattle.hours.proofs.Taking.{apart, same_fault}
 use Rattle.hours.proofs.Exact.{none_bad, hours_exact}
 
 -- the line of a fault, from 1 on
-abbrev line_told : HoursFault → ℕ
-line_told NoFault = 0
-line_told (OfMember number) = 0
-line_told (AtLine place) = suc place
+abbrev line_told : Option HoursFault → ℕ
+line_told None = 0
+line_told (Some (OfMember number)) = 0
+line_told (Some (AtLine place)) = suc place
 
 -- The whole file
 
@@ -84,23 +86,23 @@ module _ (m : Member) (hours : ℕ) (text : List ℕ) where
   all_taken_lem may w = sym ((hours_exact m hours text (hours_paid m.rated.0 (hour_lines text))).1 (paid refl may w))
 
   -- A refused file says nothing but its fault: zeros everywhere.
-  pub refused_zeros : is_fault (read_hours m hours text).fault ≡ true → read_hours m hours text ≡ hours_refused (read_hours m hours text).fault
-  unfolding hours_refused hours_paid is_fault
-  refused_zeros f = go (read_hours m hours text) ((hours_exact m hours text (read_hours m hours text)).0 refl) f
+  pub refused_zeros : (fault : HoursFault) → (read_hours m hours text).fault ≡ Some fault → read_hours m hours text ≡ hours_refused fault
+  unfolding hours_refused hours_paid
+  refused_zeros fault f = go (read_hours m hours text) ((hours_exact m hours text (read_hours m hours text)).0 refl) f
     where
-      told : (r : Hours) (fault : HoursFault) → r ≡ hours_refused fault → r ≡ hours_refused r.fault
-      told r fault e = e ∙ ap (λ (h : Hours). hours_refused h.fault) (sym e)
+      told : (r : Hours) (own : HoursFault) → r ≡ hours_refused own → r.fault ≡ Some fault → r ≡ hours_refused fault
+      told r own e s = e ∙ ap (λ (x : HoursFault). hours_refused x) (same_fault own fault (sym (ap (λ (h : Hours). h.fault) e) ∙ s))
 
-      go : (r : Hours) → HoursOutcome m hours (hour_lines text) r → is_fault r.fault ≡ true → r ≡ hours_refused r.fault
-      go r (bad_member e n) f = told r (OfMember 10) e
-      go r (other_kind e w k) f = told r (OfMember 12) e
-      go r (bad_line_lem i e may h w n) f = told r (AtLine i) e
-      go r (paid e may w) f = absurd (holds_or_fails f (ap (λ (h : Hours). is_fault h.fault) e))
+      go : (r : Hours) → HoursOutcome m hours (hour_lines text) r → r.fault ≡ Some fault → r ≡ hours_refused fault
+      go r (bad_member e n) s = told r (OfMember 10) e s
+      go r (other_kind e w k) s = told r (OfMember 12) e s
+      go r (bad_line_lem i e may h w n) s = told r (AtLine i) e s
+      go r (paid e may w) s = absurd (apart s (ap (λ (h : Hours). h.fault) e))
 
 -- a fault that is told is one
-none_told : (fault : HoursFault) → is_fault fault ≡ true → (r : Hours) → r ≡ hours_refused fault → r.fault ≡ NoFault → ⊥
-unfolding hours_refused is_fault
-none_told fault t r e f = holds_or_fails t (ap is_fault (sym (ap (λ (h : Hours). h.fault) e) ∙ f))
+none_told : (fault : HoursFault) → (r : Hours) → r ≡ hours_refused fault → r.fault ≡ None → ⊥
+unfolding hours_refused
+none_told fault r e f = apart (ap (λ (h : Hours). h.fault) e) f
 
 -- What the hours pay
 
@@ -193,15 +195,15 @@ module _ (m : Member) (hours : ℕ) (text : List ℕ) where
           omega (arith, ap sum e, most)
 
   -- EACH HOUR IS PAID AS ITS ACTIONS ARE SCORED: of a file that is taken, no hour is refused.
-  pub as_scored : (read_hours m hours text).fault ≡ NoFault → (hour : ℕ) → hour < most_hours
+  pub as_scored : (read_hours m hours text).fault ≡ None → (hour : ℕ) → hour < most_hours
       → ramping m (of_hour hour (hour_lines text)) ≡ hour_paid (get_or (read_hours m hours text).grains hour none).0
-  unfolding hours_paid is_fault
+  unfolding hours_paid
   as_scored f hour h = go (read_hours m hours text) ((hours_exact m hours text (read_hours m hours text)).0 refl) f
     where
-      go : (r : Hours) → HoursOutcome m hours (hour_lines text) r → r.fault ≡ NoFault → ramping m (of_hour hour (hour_lines text)) ≡ hour_paid (get_or r.grains hour none).0
-      go r (bad_member e n) f = absurd (none_told (OfMember 10) refl r e f)
-      go r (other_kind e w k) f = absurd (none_told (OfMember 12) refl r e f)
-      go r (bad_line_lem i e may h w n) f = absurd (none_told (AtLine i) refl r e f)
+      go : (r : Hours) → HoursOutcome m hours (hour_lines text) r → r.fault ≡ None → ramping m (of_hour hour (hour_lines text)) ≡ hour_paid (get_or r.grains hour none).0
+      go r (bad_member e n) f = absurd (none_told (OfMember 10) r e f)
+      go r (other_kind e w k) f = absurd (none_told (OfMember 12) r e f)
+      go r (bad_line_lem i e may h w n) f = absurd (none_told (AtLine i) r e f)
       go r (paid e may w) f =
           let s = all_sound hours (hour_lines text) (none_bad hours (hour_lines text) w) in
           let some : 0 < m.rated.0 = omega (arith, may.line.rated.0) in

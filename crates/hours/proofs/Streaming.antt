@@ -52,6 +52,8 @@ use Rattle.grid.specs.Grid.{rows_of}
 use Rattle.grid.specs.Meaning.{row_by, head_left, blank_left, row_left, blanks_then, line_then, lines_by, rows_left, rows_after, no_feed, StepFrom, Starts, Next}
 use Rattle.grid.proofs.Rows.{blanks_none, numbers_rows, feed, ends}
 use Rattle.hours.specs.declared.HourLine.{HourLine}
+use Rattle.std.specs.Prelude.{Option, Some, None}
+use Rattle.hours.specs.declared.HoursFault.{HoursFault}
 use Rattle.hours.specs.declared.HoursFault.TheVariants.{AtLine}
 use Rattle.hours.specs.declared.Hours.{Hours}
 use Rattle.hours.specs.declared.sheet.Sheet.{Sheet}
@@ -145,11 +147,11 @@ module _ (r : Reader) where
   unfolding is_spoilt
   spoilt_line h b t e = rw (h, b, e)
 
-  pub settled_refused : r.sheet.refused ≡ true → true ≡ reader_is_settled r
+  pub settled_refused : is_fault r.sheet.fault ≡ true → true ≡ reader_is_settled r
   unfolding reader_is_settled
   settled_refused h = ap (λ (t : Bool). t || is_spoilt r) (sym h)
 
-  pub settled_spoilt : r.sheet.refused ≡ false → (t : Bool) → t ≡ is_spoilt r → t ≡ reader_is_settled r
+  pub settled_spoilt : is_fault r.sheet.fault ≡ false → (t : Bool) → t ≡ is_spoilt r → t ≡ reader_is_settled r
   unfolding reader_is_settled
   settled_spoilt h t e = e ∙ ap (λ (u : Bool). u || is_spoilt r) (sym h)
 
@@ -230,26 +232,32 @@ module _ (m : Member) (hours : ℕ) where
 
     -- Settled
 
-    pub settles : r.sheet.refused ≡ is_fault (read_hours m hours (ended_part text)).fault
-    unfolding hours_refused hours_paid is_fault
-    settles = go r.sheet.refused refl
+    pub settles : is_fault r.sheet.fault ≡ is_fault (read_hours m hours (ended_part text)).fault
+    unfolding hours_refused hours_paid
+    settles = go r.sheet.fault refl
       where
-        go : (t : Bool) → r.sheet.refused ≡ t → r.sheet.refused ≡ is_fault (read_hours m hours (ended_part text)).fault
-        go true e =
-            let no = k.ended.no e in
-            e ∙ sym no.told ∙ ap (λ (h : Hours). is_fault h.fault) (refused_answer m hours (hour_lines (ended_part text)) r.sheet.fault no ∙ sym (said m hours (ended_part text)))
-        go false e = e ∙ ap (λ (h : Hours). is_fault h.fault) (answers m hours (hour_lines (ended_part text)) r.sheet (k.ended.yes e) ∙ sym (said m hours (ended_part text)))
+        go : (o : Option HoursFault) → r.sheet.fault ≡ o → is_fault r.sheet.fault ≡ is_fault (read_hours m hours (ended_part text)).fault
+        go (Some fault) e =
+            ap (λ (x : Option HoursFault). is_fault x) e
+            ∙ ap (λ (h : Hours). is_fault h.fault) (refused_answer m hours (hour_lines (ended_part text)) fault (k.ended.no fault e) ∙ sym (said m hours (ended_part text)))
+        go None e =
+            ap (λ (x : Option HoursFault). is_fault x) e
+            ∙ ap (λ (h : Hours). is_fault h.fault) (answers m hours (hour_lines (ended_part text)) r.sheet (k.ended.yes e) ∙ sym (said m hours (ended_part text)))
 
     -- no line that follows changes the answer then
     pub settled : is_fault (read_hours m hours (ended_part text)).fault ≡ true → Settled m hours text
     unfolding done
-    settled f rest =
-        let no' = k.ended.no (settles ∙ f) in
-        said m hours (text ++ rest) ∙ ap (lines_say m hours) (k.left rest) ∙ no'.stays (map as_hour_line (rows_left (row_by hour_columns) k.held r.grid r.ended rest))
-        ∙ sym (said m hours text ∙ ap (lines_say m hours) ends_here ∙ no'.stays (ended_lines k.held r.grid r.ended))
+    settled f rest = go r.sheet.fault refl
+      where
+        go : (o : Option HoursFault) → r.sheet.fault ≡ o → read_hours m hours (text ++ rest) ≡ read_hours m hours text
+        go None e = absurd (holds_or_fails (settles ∙ f) (ap (λ (x : Option HoursFault). is_fault x) e))
+        go (Some fault) e =
+            let no' = k.ended.no fault e in
+            said m hours (text ++ rest) ∙ ap (lines_say m hours) (k.left rest) ∙ no'.stays (map as_hour_line (rows_left (row_by hour_columns) k.held r.grid r.ended rest))
+            ∙ sym (said m hours text ∙ ap (lines_say m hours) ends_here ∙ no'.stays (ended_lines k.held r.grid r.ended))
 
     -- where no line that has ended has a fault: what the line that is being read decides
-    module _ (on : r.sheet.refused ≡ false) (long : length r.ended ≡ 8) where
+    module _ (on : r.sheet.fault ≡ None) (long : length r.ended ≡ 8) where
       spoilt_answer : is_spoilt r ≡ true → (rest : List ℕ) → read_hours m hours (text ++ rest) ≡ hours_refused (AtLine r.sheet.count)
       unfolding done is_spoilt
       spoilt_answer h rest =
@@ -268,9 +276,9 @@ module _ (m : Member) (hours : ℕ) where
       spoilt_settled h rest = spoilt_answer h rest ∙ sym (spoilt_answer h []) ∙ ap (read_hours m hours) (append-nil text)
 
       pub stops_spoilt : (test : Bool) → test ≡ is_spoilt r → Stops m hours text test
-      stops_spoilt test e = record { soon = λ f. absurd (holds_or_fails (settles ∙ f) on); late = λ t. spoilt_settled (sym e ∙ t) }
+      stops_spoilt test e = record { soon = λ f. absurd (holds_or_fails (settles ∙ f) (ap (λ (x : Option HoursFault). is_fault x) on)); late = λ t. spoilt_settled (sym e ∙ t) }
 
-    pub stops_refused : r.sheet.refused ≡ true → Stops m hours text true
+    pub stops_refused : is_fault r.sheet.fault ≡ true → Stops m hours text true
     stops_refused h = record { soon = λ f. refl; late = λ t. settled (sym settles ∙ h) }
 
 -- Many bytes

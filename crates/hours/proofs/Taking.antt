@@ -53,6 +53,7 @@ use Rattle.std.proofs.Common.{
 use lib.Seq.{append_snoc}
 use borrow.Author.Tests.{eqb-false}
 use Rattle.le.proofs.Tests.{each, holds_or_fails}
+use Rattle.std.specs.Prelude.{Option, Some, None, is_some, unwrap_or}
 use Rattle.units.specs.declared.Grains.{Grains}
 use Rattle.pay.specs.declared.Member.{Member}
 use Rattle.pay.specs.Member.{most_rated, member_is_sound}
@@ -63,7 +64,7 @@ use Rattle.grid.specs.declared.Grid.{Grid}
 use Rattle.grid.specs.Meaning.{row_by, head_left, blank_left, blank_behind, row_left}
 use Rattle.hours.specs.declared.HourLine.{HourLine}
 use Rattle.hours.specs.declared.HoursFault.{HoursFault}
-use Rattle.hours.specs.declared.HoursFault.TheVariants.{NoFault, OfMember, AtLine}
+use Rattle.hours.specs.declared.HoursFault.TheVariants.{OfMember, AtLine}
 use Rattle.hours.specs.declared.sheet.Sheet.{Sheet}
 use Rattle.hours.specs.Hours.{
   hour_columns,
@@ -79,7 +80,6 @@ use Rattle.hours.specs.Hours.{
   hours_refused,
   hours_paid,
   hours_of_lines,
-  is_fault,
 }
 use Rattle.hours.specs.Outcomes.{LineWithin}
 use Rattle.hours.specs.Inner.{most_short, fair_hour_line, ended_line, ended_lines, held_after, lines_say, filled_for, standard_for, sheet_takes, BlankSheet, GoodHour, Taken, Refused, Judged}
@@ -92,6 +92,18 @@ pub lines_of : (m : Member) (hours : ℕ) (ls : List HourLine) → (member_is_so
 unfolding lines_say
 lines_of m hours ls g = rw (g.0, g.1)
 
+-- A fault, or none
+
+pub none_of : (o : Option HoursFault) → is_some o ≡ false → o ≡ None
+none_of None h = refl
+none_of (Some fault) h = absurd (holds_or_fails refl h)
+
+pub apart : {o : Option HoursFault} {fault : HoursFault} → o ≡ Some fault → o ≡ None → ⊥
+apart e n = holds_or_fails (ap (λ (x : Option HoursFault). is_some x) e) (ap (λ (x : Option HoursFault). is_some x) n)
+
+pub same_fault : (a b : HoursFault) → Some a ≡ Some b → a ≡ b
+same_fault a b e = ap (λ (x : Option HoursFault). unwrap_or x a) e
+
 -- Before any line
 
 module _ (m : Member) (hours : ℕ) (s : Sheet) where
@@ -99,11 +111,11 @@ module _ (m : Member) (hours : ℕ) (s : Sheet) where
   unfolding hour_grains right_way
   no_pays N n = sym (pays_table N [] 0 n ∙ table_none (paid_for N) 0 n)
 
-  pub starts_taken : (member_is_sound m ≡ true) × (is_ramping m.kind ≡ true) → hours ≤ most_short → BlankSheet m hours false NoFault s → Judged m hours [] s
+  pub starts_taken : (member_is_sound m ≡ true) × (is_ramping m.kind ≡ true) → hours ≤ most_short → BlankSheet m hours None s → Judged m hours [] s
   unfolding of_hour last_hour first_bad_line
   starts_taken g short b =
       record {
-        no = λ e. absurd (holds_or_fails e b.refused);
+        no = λ fault e. absurd (apart e b.fault);
         yes = λ e. record {
           good = g;
           sound = refl;
@@ -120,11 +132,11 @@ module _ (m : Member) (hours : ℕ) (s : Sheet) where
       }
 
   -- a member that may not is refused, whatever lines follow
-  pub starts_refused : (fault : HoursFault) → is_fault fault ≡ true → ((ls : List HourLine) → lines_say m hours ls ≡ hours_refused fault) → BlankSheet m hours true fault s → Judged m hours [] s
-  starts_refused fault t says b =
+  pub starts_refused : (fault : HoursFault) → ((ls : List HourLine) → lines_say m hours ls ≡ hours_refused fault) → BlankSheet m hours (Some fault) s → Judged m hours [] s
+  starts_refused fault says b =
       record {
-        no = λ e. record { told = ap is_fault b.fault ∙ t; stays = λ ls. says ls ∙ ap (λ (f : HoursFault). hours_refused f) (sym b.fault) };
-        yes = λ e. absurd (holds_or_fails b.refused e);
+        no = λ other e. record { stays = λ ls. says ls ∙ ap (λ (f : HoursFault). hours_refused f) (same_fault fault other (sym b.fault ∙ e)) };
+        yes = λ e. absurd (apart b.fault e);
       }
 
 pub refused_10 : (m : Member) (hours : ℕ) → member_is_sound m ≡ false → (ls : List HourLine) → lines_say m hours ls ≡ hours_refused (OfMember 10)
@@ -174,10 +186,9 @@ module _ (m : Member) (hours : ℕ) (ls : List HourLine) (s : Sheet) (k : Taken 
 
   -- a line that is not sound is refused, whatever lines follow
   pub bad_refused : (l : HourLine) → hour_line_is_sound hours ls l ≡ false → Refused m hours (ls ++ l ∷ []) (AtLine s.count)
-  unfolding is_fault hours_of_lines first_bad_line
+  unfolding hours_of_lines first_bad_line
   bad_refused l h =
       record {
-        told = refl;
         stays = λ rest.
             let split = append_snoc ls l rest in
             let none : first_bad_line hours ls (l ∷ rest) ≡ 0 = rw h in
@@ -193,7 +204,7 @@ module _ (m : Member) (hours : ℕ) (ls : List HourLine) (s : Sheet) (k : Taken 
   answers = sym (lines_of m hours ls k.good ∙ rw (k.sound, le-ltb (length ls) (length ls) (omega arith)))
 
   pub answered : (count sum : ℕ) → count ≡ hours_with s.actions → sum ≡ grains_sum s.grains
-      → record { fault = NoFault; count = count; sum = record { 0 = sum }; grains = s.grains; actions = s.actions } ≡ lines_say m hours ls
+      → record { fault = None; count = count; sum = record { 0 = sum }; grains = s.grains; actions = s.actions } ≡ lines_say m hours ls
   unfolding hours_paid
   answered count sum e f = rw (e, f, k.grains, k.actions) answers
 
@@ -203,24 +214,25 @@ refused_answer m hours ls fault r = sym (ap (lines_say m hours) (sym (append-nil
 
 -- it stays so behind one line more
 pub refused_more : (m : Member) (hours : ℕ) (ls : List HourLine) (l : HourLine) (fault : HoursFault) → Refused m hours ls fault → Refused m hours (ls ++ l ∷ []) fault
-refused_more m hours ls l fault r = record { told = r.told; stays = λ rest. ap (lines_say m hours) (append_assoc ls (l ∷ []) rest) ∙ r.stays (l ∷ rest) }
+refused_more m hours ls l fault r = record { stays = λ rest. ap (lines_say m hours) (append_assoc ls (l ∷ []) rest) ∙ r.stays (l ∷ rest) }
 
 refused_all : (m : Member) (hours : ℕ) (ls more : List HourLine) (fault : HoursFault) → Refused m hours ls fault → Refused m hours (ls ++ more) fault
-refused_all m hours ls more fault r = record { told = r.told; stays = λ rest. ap (lines_say m hours) (append_assoc ls more rest) ∙ r.stays (more ++ rest) }
+refused_all m hours ls more fault r = record { stays = λ rest. ap (lines_say m hours) (append_assoc ls more rest) ∙ r.stays (more ++ rest) }
 
 -- A blank line, whatever lines stand behind it
 
 module _ (m : Member) (hours : ℕ) (ls more : List HourLine) (s : Sheet) (j : Judged m hours ls s) where
-  pub spoilt_before : s.refused ≡ true → Judged m hours (ls ++ as_hour_line [] ∷ more) s
-  spoilt_before h = record { no = λ e. refused_all m hours ls (as_hour_line [] ∷ more) s.fault (j.no e); yes = λ e. absurd (holds_or_fails h e) }
+  pub stays_spoilt : is_some s.fault ≡ true → Judged m hours (ls ++ more) s
+  stays_spoilt h =
+      record { no = λ fault e. refused_all m hours ls more fault (j.no fault e); yes = λ e. absurd (holds_or_fails h (ap (λ (x : Option HoursFault). is_some x) e)) }
 
-  pub spoilt_now : (r : Sheet) → s.refused ≡ false → (r.refused ≡ true) × (r.fault ≡ AtLine s.count) → Judged m hours (ls ++ as_hour_line [] ∷ more) r
+  pub spoilt_now : (r : Sheet) → s.fault ≡ None → r.fault ≡ Some (AtLine s.count) → Judged m hours (ls ++ as_hour_line [] ∷ more) r
   spoilt_now r on e =
       let bad = bad_refused m hours ls s (j.yes on) (as_hour_line []) (none_bad hours ls) in
       record {
-        no = λ h. subst (λ (x : HoursFault). Refused m hours (ls ++ as_hour_line [] ∷ more) x) (sym e.1)
+        no = λ fault h. subst (λ (x : HoursFault). Refused m hours (ls ++ as_hour_line [] ∷ more) x) (same_fault (AtLine s.count) fault (sym e ∙ h))
             (subst (λ (x : List HourLine). Refused m hours x (AtLine s.count)) (append_snoc ls (as_hour_line []) more) (refused_all m hours (ls ++ as_hour_line [] ∷ []) more (AtLine s.count) bad));
-        yes = λ h. absurd (holds_or_fails e.0 h);
+        yes = λ h. absurd (apart e h);
       }
 
 -- A line that is taken
@@ -289,26 +301,26 @@ module _ (m : Member) (hours : ℕ) (ls : List HourLine) (s : Sheet) (k : Taken 
 
 -- The end of a line
 
-module _ (s : Sheet) (l : HourLine) (r : Sheet) (on : s.refused ≡ false) (f : HourLine) (fair : f ≡ fair_hour_line l) where
-  pub with_refused : sheet_takes s f ≡ false → r.refused ≡ true → r.fault ≡ AtLine s.count
+module _ (s : Sheet) (l : HourLine) (r : Sheet) (on : s.fault ≡ None) (f : HourLine) (fair : f ≡ fair_hour_line l) where
+  pub with_refused : sheet_takes s f ≡ false → r.fault ≡ Some (AtLine s.count)
       → (m : Member) (hours : ℕ) (ls : List HourLine) → Judged m hours ls s → Judged m hours (ls ++ l ∷ []) r
-  with_refused h shut told m hours ls j =
+  with_refused h told m hours ls j =
       let k = j.yes on in
       let bad = fair_bad hours k.month.1 ls l (ap (hour_line_is_sound hours ls) (sym fair) ∙ sym (takes_sound m hours ls s k f) ∙ h) in
       record {
-        no = λ e. subst (λ (x : HoursFault). Refused m hours (ls ++ l ∷ []) x) (sym told) (bad_refused m hours ls s k l bad);
-        yes = λ e. absurd (holds_or_fails shut e);
+        no = λ fault e. subst (λ (x : HoursFault). Refused m hours (ls ++ l ∷ []) x) (same_fault (AtLine s.count) fault (sym told ∙ e)) (bad_refused m hours ls s k l bad);
+        yes = λ e. absurd (apart told e);
       }
 
   pub with_taken : sheet_takes s f ≡ true
-      → ((m : Member) (hours : ℕ) (ls : List HourLine) → s.refused ≡ false → Taken m hours ls s → (r.refused ≡ false) × Taken m hours (ls ++ f ∷ []) r)
+      → ((m : Member) (hours : ℕ) (ls : List HourLine) → s.fault ≡ None → Taken m hours ls s → (r.fault ≡ None) × Taken m hours (ls ++ f ∷ []) r)
       → (m : Member) (hours : ℕ) (ls : List HourLine) → Judged m hours ls s → Judged m hours (ls ++ l ∷ []) r
   with_taken h taken m hours ls j =
       let k = j.yes on in
       let same = fair ∙ fair_same hours k.month.1 ls l (ap (hour_line_is_sound hours ls) (sym fair) ∙ sym (takes_sound m hours ls s k f) ∙ h) in
       let t = taken m hours ls on k in
       record {
-        no = λ e. absurd (holds_or_fails e t.0);
+        no = λ fault e. absurd (apart e t.0);
         yes = λ e. subst (λ (x : HourLine). Taken m hours (ls ++ x ∷ []) r) same t.1;
       }
 

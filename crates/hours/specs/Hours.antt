@@ -1,6 +1,6 @@
 -- The text of a ramping file: a line an action, of seven numbers, the hour of the month from 0 on and the action's six; and what its hours pay. Over the
 -- whole text; how it is read is not spoken of. Assumes nothing.
-use Rattle.std.specs.Prelude.{ℕ, zero, suc, min, Bool, true, false, cond, not, ◌&&◌, List, [], ◌∷◌, ◌++◌, map, length, replicate, ◌==◌, nat_le, nat_lt, slice_index}
+use Rattle.std.specs.Prelude.{ℕ, zero, suc, min, Bool, cond, not, ◌&&◌, List, [], ◌∷◌, ◌++◌, map, length, replicate, ◌==◌, nat_le, nat_lt, slice_index, Option, Some, None, is_some}
 use Rattle.units.specs.declared.Grains.{Grains}
 use Rattle.units.specs.Money.{grains_plus}
 use Rattle.grid.specs.Grid.{rows_of}
@@ -10,7 +10,7 @@ use Rattle.ramp.specs.declared.Action.{Action}
 use Rattle.ramp.specs.Ramping.{most_actions, is_ramping, action_is_sound, first_standard, hour_grains}
 use Rattle.hours.specs.declared.HourLine.{HourLine}
 use Rattle.hours.specs.declared.HoursFault.{HoursFault}
-use Rattle.hours.specs.declared.HoursFault.TheVariants.{NoFault, OfMember, AtLine}
+use Rattle.hours.specs.declared.HoursFault.TheVariants.{OfMember, AtLine}
 use Rattle.hours.specs.declared.Hours.{Hours}
 
 -- Lines
@@ -98,16 +98,14 @@ grains_sum (g ∷ gs) = grains_plus g.0 (grains_sum gs)
 -- The answer
 
 -- something is wrong
-unfoldable pub is_fault : HoursFault → Bool
-is_fault NoFault = false
-is_fault (OfMember number) = true
-is_fault (AtLine place) = true
+abbrev pub is_fault : Option HoursFault → Bool
+is_fault fault = is_some fault
 
 -- a fault, otherwise zeros
 unfoldable pub hours_refused : HoursFault → Hours
 hours_refused fault =
     record {
-      fault = fault;
+      fault = Some fault;
       count = 0;
       sum = record { 0 = 0 };
       grains = replicate most_hours (record { 0 = 0 });
@@ -118,7 +116,7 @@ hours_refused fault =
 unfoldable pub hours_paid : ℕ → List HourLine → Hours
 hours_paid N ls =
     record {
-      fault = NoFault;
+      fault = None;
       count = hours_with (actions_from ls 0 most_hours);
       sum = record { 0 = grains_sum (pays_from N ls 0 most_hours) };
       grains = pays_from N ls 0 most_hours;

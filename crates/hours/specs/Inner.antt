@@ -1,6 +1,7 @@
 -- What the inner contracts speak of, and no sentence of the request: the line that is being read, and the lines judged so far. What a file says is in Hours. Assumes
 -- nothing.
-use Rattle.std.specs.Prelude.{◌≡◌, ℕ, suc, ◌-◌, ◌≤◌, Bool, true, false, cond, not, ◌&&◌, ◌||◌, List, [], ◌∷◌, ◌++◌, map, length, take, replicate, ◌==◌, nat_le, nat_lt, slice_index_or}
+use Rattle.std.specs.Prelude.{◌≡◌, ℕ, suc, ◌-◌, ◌≤◌, Bool, true, false, cond, not, ◌&&◌, ◌||◌, List, [], ◌∷◌, ◌++◌, map}
+use Rattle.std.specs.Prelude.{length, take, replicate, ◌==◌, nat_le, nat_lt, slice_index_or, Option, Some, None}
 use Rattle.row.specs.Numbers.{ceiling}
 use Rattle.grid.specs.declared.cell.Cell.{Cell}
 use Rattle.grid.specs.declared.cell.Cell.TheVariants.{Fresh, Bare, Opened, Quoted, Dashed, Closed, Bad}
@@ -15,7 +16,7 @@ use Rattle.hours.specs.declared.HoursFault.{HoursFault}
 use Rattle.hours.specs.declared.HoursFault.TheVariants.{OfMember}
 use Rattle.hours.specs.declared.Hours.{Hours}
 use Rattle.hours.specs.declared.sheet.Sheet.{Sheet}
-use Rattle.hours.specs.Hours.{hour_columns, most_hours, as_hour_line, of_hour, last_hour, first_bad_line, pays_from, actions_from, hours_refused, hours_of_lines, is_fault}
+use Rattle.hours.specs.Hours.{hour_columns, most_hours, as_hour_line, of_hour, last_hour, first_bad_line, pays_from, actions_from, hours_refused, hours_of_lines}
 
 -- The line that is being read
 
@@ -108,9 +109,8 @@ sheet_takes s l =
 abbrev pub GoodHour : List Action → Type 0
 GoodHour actions = first_bad_action actions ≡ length actions
 
--- the sheet before any line
-pub record BlankSheet (m : Member) (month : ℕ) (t : Bool) (told : HoursFault) (s : Sheet) : Type 0 where
-  pub refused : s.refused ≡ t
+-- the sheet before any line, with a fault of the member or none
+pub record BlankSheet (m : Member) (month : ℕ) (told : Option HoursFault) (s : Sheet) : Type 0 where
   pub fault : s.fault ≡ told
   pub member : s.member ≡ m
   pub hours : s.hours ≡ month
@@ -135,10 +135,9 @@ pub record Taken (m : Member) (hours : ℕ) (ls : List HourLine) (s : Sheet) : T
 
 -- the fault is told, whatever lines follow these
 pub record Refused (m : Member) (hours : ℕ) (ls : List HourLine) (fault : HoursFault) : Type 0 where
-  pub told : is_fault fault ≡ true
   pub stays : (rest : List HourLine) → lines_say m hours (ls ++ rest) ≡ hours_refused fault
 
 -- the sheet has judged these lines
 pub record Judged (m : Member) (hours : ℕ) (ls : List HourLine) (s : Sheet) : Type 0 where
-  pub no : s.refused ≡ true → Refused m hours ls s.fault
-  pub yes : s.refused ≡ false → Taken m hours ls s
+  pub no : (fault : HoursFault) → s.fault ≡ Some fault → Refused m hours ls fault
+  pub yes : s.fault ≡ None → Taken m hours ls s

@@ -37,7 +37,7 @@ is_spoilt r = not (head_left r.grid []) && (not (blank_left r.grid []) && (r.bla
 
 -- the fault is known: of the member or a line that has ended, or of the line that is being read
 unfoldable pub reader_is_settled : Reader → Bool
-reader_is_settled r = r.sheet.refused || is_spoilt r
+reader_is_settled r = is_fault r.sheet.fault || is_spoilt r
 
 -- a test whether to stop behind a text: true at the latest where the member, or a line that has ended, has a fault, and only where no bytes that follow change the answer
 pub record Stops (m : Member) (hours : ℕ) (text : List ℕ) (test : Bool) : Type 0 where

@@ -29,10 +29,9 @@ pub struct HourLine {
     pub action: Action,
 }
 
-// What is wrong: nothing; the register line (10) or its kind (12); a line of the file, counted from 0.
+// What is wrong: the register line (10) or its kind (12); a line of the file, counted from 0.
 #[derive(Clone, Copy)]
 pub enum HoursFault {
-    NoFault,
     OfMember(u32),
     AtLine(usize),
 }
@@ -40,7 +39,7 @@ pub enum HoursFault {
 // A fault, otherwise zeros; or how many hours the file has, their grains together, and for each hour of the month its grains and its actions.
 #[derive(Clone, Copy)]
 pub struct Hours {
-    pub fault: HoursFault,
+    pub fault: Option<HoursFault>,
     pub count: usize,
     pub sum: Grains,
     pub grains: [Grains; MOST_HOURS],
@@ -78,6 +77,8 @@ impl Reader {
     }
 
     // The reader after some bytes more. The sheet is large: between line feeds only the grid moves.
+    // Stays two functions: a finder (hour_faults) takes the same steps, and keeps a judge where this keeps a sheet. A walk over both would take the end of a line
+    // as a closure, with a contract for each, and be longer than the two.
     pub fn feed(self, bytes: &[u8]) -> Reader
         ensures { (m : Member) (hours : ℕ) (text : List ℕ) → HasRead m hours self text → HasRead m hours result (text ++ bytes.now) }
     {
@@ -127,7 +128,7 @@ impl Reader {
         ensures value { result ≡ reader_is_settled self }
         ensures stops { (m : Member) (hours : ℕ) (text : List ℕ) → HasRead m hours self text → Stops m hours text result }
     {
-        if self.sheet.refused {
+        if self.sheet.fault.is_some() {
             return true;
         }
         self.is_spoilt()

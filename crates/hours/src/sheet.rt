@@ -1,5 +1,5 @@
 // What the lines so far come to, or that one of them was bad.
-ghost use Rattle.std.specs.Prelude.{◌≡◌, ℕ, ◌≤◌, true, false, List, [], ◌∷◌, ◌++◌, length, replicate, nat_lt};
+ghost use Rattle.std.specs.Prelude.{◌≡◌, ℕ, ◌≤◌, true, Some, None, List, [], ◌∷◌, ◌++◌, length, replicate, nat_lt};
 ghost use Rattle.pay.specs.declared.Member.{Member};
 ghost use Rattle.pay.specs.Member.{most_rated};
 ghost use Rattle.ramp.specs.Ramping.{most_actions, hour_grains};
@@ -20,12 +20,11 @@ use row::MOST_COLUMNS;
 use units::{Grains, Kw};
 
 // How many lines were taken, the hour of the last of them (else 0), its actions, how many they are, and for each hour of the month its grains and its actions.
-// `refused`: the member, or the line after them, has the fault. The actions of the last hour are kept, and their sums made of them anew at every line: sums that
+// The fault is the member's, or that of the line after them. The actions of the last hour are kept, and their sums made of them anew at every line: sums that
 // came from no actions could be past what adding to them allows.
 #[derive(Clone, Copy)]
 pub struct Sheet {
-    pub refused: bool,
-    pub fault: HoursFault,
+    pub fault: Option<HoursFault>,
     pub member: Member,
     pub hours: u16,
     pub count: usize,
@@ -60,7 +59,7 @@ fn hours_refused(fault: HoursFault) -> Hours
     ensures { result ≡ hours_refused fault }
 {
     Hours {
-        fault,
+        fault: Some(fault),
         count: 0,
         sum: Grains(0),
         grains: [Grains(0); MOST_HOURS],
@@ -70,11 +69,10 @@ fn hours_refused(fault: HoursFault) -> Hours
 
 impl Sheet {
     // The sheet before any line, with a fault of the member or none.
-    fn blank(member: Member, hours: u16, refused: bool, fault: HoursFault) -> Sheet
-        ensures { BlankSheet member hours refused fault result }
+    fn blank(member: Member, hours: u16, fault: Option<HoursFault>) -> Sheet
+        ensures { BlankSheet member hours fault result }
     {
         Sheet {
-            refused,
             fault,
             member,
             hours,
@@ -92,15 +90,16 @@ impl Sheet {
         ensures { Judged member hours [] result }
     {
         if !member.is_sound() {
-            return Sheet::blank(member, hours, true, HoursFault::OfMember(10));
+            return Sheet::blank(member, hours, Some(HoursFault::OfMember(10)));
         }
         if !is_ramping(member.kind) {
-            return Sheet::blank(member, hours, true, HoursFault::OfMember(12));
+            return Sheet::blank(member, hours, Some(HoursFault::OfMember(12)));
         }
-        Sheet::blank(member, hours, false, HoursFault::NoFault)
+        Sheet::blank(member, hours, None)
     }
 
     // How many actions of an hour the sheet has.
+    // Stays two functions: a judge of hour_faults keeps an hour of any size, and of its actions how many they are, not they themselves.
     #[tactic(auto, unfolding(crate::specs::Inner::filled_for))]
     fn filled_for(self, hour: u16) -> usize
         ensures { result ≡ filled_for self hour }
@@ -109,6 +108,7 @@ impl Sheet {
     }
 
     // The standard rate that an action must have, where its hour has n before it.
+    // Stays two functions: a judge of hour_faults keeps the rate, the sheet the action that has it.
     #[tactic(auto, unfolding(crate::specs::Inner::standard_for, ramp::specs::Ramping::no_action))]
     fn standard_for(self, n: usize, a: Action) -> u32
         ensures { result ≡ standard_for self n a }
@@ -134,7 +134,7 @@ impl Sheet {
     #[tactic(auto, using(crate::proofs::Taking::takes_room))]
     fn taking(mut self, l: HourLine) -> Sheet
         requires { sheet_takes self l ≡ true }
-        ensures { (m : Member) (hours : ℕ) (ls : List HourLine) → self.refused ≡ false → Taken m hours ls self → (result.refused ≡ false) × Taken m hours (ls ++ l ∷ []) result }
+        ensures { (m : Member) (hours : ℕ) (ls : List HourLine) → self.fault ≡ None → Taken m hours ls self → (result.fault ≡ None) × Taken m hours (ls ++ l ∷ []) result }
     {
         let n = self.filled_for(l.hour);
         self.kept[n] = l.action;
@@ -152,10 +152,9 @@ impl Sheet {
 
     // The sheet after a line that it does not take.
     fn refusing(mut self) -> Sheet
-        ensures { (result.refused ≡ true) × (result.fault ≡ AtLine self.count) }
+        ensures { result.fault ≡ Some (AtLine self.count) }
     {
-        self.refused = true;
-        self.fault = HoursFault::AtLine(self.count);
+        self.fault = Some(HoursFault::AtLine(self.count));
         self
     }
 
@@ -163,7 +162,7 @@ impl Sheet {
     fn with(self, grid: Grid, ended: [u64; MOST_COLUMNS]) -> Sheet
         ensures { (m : Member) (hours : ℕ) (ls : List HourLine) → Judged m hours ls self → Judged m hours (ls ++ ended_line grid ended ∷ []) result }
     {
-        if self.refused {
+        if self.fault.is_some() {
             return self;
         }
         let l = line_in(grid, ended);
@@ -177,7 +176,7 @@ impl Sheet {
     fn spoilt(self) -> Sheet
         ensures { (m : Member) (hours : ℕ) (ls more : List HourLine) → Judged m hours ls self → Judged m hours (ls ++ as_hour_line [] ∷ more) result }
     {
-        if self.refused {
+        if self.fault.is_some() {
             return self;
         }
         self.refusing()
@@ -203,17 +202,19 @@ impl Sheet {
     pub fn answer(self) -> Hours
         ensures { (m : Member) (hours : ℕ) (ls : List HourLine) → Judged m hours ls self → result ≡ lines_say m hours ls }
     {
-        if self.refused {
-            return hours_refused(self.fault);
-        }
-        let grains = self.grains;
-        let actions = self.actions;
-        Hours {
-            fault: HoursFault::NoFault,
-            count: hours_with(&actions),
-            sum: grains_sum(&grains),
-            grains,
-            actions,
+        match self.fault {
+            Some(fault) => hours_refused(fault),
+            None => {
+                let grains = self.grains;
+                let actions = self.actions;
+                Hours {
+                    fault: None,
+                    count: hours_with(&actions),
+                    sum: grains_sum(&grains),
+                    grains,
+                    actions,
+                }
+            }
         }
     }
 }

@@ -12,7 +12,8 @@ use Rattle.month.specs.Outcomes.{score_of_line, ramped_of_line}
 use Rattle.month.proofs.Promises.{row_of_line, never_held}
 use Rattle.hours.specs.declared.Hours.{Hours}
 use Rattle.hours.specs.declared.HoursFault.{HoursFault}
-use Rattle.hours.specs.declared.HoursFault.TheVariants.{NoFault, OfMember, AtLine}
+use Rattle.std.specs.Prelude.{Option, Some, None}
+use Rattle.hours.specs.declared.HoursFault.TheVariants.{OfMember, AtLine}
 use Rattle.hours.specs.Hours.{read_hours}
 use Rattle.hours.proofs.Promises.{sum_most}
 use Rattle.hours_file.specs.Given.{ramped_of}
@@ -22,10 +23,10 @@ pub given_most : (m : Member) (hours : ℕ) (text : List ℕ) → (ramped_of (re
 unfolding ramped_of
 given_most m hours text = go (read_hours m hours text) (read_hours m hours text).fault refl (sum_most m hours text)
   where
-    go : (h : Hours) (f : HoursFault) → h.fault ≡ f → h.sum.0 ≤ most_ramping → (ramped_of h).grains.0 ≤ most_ramping
-    go h NoFault e l = rw e l
-    go h (OfMember number) e l = rw e (omega arith)
-    go h (AtLine line) e l = rw e (omega arith)
+    go : (h : Hours) (f : Option HoursFault) → h.fault ≡ f → h.sum.0 ≤ most_ramping → (ramped_of h).grains.0 ≤ most_ramping
+    go h None e l = rw e l
+    go h (Some (OfMember number)) e l = rw e (omega arith)
+    go h (Some (AtLine line)) e l = rw e (omega arith)
 
 -- SCORE AND HOURS ARE ADDED, NOTHING HELD: of a month that is settled, a line whose member's ramping file was read has the grains of both.
 pub file_never_held : (g : MonthGiven) → (settling g).fault ≡ Settled → (i : ℕ) → i < length g.entries → (m : Member) (hours : ℕ) (text : List ℕ)

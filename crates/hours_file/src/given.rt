@@ -35,7 +35,7 @@ pub fn ramped_of(h: Hours) -> Ramped
     let sum = h.sum;
     let count = h.count;
     match fault {
-        HoursFault::NoFault => {
+        None => {
             let hours = hours_told(count);
             Ramped {
                 grains: sum,
@@ -44,13 +44,13 @@ pub fn ramped_of(h: Hours) -> Ramped
                 hours,
             }
         }
-        HoursFault::OfMember(number) => Ramped {
+        Some(HoursFault::OfMember(number)) => Ramped {
             grains: Grains(0),
             place: 0,
             number,
             hours: 0,
         },
-        HoursFault::AtLine(line) => Ramped {
+        Some(HoursFault::AtLine(line)) => Ramped {
             grains: Grains(0),
             place: line,
             number: 10,

@@ -24,7 +24,7 @@ pub enum Unread {
     Failed,
 }
 
-// What became of the file, and what it says where it was read. A member that is refused is told in both.
+// What became of the file, and what it says where it was read. A member that is refused is told by `hours`, also where the file was not read.
 #[derive(Clone, Copy)]
 pub struct HoursFile {
     pub hours: Hours,
@@ -52,7 +52,7 @@ impl ByParts for Reader {
 fn take_all<T: ByParts>(file: &mut File, before: T) -> (T, Result<(), Unread>) {
     let mut taken = before;
     let mut left = MOST_BYTES + 1;
-    // Stays a while: each read takes as many bytes off as the file gave
+    // Stays a while: each read takes as many bytes off as the file gave.
     while 0 < left {
         let mut buffer = io::large_buffer();
         let Ok(n) = file.read(&mut buffer) else {

@@ -22,9 +22,8 @@ use Rattle.month.specs.Settling.{MonthGiven, blank_row, filled_rows, settling}
 use Rattle.month.specs.Outcomes.{ramped_of_line, lines_in, grains_in, shared_in}
 use Rattle.month.proofs.Accepted.{rows_settled, length_rows, length_in, passed}
 use Rattle.month.proofs.Promises.{compensation_is, line_is, line_count, amounts_zero}
-use Rattle.posted.specs.declared.Posted.{Posted}
 use Rattle.posted.specs.Posted.{posted_text}
-use Rattle.posted.specs.Reading.{ReadPosted}
+use Rattle.posted.specs.Reading.{Posted, ReadPosted}
 use Rattle.posted.proofs.Fits.{RowWithin, row_before, few_entries, month_within, told_row, month_gap, month_user}
 use Rattle.posted.proofs.Promises.{month_front, month_filled, month_settled}
 use Rattle.year.specs.declared.Year.{Year}
@@ -196,7 +195,7 @@ module _ (g : MonthGiven) (hours : HoursOfMonth g) (none : (settling g).fault �
       let ss = statements_from 0 ps in
       let own : OwnText (area_after (area_from 0 ps) p) (posted_text (settling g)) (settling g) = rw here month_own in
       let o = own_taken (area_after (area_from 0 ps) p) (settling g) f own in
-      let is : stands_for ps p ≡ month_statement (settling g) = sym (stands (area_after (area_from 0 ps) p) p o.0) ∙ ap month_statement o.1 in
+      let is : stands_for ps p ≡ month_statement (settling g) = sym (stands (area_after (area_from 0 ps) p) p (settling g) o.1 o.0) in
       let year = year_with_lem ss (stands_for ps p) ∙ ap (λ s. year_of (ss ++ s ∷ [])) is in
       let on : GoesOn ss (month_statement (settling g)) =
       record { few = some; year = one; month = later; fits = statement_fits (month_statement (settling g)) month_is_sound } in

@@ -10,11 +10,8 @@ use lib.Dec.{eqb}
 use lib.ListN.{length, length-append}
 use Rattle.le.proofs.Tests.{each, all}
 use Rattle.month.specs.declared.Statement.{Statement}
-use Rattle.posted.specs.declared.Posted.{Posted}
-use Rattle.posted.specs.declared.Reading.{Reading}
-use Rattle.posted.specs.declared.Reading.TheVariants.{Whole, BadLine}
 use Rattle.posted.specs.Posted.{posted_text}
-use Rattle.posted.specs.Reading.{Settled, ReadPosted}
+use Rattle.posted.specs.Reading.{Posted, Settled, ReadPosted}
 use Rattle.posted.proofs.Promises.{posted_back, posted_only}
 use Rattle.posted.proofs.Determined.{posted_determined}
 use Rattle.year.specs.declared.MonthStatement.{MonthStatement}
@@ -25,12 +22,12 @@ use Rattle.year.proofs.Statements.{goes_on_lem, on_goes}
 use Rattle.year.proofs.Taking.{bad_behind, year_with_lem}
 use Rattle.year.proofs.Orders.{accepted_all, all_accepted}
 use Rattle.intake.specs.declared.Intake.{Intake}
-use Rattle.std.specs.Prelude.{Option}
+use Rattle.std.specs.Prelude.{Option, Ok, Err}
 use Rattle.intake.specs.declared.Reason.{Reason}
 use Rattle.intake.specs.Limits.{statement_is_within}
-use Rattle.intake.specs.Intake.{month_statement, is_whole, area_after, is_taken, as_statement, statements_from, area_from, intake_of, no_texts, intake_with, TakesText}
+use Rattle.intake.specs.Intake.{month_statement, area_after, is_taken, as_statement, statements_from, area_from, intake_of, no_texts, intake_with, TakesText}
 use Rattle.intake.specs.Reasons.{reason_of, GivesReason}
-use Rattle.intake.proofs.Texts.{stands, stands_not}
+use Rattle.intake.proofs.Texts.{stands, stands_not, stands_bad}
 
 -- Texts one by one
 
@@ -93,25 +90,19 @@ pub record OwnText (held : ℕ) (text : List ℕ) (s : Statement) : Type 0 where
   pub area : s.header.area ≡ held
   pub within : statement_is_within s ≡ true
 
-whole_is : (r : Reading) → is_whole r ≡ true → r ≡ Whole
-unfolding is_whole
-whole_is Whole h = refl
-whole_is (BadLine line) h = absurd (let z : ◌≡◌ {A = Bool} false true = h in let e : ◌≡◌ {A = ℕ} 0 1 = cc in omega arith)
-
-pub taken_own : {t : List ℕ} {p : Posted} (area : ℕ) → ReadPosted t p → is_taken area p ≡ true → OwnText area t p.statement
+pub taken_own : {t : List ℕ} {s : Statement} (area : ℕ) → ReadPosted t (Ok s) → is_taken area s ≡ true → OwnText area t s
 unfolding is_taken
-taken_own {p = p} area f h =
-    let e = each (is_whole p.reading) (eqb p.statement.header.area area ∷ statement_is_within p.statement ∷ []) h in
-    let o = posted_only f (whole_is p.reading e.0) in
-    record { settled = o.0; is = o.1; area = eqb-true p.statement.header.area area e.1.0; within = e.1.1.0 }
+taken_own {s = s} area f h =
+    let e = each (eqb s.header.area area) (statement_is_within s ∷ []) h in
+    let o = posted_only f in
+    record { settled = o.0; is = o.1; area = eqb-true s.header.area area e.0; within = e.1.0 }
 
-pub own_taken : {t : List ℕ} {p : Posted} (area : ℕ) (s : Statement) → ReadPosted t p → OwnText area t s → (is_taken area p ≡ true) × (p.statement ≡ s)
-unfolding is_taken is_whole
-own_taken {p = p} area s f o =
-    let same = posted_back s o.settled (rw o.is at f) in (
-      rw same (all true (eqb s.header.area area ∷ statement_is_within s ∷ []) (refl, (eq-eqb s.header.area area o.area, (o.within, tt)))),
-      ap (λ (x : Posted). x.statement) same,
-    )
+pub own_taken : {t : List ℕ} {p : Posted} (area : ℕ) (s : Statement) → ReadPosted t p → OwnText area t s → (is_taken area s ≡ true) × (p ≡ Ok s)
+unfolding is_taken
+own_taken area s f o = (
+  all (eqb s.header.area area) (statement_is_within s ∷ []) (eq-eqb s.header.area area o.area, (o.within, tt)),
+  posted_back s o.settled (rw o.is at f),
+)
 
 -- Refusals, exactly
 
@@ -144,20 +135,24 @@ pub text_exactly : (ps : List Posted) (p : Posted) (t : List ℕ) → ReadPosted
     → ((intake_with (intake_of ps) p).year.number ≡ 0)
     ↔ ((s : Statement) × OwnText (area_after (area_from 0 ps) p) t s × GoesOn (statements_from 0 ps) (month_statement s))
 unfolding intake_of intake_with
-text_exactly ps p t f none = (λ h. to (is_taken (area_after (area_from 0 ps) p) p) refl h, from)
+text_exactly ps p t f none = (to p f, from)
   where
-    to : (b : Bool) → is_taken (area_after (area_from 0 ps) p) p ≡ b → (intake_with (intake_of ps) p).year.number ≡ 0
-        → (s : Statement) × OwnText (area_after (area_from 0 ps) p) t s × GoesOn (statements_from 0 ps) (month_statement s)
-    to true e h =
-        let on = (more_accepted (statements_from 0 ps) (stands_for ps p) none).0 (ap (λ (y : Year). y.number) (sym (year_with_lem (statements_from 0 ps) (stands_for ps p))) ∙ h) in
-        (p.statement, taken_own (area_after (area_from 0 ps) p) f e, rw (stands (area_after (area_from 0 ps) p) p e) on)
-    to false e h =
-        let on = (more_accepted (statements_from 0 ps) (stands_for ps p) none).0 (ap (λ (y : Year). y.number) (sym (year_with_lem (statements_from 0 ps) (stands_for ps p))) ∙ h) in
-        absurd (blank_never (statements_from 0 ps) (rw (stands_not (area_after (area_from 0 ps) p) p e) on))
+    on : (q : Posted) → (intake_with (intake_of ps) q).year.number ≡ 0 → GoesOn (statements_from 0 ps) (stands_for ps q)
+    on q h = (more_accepted (statements_from 0 ps) (stands_for ps q) none).0 (ap (λ (y : Year). y.number) (sym (year_with_lem (statements_from 0 ps) (stands_for ps q))) ∙ h)
+
+    judged : (s : Statement) → ReadPosted t (Ok s) → (b : Bool) → is_taken (area_after (area_from 0 ps) (Ok s)) s ≡ b → GoesOn (statements_from 0 ps) (stands_for ps (Ok s))
+        → (x : Statement) × OwnText (area_after (area_from 0 ps) (Ok s)) t x × GoesOn (statements_from 0 ps) (month_statement x)
+    judged s g true e k = let area = area_after (area_from 0 ps) (Ok s) in (s, taken_own area g e, rw (stands area (Ok s) s refl e) k)
+    judged s g false e k = absurd (blank_never (statements_from 0 ps) (rw (stands_not (area_after (area_from 0 ps) (Ok s)) (Ok s) s refl e) k))
+
+    to : (q : Posted) → ReadPosted t q → (intake_with (intake_of ps) q).year.number ≡ 0
+        → (s : Statement) × OwnText (area_after (area_from 0 ps) q) t s × GoesOn (statements_from 0 ps) (month_statement s)
+    to (Ok s) g h = judged s g (is_taken (area_after (area_from 0 ps) (Ok s)) s) refl (on (Ok s) h)
+    to (Err line) g h = absurd (blank_never (statements_from 0 ps) (rw (stands_bad (area_after (area_from 0 ps) (Err line)) (Err line) line refl) (on (Err line) h)))
 
     from : (s : Statement) × OwnText (area_after (area_from 0 ps) p) t s × GoesOn (statements_from 0 ps) (month_statement s) → (intake_with (intake_of ps) p).year.number ≡ 0
     from q =
         let o = own_taken (area_after (area_from 0 ps) p) q.0 f q.1 in
-        let own : month_statement q.0 ≡ stands_for ps p = ap month_statement (sym o.1) ∙ stands (area_after (area_from 0 ps) p) p o.0 in
+        let own : month_statement q.0 ≡ stands_for ps p = stands (area_after (area_from 0 ps) p) p q.0 o.1 o.0 in
         ap (λ (y : Year). y.number) (year_with_lem (statements_from 0 ps) (stands_for ps p))
         ∙ (more_accepted (statements_from 0 ps) (stands_for ps p) none).1 (rw own at q.2)

@@ -4,25 +4,24 @@ use mathlib.Core.Bool.{Bool, true, false, not, ◌&&◌}
 use Prim.Native.Nat.{ℕ, ◌≤◌, ◌<◌}
 use borrow.Author.Tests.{le-leb, lt-leb}
 use lib.Dec.{eqb}
-use Rattle.std.specs.Prelude.{Some, None}
+use Rattle.std.specs.Prelude.{Some, None, Ok, Err}
 use Rattle.month.specs.declared.Statement.{Statement}
-use Rattle.posted.specs.declared.Posted.{Posted}
-use Rattle.posted.specs.declared.Reading.TheVariants.{Whole, BadLine}
+use Rattle.posted.specs.Reading.{Posted}
 use Rattle.year.specs.Year.{lines_in, adds_to_zero}
 use Rattle.intake.specs.declared.Intake.{Intake}
 use Rattle.intake.specs.declared.Reason.TheVariants.{NotLine, Beyond, OtherArea, OtherYear, NotLater, NotZero}
 use Rattle.intake.specs.Limits.{line_beyond, statement_is_within}
 use Rattle.intake.specs.Intake.{month_statement}
-use Rattle.intake.specs.Reasons.{reason_in, reason_whole, reason_by, reason_of}
+use Rattle.intake.specs.Reasons.{reason_in, reason_whole, reason_of}
 
 module _ (g : Intake) (p : Posted) where
-  pub line_reason : (line : ℕ) → p.reading ≡ BadLine line → Some (NotLine line) ≡ reason_of g p
-  unfolding reason_of reason_by
-  line_reason line e = sym (ap (reason_by g p.statement) e)
+  pub line_reason : (line : ℕ) → p ≡ Err line → Some (NotLine line) ≡ reason_of g p
+  unfolding reason_of
+  line_reason line e = sym (ap (reason_of g) e)
 
-  pub whole_reason : p.reading ≡ Whole → reason_whole g p.statement ≡ reason_of g p
-  unfolding reason_of reason_by
-  whole_reason e = sym (ap (reason_by g p.statement) e)
+  pub whole_reason : (s : Statement) → p ≡ Ok s → reason_whole g s ≡ reason_of g p
+  unfolding reason_of
+  whole_reason s e = sym (ap (reason_of g) e)
 
 module _ (g : Intake) (s : Statement) where
   pub too_far : statement_is_within s ≡ false → Some (Beyond (line_beyond s)) ≡ reason_whole g s

@@ -1,11 +1,8 @@
 -- The texts of monthly statements, taken into a year: what each stands for, and the year of them. Assumes nothing.
-use Rattle.std.specs.Prelude.{◌≡◌, Bool, true, false, cond, ◌&&◌, List, [], ◌∷◌, map, ℕ, eqb}
+use Rattle.std.specs.Prelude.{◌≡◌, Bool, cond, ◌&&◌, List, [], ◌∷◌, map, ℕ, Ok, Err, eqb}
 use Rattle.month.specs.declared.Row.{Row}
 use Rattle.month.specs.declared.Statement.{Statement}
-use Rattle.posted.specs.declared.Posted.{Posted}
-use Rattle.posted.specs.declared.Reading.{Reading}
-use Rattle.posted.specs.declared.Reading.TheVariants.{Whole, BadLine}
-use Rattle.posted.specs.Reading.{ReadPosted}
+use Rattle.posted.specs.Reading.{Posted, ReadPosted}
 use Rattle.year.specs.declared.YearLine.{YearLine}
 use Rattle.year.specs.declared.MonthStatement.{MonthStatement}
 use Rattle.year.specs.Year.{year_of}
@@ -27,22 +24,19 @@ month_statement s = record { year = s.header.year; month = s.header.month; count
 
 -- What a text stands for
 
--- it reads whole
-unfoldable pub is_whole : Reading → Bool
-is_whole Whole = true
-is_whole (BadLine line) = false
-
 -- the area that texts are held to once this one is read: the first one's
 unfoldable pub area_after : ℕ → Posted → ℕ
-area_after area p = cond (eqb area 0) p.statement.header.area area
+area_after area (Ok s) = cond (eqb area 0) s.header.area area
+area_after area (Err line) = area
 
--- it is a statement of that area, within the limits
-unfoldable pub is_taken : ℕ → Posted → Bool
-is_taken area p = is_whole p.reading && eqb p.statement.header.area area && statement_is_within p.statement
+-- a statement is of that area, within the limits
+unfoldable pub is_taken : ℕ → Statement → Bool
+is_taken area s = eqb s.header.area area && statement_is_within s
 
 -- it stands for its own numbers, or for a statement of no month, which no year takes
 unfoldable pub as_statement : ℕ → Posted → MonthStatement
-as_statement area p = cond (is_taken area p) (month_statement p.statement) blank_statement
+as_statement area (Ok s) = cond (is_taken area s) (month_statement s) blank_statement
+as_statement area (Err line) = blank_statement
 
 -- The year of texts
 

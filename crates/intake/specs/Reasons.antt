@@ -1,10 +1,7 @@
 -- Why a text is not taken, for people. Assumes nothing.
-use Rattle.std.specs.Prelude.{◌≡◌, cond, not, ◌&&◌, List, ℕ, Option, Some, None, eqb, leb}
+use Rattle.std.specs.Prelude.{◌≡◌, cond, not, ◌&&◌, List, ℕ, Option, Some, None, Ok, Err, eqb, leb}
 use Rattle.month.specs.declared.Statement.{Statement}
-use Rattle.posted.specs.declared.Posted.{Posted}
-use Rattle.posted.specs.declared.Reading.{Reading}
-use Rattle.posted.specs.declared.Reading.TheVariants.{Whole, BadLine}
-use Rattle.posted.specs.Reading.{ReadPosted}
+use Rattle.posted.specs.Reading.{Posted, ReadPosted}
 use Rattle.year.specs.Year.{lines_in, adds_to_zero}
 use Rattle.intake.specs.declared.Intake.{Intake}
 use Rattle.intake.specs.declared.Reason.{Reason}
@@ -25,12 +22,9 @@ unfoldable pub reason_whole : Intake → Statement → Option Reason
 reason_whole g s = cond (statement_is_within s) (reason_in g s) (Some (Beyond (line_beyond s)))
 
 -- of a text that was read: the line that is none of a statement, or what is wrong with the statement
-unfoldable pub reason_by : Intake → Statement → Reading → Option Reason
-reason_by g s Whole = reason_whole g s
-reason_by g s (BadLine line) = Some (NotLine line)
-
 unfoldable pub reason_of : Intake → Posted → Option Reason
-reason_of g p = reason_by g p.statement p.reading
+reason_of g (Ok s) = reason_whole g s
+reason_of g (Err line) = Some (NotLine line)
 
 -- a text has a reason, or none: it reads so, and this is wrong with it
 pub record GivesReason (text : List ℕ) (g : Intake) (r : Option Reason) : Type 0 where

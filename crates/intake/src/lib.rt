@@ -2,14 +2,14 @@
 // One that is no statement, is of another area, or is beyond a limit stands as a statement of no month, which no year takes.
 #![tactic(auto)]
 
-ghost use Rattle.std.specs.Prelude.{◌≡◌, true, ◌≤◌};
+ghost use Rattle.std.specs.Prelude.{◌≡◌, true, ◌≤◌, IfOk};
 ghost use Rattle.register.specs.Register.{most_entries};
-ghost use Rattle.intake.specs.Intake.{is_whole, area_after, is_taken, as_statement, no_texts, TakesText};
+ghost use Rattle.intake.specs.Intake.{area_after, is_taken, as_statement, no_texts, TakesText};
 ghost use Rattle.intake.specs.Reasons.{reason_of, reason_in, GivesReason};
 ghost use Rattle.intake.specs.Limits.{statement_is_within};
 
 use month::Statement;
-use posted::{Posted, Reading, read_posted};
+use posted::read_posted;
 use year::judging::statement_is_sound;
 use year::{MonthStatement, Year};
 
@@ -39,46 +39,39 @@ pub enum Reason {
     NotZero,
 }
 
-fn is_whole(reading: Reading) -> bool
-    ensures { result ≡ is_whole reading }
-{
-    match reading {
-        Reading::Whole => true,
-        Reading::BadLine(line) => false,
-    }
-}
-
 // The first area that is not 0.
-fn area_after(area: u8, p: Posted) -> u8
+fn area_after(area: u8, p: Result<Statement, usize>) -> u8
     ensures { result ≡ area_after area p }
 {
+    let Ok(s) = p else {
+        return area;
+    };
     if area != 0 {
         return area;
     }
-    let s = p.statement;
     let header = s.header;
     header.area
 }
 
-// Whether a text that was read is a statement of an area, within the limits.
-fn is_taken(area: u8, p: Posted) -> bool
-    requires { p.statement.count ≤ most_entries }
-    ensures { result ≡ is_taken area p }
+// Whether a statement is of an area, within the limits.
+fn is_taken(area: u8, s: Statement) -> bool
+    requires { s.count ≤ most_entries }
+    ensures { result ≡ is_taken area s }
 {
-    let reading = p.reading;
-    let s = p.statement;
     let header = s.header;
-    is_whole(reading) & (header.area == area) & statement_is_within(s)
+    (header.area == area) & statement_is_within(s)
 }
 
-fn as_statement(area: u8, p: Posted) -> MonthStatement
-    requires { p.statement.count ≤ most_entries }
+fn as_statement(area: u8, p: Result<Statement, usize>) -> MonthStatement
+    requires { IfOk p (λ s. s.count ≤ most_entries) }
     ensures { result ≡ as_statement area p }
 {
-    if !is_taken(area, p) {
+    let Ok(s) = p else {
+        return blank_statement();
+    };
+    if !is_taken(area, s) {
         return blank_statement();
     }
-    let s = p.statement;
     month_statement(s)
 }
 
@@ -105,15 +98,14 @@ fn reason_in(g: Intake, s: Statement) -> Option<Reason>
     None
 }
 
-fn reason_of(g: Intake, p: Posted) -> Option<Reason>
-    requires { p.statement.count ≤ most_entries }
+fn reason_of(g: Intake, p: Result<Statement, usize>) -> Option<Reason>
+    requires { IfOk p (λ s. s.count ≤ most_entries) }
     ensures { result ≡ reason_of g p }
 {
-    let reading = p.reading;
-    if let Reading::BadLine(line) = reading {
-        return Some(Reason::NotLine(line));
-    }
-    let s = p.statement;
+    let s = match p {
+        Ok(s) => s,
+        Err(line) => return Some(Reason::NotLine(line)),
+    };
     if !statement_is_within(s) {
         return Some(Reason::Beyond(line_beyond(s)));
     }

@@ -13,7 +13,7 @@ use render::{put_decimal, put_field, put_word};
 pub const MOST_REASON: usize = 84;
 
 // A line as people count it, from 1 on, and why it is not taken.
-// Stays two functions: fitting has the same, and intake and fitting share no crate that tells lines; line_text stands in the specs of each
+// Stays two functions: fitting has the same, and intake and fitting share no crate that tells lines; line_text stands in the specs of each.
 fn put_line(out: &mut [u8], line: u64, why: &[u8]) -> usize
     requires { most_line + length why.now ≤ length out.old }
     ensures { Puts (most_line + length why.now) out.old 0 (line_text line why.now) out.new result }

@@ -11,8 +11,8 @@ use call::layout::call_at;
 use clerk::args::{first, is_word_at, long_at, short_at};
 use clerk::print;
 use clerk::shelf::{
-    Compared, Mark, compared_at, hold_at, load_at, mark_at, note_at, open, opened_at,
-    other_month_at, put_note_at, refused_at, tell_failed,
+    Compared, Mark, compared_at, hold_at, load_at, mark_at, open, opened_at, put_note_at,
+    refused_at, tell_failed, tell_unjoined,
 };
 use files::Hold;
 use lookup::Place;
@@ -92,24 +92,6 @@ fn keep(bytes: &[u8], all: &mut [u8]) -> Option<usize> {
         return None;
     }
     Some(node::copy(bytes, all))
-}
-
-// Of which month a sound book is, and of which the one before it; argument i names it.
-fn tell_other_month(terminal: &Terminal, i: usize, one: &[u8], two: &[u8]) {
-    other_month_at(terminal, i, header_of(two).header, header_of(one).header);
-}
-
-// Why two sound books are not joined, in words; argument i names the second.
-fn tell_unjoined(terminal: &Terminal, i: usize, number: u32, one: &[u8], two: &[u8]) {
-    match number {
-        7 => tell_other_month(terminal, i, one, two),
-        8 => note_at(
-            terminal,
-            i,
-            b"with it there would be more than 2000 different calls",
-        ),
-        _ => {}
-    }
 }
 
 // Whether a page is brought: where none is, it is empty.

@@ -15,7 +15,7 @@ use say::Terminal;
 use units::Grains;
 
 // What each member's ramping file gives; which could not be read, and how many these are: of each one line has said why.
-// Stays a flag: month::settle takes the Ramped of all members as they stand, and Options of them would be copied for it
+// Stays a flag: month::settle takes the Ramped of all members as they stand, and Options of them would be copied for it.
 #[derive(Clone, Copy)]
 pub struct Ramps {
     pub each: [Ramped; MOST_ENTRIES],

@@ -20,7 +20,7 @@ const MOST_FILE: usize = 15;
 const MOST_FOLDER: usize = node::PATH_MAX - MOST_FILE;
 
 // A file's name in its first bytes; where it has none, one line has said why.
-// Stays a flag: what is told of a file takes its name as its first size bytes, and one that has none is told by the empty name
+// Stays a flag: what is told of a file takes its name as its first size bytes, and one that has none is told by the empty name.
 #[derive(Clone, Copy)]
 pub struct Name {
     pub bytes: [u8; node::PATH_MAX],
@@ -29,7 +29,7 @@ pub struct Name {
 
 // Where each member's series begins and how many values it has, whether it was read, and how many values there are together; how many series could not
 // be read, of each of which one line has said why.
-// Stays a flag: month::settle takes the lengths of all members as they stand, and Options of them would be copied for it
+// Stays a flag: month::settle takes the lengths of all members as they stand, and Options of them would be copied for it.
 #[derive(Clone, Copy)]
 pub struct Lengths {
     pub starts: [usize; MOST_ENTRIES],

@@ -19,7 +19,7 @@ const FILE: usize = 5;
 pub fn no_hours() -> Hours {
     let none = Grains(0);
     Hours {
-        fault: HoursFault::NoFault,
+        fault: None,
         count: 0,
         sum: none,
         grains: [none; MOST_HOURS],
@@ -69,7 +69,7 @@ fn tell_no_hours(terminal: &Terminal, member: Member, number: u32) {
 // The register line first, then the file.
 fn tell_file(terminal: &Terminal, member: Member, file: HoursFile, path: &[u8]) {
     let hours = file.hours;
-    if let HoursFault::OfMember(number) = hours.fault {
+    if let Some(HoursFault::OfMember(number)) = hours.fault {
         tell_no_hours(terminal, member, number);
         print::refused(terminal, number, 0, b"member");
         return;

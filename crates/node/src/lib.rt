@@ -28,7 +28,7 @@ pub struct Stat {
 }
 
 // A path in an array's first bytes. No path has no bytes, so that a size of 0 is that of none.
-// Stays a flag: the system finds nothing at a path of no bytes, so that no use of a name has to tell none apart.
+// Stays a flag: a name is 4 KiB, and an Option of it would be copied once more at each step of a link (the stack is held to bounds).
 #[derive(Clone, Copy)]
 pub struct Name {
     pub bytes: [u8; PATH_MAX],

@@ -4,58 +4,22 @@ use mathlib.Core.List.{List, [], ◌++◌, append_assoc}
 use mathlib.Core.Logic.{◌≢◌}
 use Prim.Native.Nat.{ℕ, ◌+◌, ◌-◌}
 use native.Mathlib.Omega.{arith}
-use lib.IntN.{ℤ, pos}
+use lib.IntN.{ℤ}
 use lib.ListN.{length, take, replicate, take-append-drop}
 use lib.Seq.{length-take-le}
+use Rattle.std.specs.Prelude.{Ok, Err}
 use Rattle.month.specs.declared.Row.{Row}
 use Rattle.month.specs.declared.Fault.TheVariants.{NoFault}
 use Rattle.month.specs.Settling.{blank_row, filled_rows}
 use Rattle.render.specs.Decimal.{word}
-use Rattle.posted.specs.declared.Posted.{Posted}
-use Rattle.posted.specs.declared.Reading.TheVariants.{Whole, BadLine}
 use Rattle.posted.specs.declared.line.Heads.{Heads}
 use Rattle.posted.specs.Posted.{head_text, rows_text, total_text, user_text}
 use Rattle.posted.specs.Reading.{BeginsHead, BeginsTotal, BeginsUser, total_line, user_line, Taken, statement_with, read_whole, bad_line, ReadPosted, no_head, no_line, no_user_lem, no_end, whole}
 use Rattle.posted.specs.Inner.{HeadAt, RowsAt, SumAt, NoSum}
 use Rattle.posted.proofs.Posting.{append_none}
 
-pub bad_is : (line : ℕ) (rows : List Row) → rows ≡ replicate 64 blank_row
-    → ◌≡◌ {A = Posted}
-    (record {
-      statement =
-          record {
-            calls = 0;
-            gap = record { 0 = pos 0 };
-            user = record { 0 = pos 0 };
-            count = 0;
-            rows = rows;
-            fault = NoFault;
-            part = 0;
-            header = record { area = 0; year = 0; month = 0 };
-          };
-      reading = BadLine line;
-    })
-    (bad_line line)
-unfolding bad_line statement_with filled_rows
-bad_is line rows e =
-    λ i.
-    record {
-      statement =
-          record {
-            calls = 0;
-            gap = record { 0 = pos 0 };
-            user = record { 0 = pos 0 };
-            count = 0;
-            rows = e i;
-            fault = NoFault;
-            part = 0;
-            header = record { area = 0; year = 0; month = 0 };
-          };
-      reading = BadLine line;
-    }
-
-pub reads_no_head : (t : List ℕ) (r : Posted) → (BeginsHead t → ⊥) → r ≡ bad_line 0 → ReadPosted t r
-reads_no_head t r n e = no_head e n
+pub reads_no_head : (t : List ℕ) → (BeginsHead t → ⊥) → ReadPosted t (Err 0)
+reads_no_head t n = no_head refl n
 
 module _ (t : List ℕ) (h : Heads) (u : List ℕ) (hh : HeadAt t h u) (rows : List Row) (count : ℕ) (v : List ℕ) (ll : RowsAt u rows count v) where
   abbrev members : List Row
@@ -79,10 +43,10 @@ module _ (t : List ℕ) (h : Heads) (u : List ℕ) (hh : HeadAt t h u) (rows : L
   unfolding total_text
   no_total n (total_line z rest fits cut) = n z rest fits cut
 
-  pub reads_no_line : (r : Posted) → NoSum (word "total ") v → r ≡ bad_line (count + 1) → ReadPosted t r
-  reads_no_line r n e =
+  pub reads_no_line : NoSum (word "total ") v → ReadPosted t (Err (count + 1))
+  reads_no_line n =
       let line : count + 1 ≡ 1 + length members = omega (arith, many) in
-      no_line h.header h.calls h.part members v (e ∙ ap bad_line line) (taken v refl) (λ p. ll.ends (p.0, omega (arith, p.1, many))) (no_total n)
+      no_line h.header h.calls h.part members v (ap bad_line line) (taken v refl) (λ p. ll.ends (p.0, omega (arith, p.1, many))) (no_total n)
 
   module _ (gap : ℤ) (w : List ℕ) (gg : SumAt (word "total ") v gap w) where
     no_last : NoSum (word "user ") w → BeginsUser w → ⊥
@@ -93,20 +57,20 @@ module _ (t : List ℕ) (h : Heads) (u : List ℕ) (hh : HeadAt t h u) (rows : L
     unfolding total_text
     total_there = gg.is
 
-    pub reads_no_user : (r : Posted) → NoSum (word "user ") w → r ≡ bad_line (count + 2) → ReadPosted t r
-    reads_no_user r n e =
+    pub reads_no_user : NoSum (word "user ") w → ReadPosted t (Err (count + 2))
+    reads_no_user n =
         let line : count + 2 ≡ 2 + length members = omega (arith, many) in
-        no_user_lem h.header h.calls h.part members gap w (e ∙ ap bad_line line) (taken _ total_there) gg.fits (no_last n)
+        no_user_lem h.header h.calls h.part members gap w (ap bad_line line) (taken _ total_there) gg.fits (no_last n)
 
     module _ (user : ℤ) (x : List ℕ) (uu : SumAt (word "user ") w user x) where
       user_there : v ≡ total_text gap ++ (user_text user ++ x)
       unfolding user_text
       user_there = total_there ∙ ap (λ (xs : List ℕ). total_text gap ++ xs) uu.is
 
-      pub reads_no_end : (r : Posted) → x ≢ [] → r ≡ bad_line (count + 3) → ReadPosted t r
-      reads_no_end r more e =
+      pub reads_no_end : x ≢ [] → ReadPosted t (Err (count + 3))
+      reads_no_end more =
           let line : count + 3 ≡ 3 + length members = omega (arith, many) in
-          no_end h.header h.calls h.part members gap user x (e ∙ ap bad_line line) (taken _ user_there) gg.fits uu.fits more
+          no_end h.header h.calls h.part members gap user x (ap bad_line line) (taken _ user_there) gg.fits uu.fits more
 
       filled : rows ≡ filled_rows members
       unfolding filled_rows
@@ -116,10 +80,7 @@ module _ (t : List ℕ) (h : Heads) (u : List ℕ) (hh : HeadAt t h u) (rows : L
 
       pub reads_whole : x ≡ []
           → ReadPosted t
-          (record {
-            statement = record { calls = h.calls; gap = record { 0 = gap }; user = record { 0 = user }; count = count; rows = rows; fault = NoFault; part = h.part; header = h.header };
-            reading = Whole;
-          })
+          (Ok (record { calls = h.calls; gap = record { 0 = gap }; user = record { 0 = user }; count = count; rows = rows; fault = NoFault; part = h.part; header = h.header }))
       unfolding read_whole statement_with
       reads_whole over =
           let last : v ≡ total_text gap ++ user_text user =
@@ -128,8 +89,5 @@ module _ (t : List ℕ) (h : Heads) (u : List ℕ) (hh : HeadAt t h u) (rows : L
           let f = filled in
           whole h.header h.calls h.part members gap user
           (λ i.
-          record {
-            statement = record { calls = h.calls; gap = record { 0 = gap }; user = record { 0 = user }; count = n i; rows = f i; fault = NoFault; part = h.part; header = h.header };
-            reading = Whole;
-          })
+          Ok (record { calls = h.calls; gap = record { 0 = gap }; user = record { 0 = user }; count = n i; rows = f i; fault = NoFault; part = h.part; header = h.header }))
           (taken _ last) gg.fits uu.fits

@@ -13,8 +13,7 @@ use Rattle.book.specs.declared.Header.{Header}
 use Rattle.month.specs.declared.Row.{Row}
 use Rattle.render.specs.Decimal.{word, decimal, signed_decimal, field, signed_field}
 use Rattle.posted.specs.Posted.{head_text, earned_text, carried_text, got_text, row_text, rows_text, total_text, user_text}
-use Rattle.posted.specs.declared.Posted.{Posted}
-use Rattle.posted.specs.Reading.{RowsFit, more, BeginsHead, BeginsRow, BeginsTotal, BeginsUser, head_line, row_line, total_line, user_line, Taken, read_whole, bad_line}
+use Rattle.posted.specs.Reading.{Posted, RowsFit, more, BeginsHead, BeginsRow, BeginsTotal, BeginsUser, head_line, row_line, total_line, user_line, Taken, read_whole, bad_line}
 use Rattle.posted.specs.Reading.{ReadPosted, no_head, no_line, no_user_lem, no_end, whole}
 use Rattle.posted.specs.Inner.{worth, behind_digits, starts_digit, starts_minus}
 use Rattle.posted.proofs.Words.{never}

@@ -8,6 +8,7 @@ use lib.ListN.{length, take, replicate, length-append, length-map, length-replic
 use lib.Seq.{take_at, length-take-le}
 use mir.Syntax.{w64}
 use mir.Val.{SFits}
+use Rattle.std.specs.Prelude.{Ok}
 use Rattle.io.specs.Counts.{IsPrefixLen}
 use Rattle.book.specs.declared.Header.{Header}
 use Rattle.month.specs.declared.Fault.TheVariants.{NoFault}
@@ -20,10 +21,8 @@ use Rattle.share.proofs.Signs.{small_fits}
 use Rattle.month.proofs.Accepted.{rows_settled, length_rows, length_limited, length_in, passed}
 use Rattle.render.specs.Room.{Renders}
 use Rattle.render.proofs.Printed.{front_is}
-use Rattle.posted.specs.declared.Posted.{Posted}
-use Rattle.posted.specs.declared.Reading.TheVariants.{Whole, BadLine}
 use Rattle.posted.specs.Posted.{head_text, rows_text, total_text, user_text, is_settled, posted_text, most_posted}
-use Rattle.posted.specs.Reading.{HeadFits, RowsFit, Settled, statement_with, read_whole, bad_line, ReadPosted, no_head, no_line, no_user_lem, no_end, whole}
+use Rattle.posted.specs.Reading.{Posted, HeadFits, RowsFit, Settled, statement_with, read_whole, bad_line, ReadPosted, no_head, no_line, no_user_lem, no_end, whole}
 use Rattle.posted.proofs.Posting.{settled_text}
 use Rattle.posted.proofs.Fits.{HoursCounted, few_entries, month_head, month_rows, month_gap, month_user}
 use Rattle.posted.proofs.Determined.{posted_determined}
@@ -60,7 +59,7 @@ settled_fault s e =
     ∙ settled_text s (ap is_settled e)
 
 -- a settled statement's text reads as that statement
-reads_settled : (s : Statement) → Settled s → ReadPosted (posted_text s) (record { reading = Whole; statement = s })
+reads_settled : (s : Statement) → Settled s → ReadPosted (posted_text s) (Ok s)
 unfolding read_whole statement_with
 reads_settled s h =
     let rs = take s.count s.rows in
@@ -69,17 +68,17 @@ reads_settled s h =
     let f = h.fault in
     let k = h.filled in
     whole s.header s.calls s.part rs s.gap.0 s.user.0
-    (λ i. record { reading = Whole; statement = record { fault = f i; header = s.header; calls = s.calls; part = s.part; gap = s.gap; user = s.user; count = n i; rows = k i } })
+    (λ i. Ok (record { fault = f i; header = s.header; calls = s.calls; part = s.part; gap = s.gap; user = s.user; count = n i; rows = k i }))
     (record { head = h.head; few = omega (arith, many, h.few); fit = h.fit; is = sym (settled_fault s f) })
     h.gap h.user
 
 -- WHAT IS WRITTEN READS BACK as the same statement.
-pub posted_back : (s : Statement) → Settled s → {r : Posted} → ReadPosted (posted_text s) r → r ≡ record { reading = Whole; statement = s }
+pub posted_back : (s : Statement) → Settled s → {r : Posted} → ReadPosted (posted_text s) r → r ≡ Ok s
 posted_back s h f = posted_determined f (reads_settled s h)
 
 -- The same of what `posted_text` leaves at the front of a buffer with room.
 pub written_back : (s : Statement) → Settled s → {before after : List ℕ} {n : ℕ} → most_posted ≤ length before → Renders most_posted (posted_text s) before after n → IsPrefixLen n after
-    → {r : Posted} → ReadPosted (take n after) r → r ≡ record { reading = Whole; statement = s }
+    → {r : Posted} → ReadPosted (take n after) r → r ≡ Ok s
 written_back s h room f k g = posted_back s h (rw (front_is room f k) at g)
 
 text_of : (h : Header) (c p : ℕ) (rs : List Row) (z u : ℤ) → head_text h c p ++ rows_text rs ++ (total_text z ++ user_text u) ≡ posted_text (statement_with h c p rs z u)
@@ -87,19 +86,19 @@ unfolding statement_with
 text_of h c p rs z u =
     ap (λ (us : List Row). head_text h c p ++ rows_text us ++ (total_text z ++ user_text u)) (sym (front_rows rs)) ∙ settled_fault (statement_with h c p rs z u) refl
 
-not_bad : {A : Type 0} {r : Posted} (n : ℕ) → r ≡ bad_line n → r.reading ≡ Whole → A
-unfolding bad_line
-not_bad {r = r} n e w =
-    absurd (let f : BadLine n ≡ Whole = sym (ap (λ (x : Posted). x.reading) e) ∙ w in let z : ◌≡◌ {A = ℕ} 0 1 = cc in omega arith)
+not_bad : {A : Type 0} {s : Statement} (n : ℕ) → Ok s ≡ bad_line n → A
+not_bad n e = absurd (let z : ◌≡◌ {A = ℕ} 0 1 = cc in omega arith)
 
 -- NOTHING ELSE READS WHOLE: what does is the text of the statement that is told, and that is a settled one.
-pub posted_only : {t : List ℕ} {r : Posted} → ReadPosted t r → r.reading ≡ Whole → Settled r.statement × (t ≡ posted_text r.statement)
+pub posted_only : {t : List ℕ} {s : Statement} → ReadPosted t (Ok s) → Settled s × (t ≡ posted_text s)
 unfolding read_whole
-posted_only (no_head e n) w = not_bad 0 e w
-posted_only (no_line h c o rs x e p k l) w = not_bad (1 + length rs) e w
-posted_only (no_user_lem h c o rs z x e p k l) w = not_bad (2 + length rs) e w
-posted_only (no_end h c o rs z u x e p k v l) w = not_bad (3 + length rs) e w
-posted_only (whole h c o rs z u e p k v) w = rw e (settled_of h c o rs z u p.head p.few p.fit k v, p.is ∙ text_of h c o rs z u)
+posted_only (no_head e n) = not_bad 0 e
+posted_only (no_line h c o rs x e p k l) = not_bad (1 + length rs) e
+posted_only (no_user_lem h c o rs z x e p k l) = not_bad (2 + length rs) e
+posted_only (no_end h c o rs z u x e p k v l) = not_bad (3 + length rs) e
+posted_only {s = s} (whole h c o rs z u e p k v) =
+    let same : s ≡ statement_with h c o rs z u = cc in
+    rw same (settled_of h c o rs z u p.head p.few p.fit k v, p.is ∙ text_of h c o rs z u)
 
 module _ (g : MonthGiven) (e : (settling g).fault ≡ NoFault) where
   -- the rows of a settled month's statement: one for each member, and zeros behind them
@@ -132,11 +131,11 @@ month_settled g n e =
 
 -- SETTLED, WRITTEN, READ: whatever month is settled, its statement's text reads back as that statement, and as nothing else;
 pub month_posted_back : (g : MonthGiven) → HoursCounted g → (settling g).fault ≡ NoFault → {r : Posted} → ReadPosted (posted_text (settling g)) r
-    → r ≡ record { reading = Whole; statement = settling g }
+    → r ≡ Ok (settling g)
 month_posted_back g n e = posted_back (settling g) (month_settled g n e)
 
 -- so does what `posted_text` leaves of it at the front of a buffer with room.
 pub month_written_back : (g : MonthGiven) → HoursCounted g → (settling g).fault ≡ NoFault → {before after : List ℕ} {n : ℕ} → most_posted ≤ length before
     → Renders most_posted (posted_text (settling g)) before after n → IsPrefixLen n after → {r : Posted} → ReadPosted (take n after) r
-    → r ≡ record { reading = Whole; statement = settling g }
+    → r ≡ Ok (settling g)
 month_written_back g n e = written_back (settling g) (month_settled g n e)

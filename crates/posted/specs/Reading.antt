@@ -1,5 +1,5 @@
 -- The statement read back from the text of a file: a line is taken where it is the very text of some line of a statement. Assumes nothing.
-use Rattle.std.specs.Prelude.{◌≡◌, ◌≢◌, List, [], ◌∷◌, ◌++◌, ℕ, ◌+◌, ◌^◌, ◌≤◌, ◌<◌, ℤ, pos, length, take}
+use Rattle.std.specs.Prelude.{◌≡◌, ◌≢◌, List, [], ◌∷◌, ◌++◌, ℕ, ◌+◌, ◌^◌, ◌≤◌, ◌<◌, ℤ, Result, Ok, Err, length, take}
 use Rattle.std.specs.Int.{w64}
 use Rattle.std.proofs.Common.{SFits}
 use Rattle.book.specs.declared.Header.{Header}
@@ -8,8 +8,6 @@ use Rattle.month.specs.declared.Row.{Row}
 use Rattle.month.specs.declared.Statement.{Statement}
 use Rattle.month.specs.Settling.{filled_rows}
 use Rattle.register.specs.Register.{most_entries}
-use Rattle.posted.specs.declared.Posted.{Posted}
-use Rattle.posted.specs.declared.Reading.TheVariants.{Whole, BadLine}
 use Rattle.posted.specs.Posted.{head_text, row_text, rows_text, total_text, user_text}
 
 -- Numbers within the bits that the statement has for them
@@ -70,7 +68,9 @@ pub record Taken (text : List ℕ) (h : Header) (calls part : ℕ) (rows : List 
   pub fit : RowsFit rows
   pub is : text ≡ head_text h calls part ++ rows_text rows ++ rest
 
--- The answer
+-- The answer: the statement, or the line, counted from 0, at which the text is refused
+abbrev pub Posted : Type 0
+Posted = Result Statement ℕ
 
 -- a settled statement of so many members
 unfoldable pub statement_with : Header → ℕ → ℕ → List Row → ℤ → ℤ → Statement
@@ -87,11 +87,11 @@ statement_with h calls part rows gap user =
     }
 
 unfoldable pub read_whole : Header → ℕ → ℕ → List Row → ℤ → ℤ → Posted
-read_whole h calls part rows gap user = record { reading = Whole; statement = statement_with h calls part rows gap user }
+read_whole h calls part rows gap user = Ok (statement_with h calls part rows gap user)
 
--- refused at a line, counted from 0: how it reads decides, and what stands beside it is zeros and no month's statement
-unfoldable pub bad_line : ℕ → Posted
-bad_line line = record { reading = BadLine line; statement = statement_with (record { area = 0; year = 0; month = 0 }) 0 0 [] (pos 0) (pos 0) }
+-- refused at a line
+abbrev pub bad_line : ℕ → Posted
+bad_line line = Err line
 
 -- HOW A TEXT READS: refused at the first line that is not the text of any; at the line behind the last where it ends too early, or behind the
 -- user's where it does not end; or whole

@@ -5,13 +5,10 @@ ghost use Rattle.std.specs.Prelude.{◌≡◌};
 ghost use Rattle.io.specs.Counts.{IsPrefixLen};
 ghost use Rattle.render.specs.Room.{Renders};
 ghost use Rattle.posted.specs.Posted.{is_settled, most_posted, posted_text};
-ghost use Rattle.posted.specs.Reading.{bad_line, ReadPosted};
+ghost use Rattle.posted.specs.Reading.{ReadPosted};
 
-use book::Header;
-use month::rows::blank_rows;
 use month::{Fault, Statement};
 use share::array::seen;
-use units::SignedFen;
 
 mod line;
 mod put;
@@ -19,21 +16,6 @@ mod taken;
 
 use line::{read_head, read_members, read_sum};
 use put::put_posted;
-
-// How a text reads: whole, or refused at a line, counted from 0.
-// Stays an enum: intake's definitions and theorems say by it how a file reads.
-#[derive(Clone, Copy)]
-pub enum Reading {
-    Whole,
-    BadLine(usize),
-}
-
-// How a text reads, and the statement where it is read whole. How it reads decides: beside a refusal stand zeros, whose fault says nothing.
-#[derive(Clone, Copy)]
-pub struct Posted {
-    pub statement: Statement,
-    pub reading: Reading,
-}
 
 // The most bytes: 132 of the first line, 27 of R, 26 of the user's amount, and 320 for each of 64 members.
 pub const MOST_POSTED: usize = 20665;
@@ -60,51 +42,26 @@ pub fn posted_text(s: Statement, out: &mut [u8]) -> usize
     put_posted(out, s.header, s.calls, s.part, rows, s.gap, s.user)
 }
 
-// Refused at a line, and zeros.
-fn bad_line(line: usize) -> Posted
-    ensures { result ≡ bad_line line }
-{
-    let rows = blank_rows();
-    let statement = Statement {
-        calls: 0,
-        gap: SignedFen(0),
-        user: SignedFen(0),
-        count: 0,
-        rows,
-        fault: Fault::NoFault,
-        part: 0,
-        header: Header {
-            area: 0,
-            year: 0,
-            month: 0,
-        },
-    };
-    Posted {
-        statement,
-        reading: Reading::BadLine(line),
-    }
-}
-
-// A text as the statement that it is the very text of, or the first line that is none of a statement.
-pub fn read_posted(text: &[u8]) -> Posted
+// A text as the statement that it is the very text of, or the first line, counted from 0, that is none of a statement.
+pub fn read_posted(text: &[u8]) -> Result<Statement, usize>
     ensures { ReadPosted text.now result }
 {
     let Some((head, rest)) = read_head(text) else {
-        return bad_line(0);
+        return Err(0);
     };
     let (members, rest) = read_members(rest);
     let rows = members.rows;
     let count = members.count;
     let Some((gap, rest)) = read_sum(rest, b"total ") else {
-        return bad_line(count + 1);
+        return Err(count + 1);
     };
     let Some((user, rest)) = read_sum(rest, b"user ") else {
-        return bad_line(count + 2);
+        return Err(count + 2);
     };
     if !rest.is_empty() {
-        return bad_line(count + 3);
+        return Err(count + 3);
     }
-    let statement = Statement {
+    Ok(Statement {
         calls: head.calls,
         gap,
         user,
@@ -113,9 +70,5 @@ pub fn read_posted(text: &[u8]) -> Posted
         fault: Fault::NoFault,
         part: head.part,
         header: head.header,
-    };
-    Posted {
-        statement,
-        reading: Reading::Whole,
-    }
+    })
 }

@@ -84,6 +84,7 @@ pub fn put_row(out: &mut [u8], at: usize, r: Row) -> usize
     put_got(out, b, r)
 }
 
+// Stays two functions: text, report and annual go over their lines so too, each with its own line and text; one walk for all would take a closure and what is proved of it, and is longer.
 fn put_rows(out: &mut [u8], at: usize, rows: &[Row]) -> usize
     requires count_le_most_entries { length rows.now ≤ most_entries }
     requires most_row_in_bounds { at + 64 * most_row ≤ length out.old }

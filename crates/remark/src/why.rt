@@ -27,6 +27,7 @@ pub const UNNAMED: u8 = 7;
 pub const NOT_LIVE: u8 = 8;
 
 // A field's number as it goes into the form, the least and the most that it may be, and what is wrong with it.
+// Stays a number: the form has a flag for each thing that may be wrong, and the definitions set it by one comparison; of an enum each flag would be a definition of eight cases.
 #[derive(Clone, Copy)]
 pub struct Bad {
     pub number: u64,

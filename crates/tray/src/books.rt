@@ -4,7 +4,7 @@ use book::header_of;
 use clerk::args::{argument, first, is_word};
 use clerk::load::load_or;
 use clerk::print;
-use clerk::shelf::{note_at, other_month_at};
+use clerk::shelf::{note_at, tell_unjoined};
 use clerk::wrong::tell_book;
 use notice::refused_with_text;
 use say::Terminal;
@@ -112,21 +112,6 @@ fn keep(bytes: &[u8], all: &mut [u8]) -> Option<usize> {
     Some(bytes.len())
 }
 
-// Why joining refuses the book that argument i names, in words and with which number: for another month than that of those before it, or for too many calls.
-// Stays two functions: ledger's of this name says the same words but not the number, and that crate stands beside this one and not below it.
-fn tell_unjoined(terminal: &Terminal, i: usize, number: u32, place: usize, one: &[u8], two: &[u8]) {
-    match number {
-        7 => other_month_at(terminal, i, header_of(two).header, header_of(one).header),
-        8 => note_at(
-            terminal,
-            i,
-            b"with it there would be more than 2000 different calls",
-        ),
-        _ => {}
-    }
-    note_refused_at(terminal, i, number, place);
-}
-
 // A second book joined into the first n bytes of `all`; of no bytes it is the first.
 fn join_second(
     terminal: &Terminal,
@@ -143,7 +128,8 @@ fn join_second(
     let w = join::join(first(all, n), second, &mut out);
     if w.number != 0 {
         if tell {
-            tell_unjoined(terminal, i, w.number, w.place, first(all, n), second);
+            tell_unjoined(terminal, i, w.number, first(all, n), second);
+            note_refused_at(terminal, i, w.number, w.place);
         }
         return None;
     }

@@ -5,7 +5,7 @@ use clerk::args::first;
 use drawer::stale::{NextStale, next_stale};
 use say::Terminal;
 
-// Marks the joined book's records for whose keys a book has another: as many as a book may have records.
+// Marks the joined book's records for whose keys a book has another, in as many steps as a book may have records.
 fn mark_book(book: &[u8], joined: &[u8], each: &mut [bool]) {
     let mut next: usize = 0;
     for _ in 0..MOST_RECORDS {

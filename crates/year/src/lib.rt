@@ -49,7 +49,7 @@ pub struct Sums {
 }
 
 // The largest monthly amount, which may be below zero, and its month, the earliest at a tie; zeros where there is none.
-// Stays a flag: largest_with (specs/Every.antt) and the year's table read the month 0 as none, and two must-fail edits change that test
+// Stays a flag: largest_with (specs/Every.antt) and the year's table read the month 0 as none, and two must-fail edits change that test.
 #[derive(Clone, Copy)]
 pub struct Largest {
     pub amount: SignedFen,

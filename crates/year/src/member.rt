@@ -19,7 +19,7 @@ const MOST_YEAR_SIGNED: i64 = 2_400_000_000_000;
 const LEAST_YEAR_SIGNED: i64 = -2_400_000_000_000;
 
 // A sum, and a month's number more. A sum past all that twelve statements can come to comes from no statements, and stays as it is.
-// Stays two functions: fen and thousandths have a bound, a width and a definition (specs/Every.antt) each, and a trait that holds the three would be longer than both
+// Stays two functions: fen and thousandths have a bound, a width and a definition (specs/Every.antt) each, and a trait that holds the three would be longer than both.
 fn fen_plus(a: Fen, b: Fen) -> Fen
     requires { b.0 ≤ most_compensation }
     ensures { result.0 ≡ fen_plus a.0 b.0 }

@@ -3,4 +3,4 @@ use Rattle.intake.proofs.is_taken.Goals as goal
 
 pub returns : goal.returns
 unfolding is_taken
-returns c = rw (c.is_whole.ensures, c.statement_is_within.ensures)
+returns c = rw c.statement_is_within.ensures

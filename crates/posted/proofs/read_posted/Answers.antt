@@ -3,21 +3,19 @@ use Rattle.posted.proofs.Answers.{reads_no_head, reads_no_line, reads_no_user, r
 use Rattle.posted.proofs.read_posted.Goals as goal
 
 pub returns-in_default : goal.returns-in_default
-returns-in_default c = reads_no_head _ _ c.in_default.ensures c.bad_line.ensures
+returns-in_default c = reads_no_head _ c.in_default.ensures
 
 pub returns-in_default-read_sum : goal.returns-in_default-read_sum
 returns-in_default-read_sum c =
-    reads_no_line _ c.in-Some.head _ c.in-Some.ensures _ _ _ c.read_members.ensures _ c.in_default-read_sum.ensures c.bad_line-in_default-read_sum.ensures
+    reads_no_line _ c.in-Some.head _ c.in-Some.ensures _ _ _ c.read_members.ensures c.in_default-read_sum.ensures
 
 pub returns-in_default-read_sum-2 : goal.returns-in_default-read_sum-2
 returns-in_default-read_sum-2 c =
-    reads_no_user _ c.in-Some.head _ c.in-Some.ensures _ _ _ c.read_members.ensures _ _ c.in-Some-read_sum.ensures _ c.in_default-read_sum-2.ensures
-    c.bad_line-in_default-read_sum-2.ensures
+    reads_no_user _ c.in-Some.head _ c.in-Some.ensures _ _ _ c.read_members.ensures _ _ c.in-Some-read_sum.ensures c.in_default-read_sum-2.ensures
 
 pub returns-then-not-is_empty : goal.returns-then-not-is_empty
 returns-then-not-is_empty c =
-    reads_no_end _ c.in-Some.head _ c.in-Some.ensures _ _ _ c.read_members.ensures _ _ c.in-Some-read_sum.ensures _ _ c.in-Some-read_sum-2.ensures _ (something_left _ c.if-not-is_empty.ensures)
-    c.bad_line-then-not-is_empty.ensures
+    reads_no_end _ c.in-Some.head _ c.in-Some.ensures _ _ _ c.read_members.ensures _ _ c.in-Some-read_sum.ensures _ _ c.in-Some-read_sum-2.ensures (something_left _ c.if-not-is_empty.ensures)
 
 pub returns : goal.returns
 returns c =

@@ -17,14 +17,14 @@ returns c =
     let counts : length s.actions ≡ most_hours = search rules in
     elim c.if-hour-lt-MOST_HOURS.branch [
       | then-hour-lt-MOST_HOURS w ↦ λ m hours ls on k. (
-        ap (λ (r : Sheet). r.refused) w.self-is ∙ on,
+        ap (λ (r : Sheet). r.fault) w.self-is ∙ on,
         taken_more m hours ls s k a.l c.requires n.result n.ensures _ p.result (ap (λ (r : Sheet). r.member) w.self-is) (ap (λ (r : Sheet). r.hours) w.self-is)
             (ap (λ (r : Sheet). (r.count + 1) % 2 ^ 64) w.self-is) refl refl (ap (λ (r : Sheet). r.kept) w.self-is)
             (ap (λ (r : Sheet). r.grains) w.self-is ∙ ap (λ (h : ℕ). set s.grains h p.result) is)
             (ap (λ (r : Sheet). r.actions) w.self-is ∙ ap (λ (h : ℕ). set s.actions h (n.result + 1)) is) p.ensures,
       )
       | else-hour-lt-MOST_HOURS w ↦ λ m hours ls on k. (
-        ap (λ (r : Sheet). r.refused) w.self-is ∙ on,
+        ap (λ (r : Sheet). r.fault) w.self-is ∙ on,
         taken_more m hours ls s k a.l c.requires n.result n.ensures _ p.result (ap (λ (r : Sheet). r.member) w.self-is) (ap (λ (r : Sheet). r.hours) w.self-is)
             (ap (λ (r : Sheet). (r.count + 1) % 2 ^ 64) w.self-is) refl refl (ap (λ (r : Sheet). r.kept) w.self-is)
             (ap (λ (r : Sheet). r.grains) w.self-is ∙ sym (set_past s.grains a.l.hour p.result (omega (arith, pays, is, w.if-hour-lt-MOST_HOURS.false))))
