@@ -18,7 +18,7 @@ pub fn tell_call(terminal: &Terminal, h: Header, x: Call) {
         return;
     };
     let mut why = io::buffer();
-    let n = field_text(f, x, &mut why);
+    let n = field_text(Some(f), x, &mut why);
     print::note(terminal, b"call", &why[..n]);
 }
 
@@ -115,7 +115,7 @@ fn tell_field(terminal: &Terminal, name: &[u8], book: &[u8], i: usize) {
         return;
     };
     let mut why = io::buffer();
-    let n = field_text(f, r.call, &mut why);
+    let n = field_text(Some(f), r.call, &mut why);
     print::bad_record(terminal, name, i, &why[..n]);
 }
 

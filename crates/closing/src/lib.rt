@@ -9,7 +9,7 @@ use clerk::args::{argument, first, number_at};
 use clerk::load::load_or;
 use clerk::print;
 use clerk::shelf::{note_at, tell_failed};
-use faults::{Table, Walk};
+use faults::{Table, Walk, is_sound};
 use month::Fault;
 use month_files::places::{books_at, register_at};
 use month_files::ramps::{Ramps, month_hours, read_ramps};
@@ -119,7 +119,8 @@ fn count_faults(text: &[u8]) -> usize {
     let mut walk = Walk::start(Table::Register, text);
     for n in 0..text.len() {
         let told = walk.next_fault(text);
-        if told.found.is_none() {
+        let wrong = told.found.map(|found| found.wrong);
+        if is_sound(wrong) {
             return n;
         }
         walk = told.walk;

@@ -18,8 +18,8 @@ fn same(x: Taken, y: Taken) -> bool {
         & (x.lines == y.lines)
 }
 
-// Whether the array form and the lent form share the first `count` lines alike. There is a blank line behind the 64, so that a count of one more can be lent, which both refuse. A refusal
-// changes none of the lines that are lent, and the array form clears its own: the lines are compared where there is none.
+// Whether the array form and the lent form share the first `count` lines alike. There is a blank line behind the 64, so that a count of one more can be lent, which both refuse. Lines that
+// were read have no share and no amount yet: behind the count, and all of them on a refusal, they stay so where they are lent, and the array form clears its own. So all 64 are compared.
 fn forms_agree(part: u32, lines: [Line; 64], count: usize) -> bool {
     let array = share(part, lines, count);
     let mut lent = [blank_lines()[0]; 65];
@@ -32,8 +32,7 @@ fn forms_agree(part: u32, lines: [Line; 64], count: usize) -> bool {
         & (answer.place == array.place)
         & (answer.gap == array.gap)
         & (answer.user == array.user);
-    let shared = front.iter().zip(&array.lines).all(|(a, b)| a == b);
-    told & (shared | (answer.number != 0))
+    told & lent.iter().zip(&array.lines).all(|(a, b)| a == b)
 }
 
 // The same of the lines read, of all 64, and of one more than there can be: where fewer were read, both refuse. So do they with a part above

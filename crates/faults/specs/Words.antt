@@ -1,5 +1,5 @@
 -- What is wrong with a line in words: the file's name, the line, what is wrong and what is wanted. Assumes nothing.
-use Rattle.std.specs.Prelude.{ℕ, ◌+◌, ◌*◌, ◌/◌, ◌%◌, cond, List, [], ◌∷◌, ◌++◌, length, ◌==◌, nat_lt}
+use Rattle.std.specs.Prelude.{ℕ, ◌+◌, ◌*◌, ◌/◌, ◌%◌, cond, List, [], ◌∷◌, ◌++◌, length, ◌==◌, nat_lt, Option, Some, None}
 use Rattle.row.specs.Numbers.{ceiling}
 use Rattle.row.specs.Meaning.{most_columns}
 use Rattle.render.specs.Decimal.{word, digit, decimal, field}
@@ -9,7 +9,6 @@ use Rattle.faults.specs.declared.Table.{Table}
 use Rattle.faults.specs.declared.Table.TheVariants.{Register, Series}
 use Rattle.faults.specs.declared.Wrong.{Wrong}
 use Rattle.faults.specs.declared.Wrong.TheVariants.{Blank, Columns, NoNumber, Outside, NotAbove}
-use Rattle.faults.specs.declared.Found.{Found}
 
 -- A line
 
@@ -66,21 +65,22 @@ outside_text table column n least most = column_text table column ++ number_text
 unfoldable pub not_above_text : ℕ → ℕ → List ℕ
 not_above_text n before = field "member " n ++ field " does not come after member " before
 
--- what is wrong, and what is wanted
-abbrev pub wrong_text : Table → Wrong → List ℕ
-wrong_text table Blank = word "blank, and a line stands behind it"
-wrong_text table (Columns n wanted) = columns_text n wanted
-wrong_text table (NoNumber column least most) = no_number_text table column least most
-wrong_text table (Outside column n least most) = outside_text table column n least most
-wrong_text table (NotAbove n before) = not_above_text n before
+-- what is wrong, and what is wanted; nothing where nothing is wrong
+abbrev pub wrong_text : Table → Option Wrong → List ℕ
+wrong_text table None = []
+wrong_text table (Some Blank) = word "blank, and a line stands behind it"
+wrong_text table (Some (Columns n wanted)) = columns_text n wanted
+wrong_text table (Some (NoNumber column least most)) = no_number_text table column least most
+wrong_text table (Some (Outside column n least most)) = outside_text table column n least most
+wrong_text table (Some (NotAbove n before)) = not_above_text n before
 
 -- which line it is
 unfoldable pub line_text : ℕ → List ℕ
 line_text line = field " line " line ++ word ": "
 
 -- A FAULT IN WORDS, on one line behind the file's name
-unfoldable pub fault_text : Table → List ℕ → Found → List ℕ
-fault_text table name found = name ++ line_text found.line ++ wrong_text table found.wrong ++ word "\n"
+unfoldable pub fault_text : Table → List ℕ → ℕ → Option Wrong → List ℕ
+fault_text table name line wrong = name ++ line_text line ++ wrong_text table wrong ++ word "\n"
 
 -- A series' count of lines
 

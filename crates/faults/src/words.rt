@@ -9,7 +9,7 @@ ghost use Rattle.faults.specs.Words.{fault_text, thousand_text, grouped, has_tex
 ghost use Rattle.faults.specs.Words.{most_name, most_column, most_number, most_limits, most_cells, most_parted, most_neither, most_wrong, most_line, most_fault};
 ghost use Rattle.faults.specs.Words.{most_grouped, most_has, most_whose, most_wanted, most_lines, most_count};
 
-use crate::{Found, Table, Wrong};
+use crate::{Table, Wrong};
 use names::put_month;
 use render::{put_decimal, put_field, put_word};
 use row::{CEILING, MOST_COLUMNS};
@@ -176,21 +176,22 @@ fn put_not_above(out: &mut [u8], at: usize, n: u64, before: u64) -> usize
     put_field(out, a, b" does not come after member ", before)
 }
 
-// What is wrong.
-fn put_wrong(out: &mut [u8], at: usize, table: Table, wrong: Wrong) -> usize
+// What is wrong; nothing where nothing is.
+fn put_wrong(out: &mut [u8], at: usize, table: Table, wrong: Option<Wrong>) -> usize
     requires { at + most_wrong ≤ length out.old }
     ensures { Puts most_wrong out.old at (wrong_text table wrong) out.new result }
 {
     match wrong {
-        Wrong::Blank => put_word(out, at, b"blank, and a line stands behind it"),
-        Wrong::Columns(n, wanted) => put_columns(out, at, n, wanted),
-        Wrong::NoNumber(column, least, most) => {
+        None => put_word(out, at, b""),
+        Some(Wrong::Blank) => put_word(out, at, b"blank, and a line stands behind it"),
+        Some(Wrong::Columns(n, wanted)) => put_columns(out, at, n, wanted),
+        Some(Wrong::NoNumber(column, least, most)) => {
             put_no_number(out, at, table, column, least, most)
         }
-        Wrong::Outside(column, n, least, most) => {
+        Some(Wrong::Outside(column, n, least, most)) => {
             put_outside(out, at, table, column, n, least, most)
         }
-        Wrong::NotAbove(n, before) => put_not_above(out, at, n, before),
+        Some(Wrong::NotAbove(n, before)) => put_not_above(out, at, n, before),
     }
 }
 
@@ -204,25 +205,31 @@ pub fn put_line(out: &mut [u8], at: usize, line: usize) -> usize
 }
 
 // A fault's line.
-fn put_fault(out: &mut [u8], table: Table, name: &[u8], found: Found) -> usize
+fn put_fault(out: &mut [u8], table: Table, name: &[u8], line: usize, wrong: Option<Wrong>) -> usize
     requires { most_fault name.now ≤ length out.old }
-    ensures { Puts (most_fault name.now) out.old 0 (fault_text table name.now found) out.new result }
+    ensures { Puts (most_fault name.now) out.old 0 (fault_text table name.now line wrong) out.new result }
 {
     let a = put_word(out, 0, name);
-    let b = put_line(out, a, found.line);
-    let c = put_wrong(out, b, table, found.wrong);
+    let b = put_line(out, a, line);
+    let c = put_wrong(out, b, table, wrong);
     put_word(out, c, b"\n")
 }
 
-// A fault of a file in words, on one line.
-pub fn fault_text(table: Table, name: &[u8], found: Found, out: &mut [u8]) -> usize
-    ensures renders { Renders (most_fault name.now) (fault_text table name.now found) out.old out.new result }
+// What is wrong with a line of a file in words, on one line; where nothing is, the line alone.
+pub fn fault_text(
+    table: Table,
+    name: &[u8],
+    line: usize,
+    wrong: Option<Wrong>,
+    out: &mut [u8],
+) -> usize
+    ensures renders { Renders (most_fault name.now) (fault_text table name.now line wrong) out.old out.new result }
     ensures prefix_len { IsPrefixLen result out.new }
 {
     if out.len() < MOST_FAULT + name.len() {
         return 0;
     }
-    put_fault(out, table, name, found)
+    put_fault(out, table, name, line, wrong)
 }
 
 // Three digits behind a comma.

@@ -1,10 +1,10 @@
 -- What does not fit, in words. Assumes nothing.
-use Rattle.std.specs.Prelude.{List, ◌++◌, ℕ, ◌+◌, ◌-◌, ◌*◌, ◌^◌, min}
+use Rattle.std.specs.Prelude.{List, [], ◌++◌, ℕ, ◌+◌, ◌-◌, ◌*◌, ◌^◌, min, Ok, Err}
 use Rattle.render.specs.Decimal.{word, decimal}
 use Rattle.render.specs.Room.{most_decimal}
 use Rattle.render.specs.Yuan.{yuan, signed_yuan, most_signed_yuan}
-use Rattle.fitting.specs.declared.Finding.{Finding}
 use Rattle.fitting.specs.declared.Finding.TheVariants.{NotShared, Compensation, Weight, Share, Uncollected, Given, Amount, Total, User}
+use Rattle.fitting.specs.Fitting.{Judged}
 
 -- a line of the text, as people count it, from 1 on, and what is said of it
 unfoldable pub line_text : ℕ → List ℕ → List ℕ
@@ -18,16 +18,18 @@ apart_text line name stands follows = line_text line (word ": ") ++ (name ++ sta
 unfoldable pub not_shared_text : ℕ → ℕ → List ℕ
 not_shared_text number place = word "sharing refuses its lines with " ++ decimal number ++ (word " at " ++ decimal place)
 
-unfoldable pub finding_text : Finding → List ℕ
-finding_text (NotShared number place) = not_shared_text number place
-finding_text (Compensation line stands follows) = apart_text line (word "compensation ") (yuan stands.0) (yuan follows.0)
-finding_text (Weight line stands follows) = apart_text line (word "weight ") (decimal stands) (decimal follows)
-finding_text (Share line stands follows) = apart_text line (word "share ") (signed_yuan stands.0) (signed_yuan follows.0)
-finding_text (Uncollected line stands follows) = apart_text line (word "uncollected ") (yuan stands.0) (yuan follows.0)
-finding_text (Given line stands follows) = apart_text line (word "given ") (yuan stands.0) (yuan follows.0)
-finding_text (Amount line stands follows) = apart_text line (word "amount ") (signed_yuan stands.0) (signed_yuan follows.0)
-finding_text (Total line stands follows) = apart_text line (word "total ") (signed_yuan stands.0) (signed_yuan follows.0)
-finding_text (User line stands follows) = apart_text line (word "user ") (signed_yuan stands.0) (signed_yuan follows.0)
+-- what does not fit; nothing where all fits
+unfoldable pub finding_text : Judged → List ℕ
+finding_text (Ok u) = []
+finding_text (Err (NotShared number place)) = not_shared_text number place
+finding_text (Err (Compensation line stands follows)) = apart_text line (word "compensation ") (yuan stands.0) (yuan follows.0)
+finding_text (Err (Weight line stands follows)) = apart_text line (word "weight ") (decimal stands) (decimal follows)
+finding_text (Err (Share line stands follows)) = apart_text line (word "share ") (signed_yuan stands.0) (signed_yuan follows.0)
+finding_text (Err (Uncollected line stands follows)) = apart_text line (word "uncollected ") (yuan stands.0) (yuan follows.0)
+finding_text (Err (Given line stands follows)) = apart_text line (word "given ") (yuan stands.0) (yuan follows.0)
+finding_text (Err (Amount line stands follows)) = apart_text line (word "amount ") (signed_yuan stands.0) (signed_yuan follows.0)
+finding_text (Err (Total line stands follows)) = apart_text line (word "total ") (signed_yuan stands.0) (signed_yuan follows.0)
+finding_text (Err (User line stands follows)) = apart_text line (word "user ") (signed_yuan stands.0) (signed_yuan follows.0)
 
 -- The most bytes of each, besides those of what is named
 

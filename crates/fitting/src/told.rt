@@ -1,5 +1,5 @@
 // What does not fit, in words, as bytes in a buffer that the caller lends.
-ghost use Rattle.std.specs.Prelude.{◌++◌, ◌≡◌, ◌+◌, ◌≤◌, length};
+ghost use Rattle.std.specs.Prelude.{◌++◌, ◌≡◌, ◌+◌, ◌≤◌, length, Err};
 ghost use Rattle.render.specs.Decimal.{decimal};
 ghost use Rattle.render.specs.Yuan.{yuan, signed_yuan, most_signed_yuan};
 ghost use Rattle.render.specs.Inner.{Puts};
@@ -72,9 +72,9 @@ fn put_not_shared(out: &mut [u8], number: u64, place: u64) -> usize
 }
 
 // What does not fit.
-pub fn put_finding(out: &mut [u8], f: Finding) -> usize
+fn put_misfit(out: &mut [u8], f: Finding) -> usize
     requires { most_finding ≤ length out.old }
-    ensures { Puts most_finding out.old 0 (finding_text f) out.new result }
+    ensures { Puts most_finding out.old 0 (finding_text (Err f)) out.new result }
 {
     match f {
         Finding::NotShared(number, place) => put_not_shared(out, number as u64, place as u64),
@@ -134,5 +134,16 @@ pub fn put_finding(out: &mut [u8], f: Finding) -> usize
             stands,
             follows,
         ),
+    }
+}
+
+// What does not fit; nothing where all fits.
+pub fn put_finding(out: &mut [u8], f: Result<(), Finding>) -> usize
+    requires { most_finding ≤ length out.old }
+    ensures { Puts most_finding out.old 0 (finding_text f) out.new result }
+{
+    match f {
+        Ok(()) => 0,
+        Err(own) => put_misfit(out, own),
     }
 }

@@ -165,6 +165,14 @@ plain_byte one other c v s =
     let n = none_of (eqb c 37) (eqb c 91) (eqb c 124) (eqb c 93) s in
     (simp (n.0, n.1, n.2, n.3), simp (n.1, n.2, n.3), simp n.0, simp n.1)
 
+-- where bytes are not shown, it shows nothing and changes nothing
+plain_passed : (one other : List ℕ) (c v : ℕ) → is_sign c ≡ false
+    → (byte_text one other false false c v ≡ []) × (next_on false false c v ≡ false) × (next_marked false c ≡ false) × (taken_by false c ≡ 0)
+unfolding byte_text next_on next_marked taken_by is_sign
+plain_passed one other c v s =
+    let n = none_of (eqb c 37) (eqb c 91) (eqb c 124) (eqb c 93) s in
+    (refl, simp (n.1, n.2, n.3), simp n.0, simp n.1)
+
 plain_most : (a b c : ℕ) → is_sign c ≡ false → most_byte a b false c ≡ 1
 unfolding most_byte
 plain_most a b c s = rw s
@@ -191,6 +199,20 @@ module _ (one other form vs : List ℕ) where
       let d : drop i form ≡ get_or form i 0 ∷ drop (i + 1) form = rw add-one (drop-cons form i 0 (omega arith)) in
       (plain_left_lem i taken (omega arith) s ∙ ap (λ (l : List ℕ). get_or form i 0 ∷ l) g.0 ∙ rw (d, j), omega (arith, plain_room i (omega arith) s, rw j at g.1))
 
+  past_one : (i taken : ℕ) → i < length form → is_sign (get_or form i 0) ≡ false → left one other form vs false false i taken ≡ left one other form vs false false (i + 1) taken
+  past_one i taken h s =
+      let p = plain_passed one other (get_or form i 0) (get_or vs taken 0) s in
+      left_is one other form vs false false i taken h ∙ rw (p.0, p.1, p.2, p.3, add-zero)
+
+  past_left : (n i taken : ℕ) → i + n ≤ length form → ((k : ℕ) → i ≤ k → k < i + n → is_sign (get_or form k 0) ≡ false)
+      → left one other form vs false false i taken ≡ left one other form vs false false (i + n) taken
+  past_left zero i taken h f = rw add-zero
+  past_left (suc n) i taken h f =
+      let s = f i (omega arith) (omega arith) in
+      let g = past_left n (i + 1) taken (omega arith) (λ k low high. f k (omega (arith, low)) (omega (arith, high))) in
+      let j : i + 1 + n ≡ i + suc n = omega arith in
+      past_one i taken (omega arith) s ∙ rw j at g
+
 -- A form by its pieces
 
 module _ (one other form vs : List ℕ) where
@@ -216,6 +238,21 @@ module _ (one other form vs : List ℕ) where
       let long : length (take n (drop far.read form)) ≡ n = length-take-le n (drop far.read form) (omega (arith, p.within, length-drop far.read form)) in
       record {
         goes = rw o (goes_put (rw e at g.0) (omega (arith, rw e at g.1, long)) puts);
+        order = omega (arith, p.order);
+        within = p.within;
+      }
+
+  -- and one that is passed over
+  pub walk_past : (k : List ℕ) (far : Far) (to : ℕ) → far.on ≡ false → Plain form far.read to → far.taken ≤ far.read
+      → Walks one other form vs k far k (record { at = far.at; read = to; taken = far.taken; on = far.on })
+  walk_past k far to o p t =
+      let n = to - far.read in
+      let e : far.read + n ≡ to = omega (arith, p.order) in
+      let plain : (j : ℕ) → far.read ≤ j → j < far.read + n → is_sign (get_or form j 0) ≡ false = λ j low high. p.plain j low (omega (arith, high)) in
+      let r = run_left one other form vs n far.read far.taken (omega (arith, p.order, p.within)) plain in
+      let g = past_left one other form vs n far.read far.taken (omega (arith, p.order, p.within)) plain in
+      record {
+        goes = rw o (goes_put (rw e at g) (rw e at r.1) (looser n (omega arith) (none_put k far.at)));
         order = omega (arith, p.order);
         within = p.within;
       }
@@ -283,13 +320,12 @@ mark_room a b form i h e =
     omega (arith, p, room_is a b form true (i + 1) h)
 
 pub run_room : (one other form : List ℕ) {from : ℕ} (to : ℕ) → Plain form from to
-    → length (take (to - from) (drop from form)) + most_from (length one) (length other) false (drop to form) ≡ most_from (length one) (length other) false (drop from form)
+    → (to - from) + most_from (length one) (length other) false (drop to form) ≡ most_from (length one) (length other) false (drop from form)
 run_room one other form {from} to p =
     let n = to - from in
     let e : from + n ≡ to = omega (arith, p.order) in
     let g = run_left one other form [] n from 0 (omega (arith, p.order, p.within)) (λ k low high. p.plain k low (omega (arith, high))) in
-    let long : length (take n (drop from form)) ≡ n = length-take-le n (drop from form) (omega (arith, p.within, length-drop from form)) in
-    omega (arith, rw e at g.1, long)
+    sym (rw e at g.1)
 
 pub plain_then : {form : List ℕ} {from mid to : ℕ} → Plain form from mid → Plain form mid to → Plain form from to
 plain_then {form} {from} {mid} {to} p q = record { order = omega (arith, p.order, q.order); within = q.within; plain = λ k low high. go k low high (dec_lt k mid) }

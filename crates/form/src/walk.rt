@@ -1,5 +1,5 @@
 // A form put piece by piece: a run of plain bytes, which is copied at once, and the sign behind it.
-ghost use Rattle.std.specs.Prelude.{◌≡◌, true, false, ◌||◌, ◌+◌, ◌≤◌, ◌<◌, length, get_or};
+ghost use Rattle.std.specs.Prelude.{◌≡◌, true, false, ◌||◌, List, ℕ, ◌+◌, ◌-◌, ◌≤◌, ◌<◌, length, get_or};
 ghost use Rattle.form.specs.Form.{is_number, is_sign, next_on, taken_by};
 ghost use Rattle.form.specs.Inner.{Plain, Stops, room_left, Walks};
 
@@ -149,10 +149,10 @@ fn put_mark(out: &mut [u8], form: &[u8], values: &[u64], one: &[u8], other: &[u8
     }
 }
 
-// The sign at a place of a form; or, where bytes are not shown, the byte there.
+// The sign at a place of a form.
 fn put_sign(out: &mut [u8], form: &[u8], values: &[u64], one: &[u8], other: &[u8], far: Far) -> Far
     requires read_in_bounds { far.read ≤ length form.now }
-    requires stops { far.on ≡ true → Stops form.now far.read }
+    requires stops { Stops form.now far.read }
     requires taken_le_read { far.taken ≤ far.read }
     requires read_in_bounds_2 { far.at + room_left one.now other.now form.now far.read ≤ length out.old }
     ensures walks { Walks one.now other.now form.now values.now out.old far out.new result }
@@ -175,27 +175,27 @@ fn put_sign(out: &mut [u8], form: &[u8], values: &[u64], one: &[u8], other: &[u8
     }
 }
 
-// Where bytes are shown: a run of plain bytes, and the sign behind it.
-fn put_piece(out: &mut [u8], form: &[u8], values: &[u64], one: &[u8], other: &[u8], far: Far) -> Far
-    requires on_value { far.on ≡ true }
-    requires read_in_bounds { far.read < length form.now }
+// A run of plain bytes: copied at once where bytes are shown, else passed over at once.
+fn put_run(out: &mut [u8], form: &[u8], far: Far, to: usize) -> Far
+    requires plain { Plain form.now far.read to }
     requires taken_le_read { far.taken ≤ far.read }
-    requires read_in_bounds_2 { far.at + room_left one.now other.now form.now far.read ≤ length out.old }
-    ensures walks { Walks one.now other.now form.now values.now out.old far out.new result }
-    ensures read_lt_read { far.read < result.read }
+    requires room { far.at + (to - far.read) ≤ length out.old }
+    ensures by_index { (one other vs : List ℕ) → Walks one other form.now vs out.old far out.new result }
+    ensures read { result.read ≡ to }
 {
-    let to = run_end(form, far.read);
+    if !far.on {
+        return Far { read: to, ..far };
+    }
     let at = put_word(out, far.at, &form[far.read..to]);
-    let here = Far {
+    Far {
         at,
         read: to,
         taken: far.taken,
         on: true,
-    };
-    put_sign(out, form, values, one, other, here)
+    }
 }
 
-// One piece more.
+// One piece more: a run of plain bytes, and the sign behind it.
 pub fn put_on(
     out: &mut [u8],
     form: &[u8],
@@ -210,8 +210,7 @@ pub fn put_on(
     ensures walks { Walks one.now other.now form.now values.now out.old far out.new result }
     ensures read_lt_read { far.read < result.read }
 {
-    if far.on {
-        return put_piece(out, form, values, one, other, far);
-    }
-    put_sign(out, form, values, one, other, far)
+    let to = run_end(form, far.read);
+    let here = put_run(out, form, far, to);
+    put_sign(out, form, values, one, other, here)
 }

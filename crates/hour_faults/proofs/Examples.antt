@@ -36,7 +36,7 @@ unfolding falling first_hour_fault found_from hour_fault row_fault cells_fault m
     rows_by row_in as_hour_line of_hour last_hour first_standard
 falls = refl
 
-pub falls_told : hour_fault_text (word "07-ramping.csv") (record { line = 3; wrong = Earlier 3 5 }) ≡ word "07-ramping.csv line 3: hour 3 stands behind hour 5: hours must not fall\n"
+pub falls_told : hour_fault_text (word "07-ramping.csv") 3 (Some (Earlier 3 5)) ≡ word "07-ramping.csv line 3: hour 3 stands behind hour 5: hours must not fall\n"
 unfolding hour_fault_text earlier_text line_text decimal decimal_in
 falls_told = refl
 

@@ -1,12 +1,11 @@
 -- What is wrong with a line of a ramping file in words: the file's name, the line, what is wrong and what is wanted. What registers and series have too is said as there.
 -- Assumes nothing.
-use Rattle.std.specs.Prelude.{ℕ, ◌+◌, ◌*◌, cond, List, ◌++◌, length, ◌==◌}
+use Rattle.std.specs.Prelude.{ℕ, ◌+◌, ◌*◌, cond, List, [], ◌++◌, length, ◌==◌, Option, Some, None}
 use Rattle.render.specs.Decimal.{word, field}
 use Rattle.render.specs.Room.{most_decimal}
 use Rattle.faults.specs.Words.{number_text, limits_text, columns_text, line_text, most_number, most_line}
 use Rattle.hour_faults.specs.declared.HourWrong.{HourWrong}
 use Rattle.hour_faults.specs.declared.HourWrong.TheVariants.{Blank, Columns, NoNumber, Outside, Earlier, Full, OtherStandard, TooFast, NoMove}
-use Rattle.hour_faults.specs.declared.HourFound.{HourFound}
 
 -- the name of a column, counted from 1
 unfoldable pub column_name : ℕ → List ℕ
@@ -50,21 +49,22 @@ fast_text real standard = cell_text 6 real ++ field " is more than 100 times STA
 unfoldable pub move_text : ℕ → List ℕ
 move_text power = column_text 4 ++ field " is START, " power ++ word ": nothing is commanded"
 
--- what is wrong
-abbrev pub wrong_text : HourWrong → List ℕ
-wrong_text Blank = word "blank, and a line stands behind it"
-wrong_text (Columns n wanted) = columns_text n wanted
-wrong_text (NoNumber column) = no_number_text column
-wrong_text (Outside column n least most) = outside_text column n least most
-wrong_text (Earlier hour last) = earlier_text hour last
-wrong_text (Full hour) = full_text hour
-wrong_text (OtherStandard n hour first) = other_text n hour first
-wrong_text (TooFast real standard) = fast_text real standard
-wrong_text (NoMove power) = move_text power
+-- what is wrong; nothing where nothing is
+abbrev pub wrong_text : Option HourWrong → List ℕ
+wrong_text None = []
+wrong_text (Some Blank) = word "blank, and a line stands behind it"
+wrong_text (Some (Columns n wanted)) = columns_text n wanted
+wrong_text (Some (NoNumber column)) = no_number_text column
+wrong_text (Some (Outside column n least most)) = outside_text column n least most
+wrong_text (Some (Earlier hour last)) = earlier_text hour last
+wrong_text (Some (Full hour)) = full_text hour
+wrong_text (Some (OtherStandard n hour first)) = other_text n hour first
+wrong_text (Some (TooFast real standard)) = fast_text real standard
+wrong_text (Some (NoMove power)) = move_text power
 
 -- A FAULT IN WORDS, on one line behind the file's name
-unfoldable pub hour_fault_text : List ℕ → HourFound → List ℕ
-hour_fault_text name found = name ++ line_text found.line ++ wrong_text found.wrong ++ word "\n"
+unfoldable pub hour_fault_text : List ℕ → ℕ → Option HourWrong → List ℕ
+hour_fault_text name line wrong = name ++ line_text line ++ wrong_text wrong ++ word "\n"
 
 -- The most bytes of each
 

@@ -6,7 +6,7 @@ ghost use Rattle.render.specs.Room.{Renders};
 ghost use Rattle.hour_faults.specs.Words.{column_name, column_text, cell_text, no_number_text, outside_text, earlier_text, full_text, other_text, fast_text, move_text, wrong_text, hour_fault_text};
 ghost use Rattle.hour_faults.specs.Words.{most_name, most_column, most_cell, most_wrong, most_hour_fault};
 
-use crate::{HourFound, HourWrong};
+use crate::HourWrong;
 use faults::words::{put_columns, put_limits, put_line, put_number};
 use render::{put_field, put_word};
 
@@ -118,44 +118,45 @@ fn put_move(out: &mut [u8], at: usize, power: u64) -> usize
     put_word(out, b, b": nothing is commanded")
 }
 
-// What is wrong.
-fn put_wrong(out: &mut [u8], at: usize, wrong: HourWrong) -> usize
+// What is wrong; nothing where nothing is.
+fn put_wrong(out: &mut [u8], at: usize, wrong: Option<HourWrong>) -> usize
     requires { at + most_wrong ≤ length out.old }
     ensures { Puts most_wrong out.old at (wrong_text wrong) out.new result }
 {
     match wrong {
-        HourWrong::Blank => put_word(out, at, b"blank, and a line stands behind it"),
-        HourWrong::Columns(n, wanted) => put_columns(out, at, n, wanted),
-        HourWrong::NoNumber(column) => put_no_number(out, at, column),
-        HourWrong::Outside(column, n, least, most) => {
+        None => put_word(out, at, b""),
+        Some(HourWrong::Blank) => put_word(out, at, b"blank, and a line stands behind it"),
+        Some(HourWrong::Columns(n, wanted)) => put_columns(out, at, n, wanted),
+        Some(HourWrong::NoNumber(column)) => put_no_number(out, at, column),
+        Some(HourWrong::Outside(column, n, least, most)) => {
             put_outside(out, at, column, n, least, most)
         }
-        HourWrong::Earlier(hour, last) => put_earlier(out, at, hour, last),
-        HourWrong::Full(hour) => put_full(out, at, hour),
-        HourWrong::OtherStandard(n, hour, first) => put_other(out, at, n, hour, first),
-        HourWrong::TooFast(real, standard) => put_fast(out, at, real, standard),
-        HourWrong::NoMove(power) => put_move(out, at, power),
+        Some(HourWrong::Earlier(hour, last)) => put_earlier(out, at, hour, last),
+        Some(HourWrong::Full(hour)) => put_full(out, at, hour),
+        Some(HourWrong::OtherStandard(n, hour, first)) => put_other(out, at, n, hour, first),
+        Some(HourWrong::TooFast(real, standard)) => put_fast(out, at, real, standard),
+        Some(HourWrong::NoMove(power)) => put_move(out, at, power),
     }
 }
 
 // A fault's line.
-fn put_fault(out: &mut [u8], name: &[u8], found: HourFound) -> usize
+fn put_fault(out: &mut [u8], name: &[u8], line: usize, wrong: Option<HourWrong>) -> usize
     requires { most_hour_fault name.now ≤ length out.old }
-    ensures { Puts (most_hour_fault name.now) out.old 0 (hour_fault_text name.now found) out.new result }
+    ensures { Puts (most_hour_fault name.now) out.old 0 (hour_fault_text name.now line wrong) out.new result }
 {
     let a = put_word(out, 0, name);
-    let b = put_line(out, a, found.line);
-    let c = put_wrong(out, b, found.wrong);
+    let b = put_line(out, a, line);
+    let c = put_wrong(out, b, wrong);
     put_word(out, c, b"\n")
 }
 
-// A fault of a ramping file in words, on one line.
-pub fn hour_fault_text(name: &[u8], found: HourFound, out: &mut [u8]) -> usize
-    ensures renders { Renders (most_hour_fault name.now) (hour_fault_text name.now found) out.old out.new result }
+// What is wrong with a line of a ramping file in words, on one line; where nothing is, the line alone.
+pub fn hour_fault_text(name: &[u8], line: usize, wrong: Option<HourWrong>, out: &mut [u8]) -> usize
+    ensures renders { Renders (most_hour_fault name.now) (hour_fault_text name.now line wrong) out.old out.new result }
     ensures prefix_len { IsPrefixLen result out.new }
 {
     if out.len() < MOST_FAULT + name.len() {
         return 0;
     }
-    put_fault(out, name, found)
+    put_fault(out, name, line, wrong)
 }

@@ -1,5 +1,5 @@
 -- Why a text is not taken, in words. Assumes nothing.
-use Rattle.std.specs.Prelude.{List, ◌++◌, ℕ, ◌+◌, ◌-◌, ◌*◌, ◌^◌, min}
+use Rattle.std.specs.Prelude.{List, [], ◌++◌, ℕ, ◌+◌, ◌-◌, ◌*◌, ◌^◌, min, Option, Some, None}
 use Rattle.render.specs.Decimal.{word, decimal}
 use Rattle.render.specs.Room.{most_decimal}
 use Rattle.names.specs.Names.{month_word, most_word}
@@ -18,14 +18,15 @@ other_text what own before = what ++ decimal own ++ word ", and the statements b
 unfoldable pub not_later_text : ℕ → ℕ → List ℕ
 not_later_text own before = month_word own ++ word " does not come after " ++ month_word before
 
--- the reason, behind statements of an area and a year, the last of them of a month
-unfoldable pub reason_text : ℕ → ℕ → ℕ → Reason → List ℕ
-reason_text area year month (NotLine line) = line_text line (word " is not a line of a statement")
-reason_text area year month (Beyond line) = line_text line (word " has a number beyond its limit")
-reason_text area year month (OtherArea own) = other_text (word "area ") own area
-reason_text area year month (OtherYear own) = other_text (word "year ") own year
-reason_text area year month (NotLater own) = not_later_text own month
-reason_text area year month NotZero = word "its amounts do not add up to zero"
+-- the reason, behind statements of an area and a year, the last of them of a month; nothing where there is none
+unfoldable pub reason_text : ℕ → ℕ → ℕ → Option Reason → List ℕ
+reason_text area year month None = []
+reason_text area year month (Some (NotLine line)) = line_text line (word " is not a line of a statement")
+reason_text area year month (Some (Beyond line)) = line_text line (word " has a number beyond its limit")
+reason_text area year month (Some (OtherArea own)) = other_text (word "area ") own area
+reason_text area year month (Some (OtherYear own)) = other_text (word "year ") own year
+reason_text area year month (Some (NotLater own)) = not_later_text own month
+reason_text area year month (Some NotZero) = word "its amounts do not add up to zero"
 
 -- The most bytes of each, besides those of what is named
 

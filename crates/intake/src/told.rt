@@ -1,5 +1,5 @@
 // Why a text is not taken, in words, as bytes in a buffer that the caller lends.
-ghost use Rattle.std.specs.Prelude.{◌≡◌, ◌+◌, ◌*◌, ◌≤◌, length};
+ghost use Rattle.std.specs.Prelude.{◌≡◌, ◌+◌, ◌*◌, ◌≤◌, length, Some};
 ghost use Rattle.io.specs.Counts.{IsPrefixLen};
 ghost use Rattle.render.specs.Inner.{Puts};
 ghost use Rattle.render.specs.Room.{Renders};
@@ -41,9 +41,9 @@ fn put_not_later(out: &mut [u8], own: u8, before: u8) -> usize
     put_month(out, b, before)
 }
 
-fn put_reason(out: &mut [u8], area: u8, year: u16, month: u8, reason: Reason) -> usize
+fn put_why(out: &mut [u8], area: u8, year: u16, month: u8, reason: Reason) -> usize
     requires { most_reason ≤ length out.old }
-    ensures { Puts most_reason out.old 0 (reason_text area year month reason) out.new result }
+    ensures { Puts most_reason out.old 0 (reason_text area year month (Some reason)) out.new result }
 {
     match reason {
         Reason::NotLine(line) => put_line(out, line as u64, b" is not a line of a statement"),
@@ -55,8 +55,18 @@ fn put_reason(out: &mut [u8], area: u8, year: u16, month: u8, reason: Reason) ->
     }
 }
 
-// A reason, behind statements of an area and a year, the last of them of a month.
-pub fn reason_text(area: u8, year: u16, month: u8, reason: Reason, out: &mut [u8]) -> usize
+fn put_reason(out: &mut [u8], area: u8, year: u16, month: u8, reason: Option<Reason>) -> usize
+    requires { most_reason ≤ length out.old }
+    ensures { Puts most_reason out.old 0 (reason_text area year month reason) out.new result }
+{
+    match reason {
+        None => 0,
+        Some(own) => put_why(out, area, year, month, own),
+    }
+}
+
+// A reason, behind statements of an area and a year, the last of them of a month; nothing where there is none.
+pub fn reason_text(area: u8, year: u16, month: u8, reason: Option<Reason>, out: &mut [u8]) -> usize
     ensures renders { Renders most_reason (reason_text area year month reason) out.old out.new result }
     ensures prefix_len { IsPrefixLen result out.new }
 {

@@ -25,7 +25,7 @@ pub record_part : (s : List ℕ) → IsBytes s → (o : ℕ) → o + 32 ≤ leng
 record_part s small o h z = ap (take 32) (record_again s small o h z) ∙ take_at (call_bytes (call_at s o)) (drop (o + 32) s) 32 (length_call (call_at s o))
 
 -- eight bytes read and written again are a part of eight bytes
-eight_bytes : (s : List ℕ) → IsBytes s → (o : ℕ) → o + 8 ≤ length s → le_bytes 8 (le_at s o 8) ≡ take 8 (drop o s)
+pub eight_bytes : (s : List ℕ) → IsBytes s → (o : ℕ) → o + 8 ≤ length s → le_bytes 8 (le_at s o 8) ≡ take 8 (drop o s)
 eight_bytes s small o h =
     again 8 s o small ∙ sym (take_at (bytes_at s o 8) (drop (o + 8) s) 8 (length_bytes 8 s o)) ∙ ap (take 8) (sym (split 8 s o h))
 

@@ -38,7 +38,7 @@ fn tell_row(terminal: &Terminal, path: &[u8], fault: Option<HourFound>, place: u
             let mut shown = io::buffer();
             let m = shown_text(path, &mut shown);
             let mut line = io::large_buffer();
-            let n = hour_fault_text(&shown[..m], found, &mut line);
+            let n = hour_fault_text(&shown[..m], found.line, Some(found.wrong), &mut line);
             say::text(terminal, &line[..n]);
             return;
         }

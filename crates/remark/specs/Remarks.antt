@@ -1,5 +1,5 @@
 -- The line in words before a refusal's number: each text is its form, filled with its values in the form's order. Assumes nothing.
-use Rattle.std.specs.Prelude.{Bool, cond, not, ◌&&◌, ◌||◌, List, [], ◌∷◌, ℕ, ◌%◌, eqb, ltb, leb, pos, length}
+use Rattle.std.specs.Prelude.{Bool, cond, not, ◌&&◌, ◌||◌, List, [], ◌∷◌, ℕ, ◌%◌, eqb, ltb, leb, pos, length, Option, Some, None}
 use Rattle.std.specs.Int.Signed.{lt_z}
 use Rattle.units.specs.Month.{minutes_per_quarter}
 use Rattle.call.specs.declared.Call.{Call}
@@ -59,31 +59,33 @@ row number least most why = record { number = number; least = least; most = most
 unfoldable pub bad_a : Limits → Call → Bad
 bad_a l c = row (bits c.a) (bits l.low) (bits l.high) (or_unnamed (lt_z (pos 0) l.high) outside c)
 
--- field by field, by the limits of the call's service
-unfoldable pub bad_by : Limits → Field → Call → Bad
-bad_by l Participant c = row c.participant 1 most_participant outside
-bad_by l State c = row c.state 0 withdrawn outside
-bad_by l Service c = row c.service 1 stability_trip (or_unnamed (eqb c.state live) outside c)
-bad_by l Revision c = row c.revision 1 0 below
-bad_by l Start c = row c.start 0 0 (or_unnamed l.quarters uneven c)
-bad_by l Length c = row c.length l.shortest 0 (or_unnamed (leb c.length l.longest) (length_why l c) c)
-bad_by l A c = bad_a l c
-bad_by l B c = row c.b 0 l.b (or_unnamed (not (eqb l.b 0)) above c)
-bad_by l C c = row c.c 0 l.c (or_unnamed (not (eqb l.c 0)) above c)
-bad_by l Reserved c = row 0 0 0 last_four
+-- field by field, by the limits of the call's service; nothing is wrong where there is no field
+unfoldable pub bad_by : Limits → Option Field → Call → Bad
+bad_by l None c = row 0 0 0 0
+bad_by l (Some Participant) c = row c.participant 1 most_participant outside
+bad_by l (Some State) c = row c.state 0 withdrawn outside
+bad_by l (Some Service) c = row c.service 1 stability_trip (or_unnamed (eqb c.state live) outside c)
+bad_by l (Some Revision) c = row c.revision 1 0 below
+bad_by l (Some Start) c = row c.start 0 0 (or_unnamed l.quarters uneven c)
+bad_by l (Some Length) c = row c.length l.shortest 0 (or_unnamed (leb c.length l.longest) (length_why l c) c)
+bad_by l (Some A) c = bad_a l c
+bad_by l (Some B) c = row c.b 0 l.b (or_unnamed (not (eqb l.b 0)) above c)
+bad_by l (Some C) c = row c.c 0 l.c (or_unnamed (not (eqb l.c 0)) above c)
+bad_by l (Some Reserved) c = row 0 0 0 last_four
 
--- the names of the fields; the last four bytes are none
-unfoldable pub field_name : Field → List ℕ
-field_name Participant = word "MEMBER"
-field_name State = word "STATE"
-field_name Service = word "SERVICE"
-field_name Revision = word "REVISION"
-field_name Start = word "START"
-field_name Length = word "LENGTH"
-field_name A = word "A"
-field_name B = word "B"
-field_name C = word "C"
-field_name Reserved = []
+-- the names of the fields; the last four bytes are none, and where there is no field there is no name
+unfoldable pub field_name : Option Field → List ℕ
+field_name None = []
+field_name (Some Participant) = word "MEMBER"
+field_name (Some State) = word "STATE"
+field_name (Some Service) = word "SERVICE"
+field_name (Some Revision) = word "REVISION"
+field_name (Some Start) = word "START"
+field_name (Some Length) = word "LENGTH"
+field_name (Some A) = word "A"
+field_name (Some B) = word "B"
+field_name (Some C) = word "C"
+field_name (Some Reserved) = []
 
 -- whether a field is told, and its number; then whether each case is, and the numbers in it
 unfoldable pub bad_values : Bad → Call → List ℕ
@@ -99,11 +101,11 @@ bad_values b c =
     ∷ flag (eqb b.why last_four) ∷ []
 
 -- by the limits of the call's service
-unfoldable pub field_values : Field → Call → List ℕ
+unfoldable pub field_values : Option Field → Call → List ℕ
 field_values f c = bad_values (bad_by (limits_of c.service) f c) c
 
 -- a bad field of a call, in words
-abbrev pub field_text : Field → Call → List ℕ
+abbrev pub field_text : Option Field → Call → List ℕ
 field_text f c = filled_with field_form (field_name f) [] (field_values f c)
 
 -- A number, a record, a book

@@ -13,22 +13,23 @@ use call::Call;
 use field::Field;
 use form::{flag, say_with};
 
-// A field's name; the last four bytes have none.
+// A field's name; the last four bytes have none, and where there is no field there is none.
 #[tactic(auto, unfolding(crate::specs::Remarks::field_name))]
-fn name_of(f: Field) -> &'static [u8]
+fn name_of(f: Option<Field>) -> &'static [u8]
     ensures { result.now ≡ field_name f }
 {
     match f {
-        Field::Participant => b"MEMBER",
-        Field::State => b"STATE",
-        Field::Service => b"SERVICE",
-        Field::Revision => b"REVISION",
-        Field::Start => b"START",
-        Field::Length => b"LENGTH",
-        Field::A => b"A",
-        Field::B => b"B",
-        Field::C => b"C",
-        Field::Reserved => b"",
+        None => b"",
+        Some(Field::Participant) => b"MEMBER",
+        Some(Field::State) => b"STATE",
+        Some(Field::Service) => b"SERVICE",
+        Some(Field::Revision) => b"REVISION",
+        Some(Field::Start) => b"START",
+        Some(Field::Length) => b"LENGTH",
+        Some(Field::A) => b"A",
+        Some(Field::B) => b"B",
+        Some(Field::C) => b"C",
+        Some(Field::Reserved) => b"",
     }
 }
 
@@ -57,8 +58,8 @@ fn bad_values(b: Bad, x: Call) -> [u64; 16]
     ]
 }
 
-// A bad field, what it has and what it should have.
-pub fn field_text(f: Field, x: Call, out: &mut [u8]) -> usize
+// A bad field, what it has and what it should have; nothing where there is none.
+pub fn field_text(f: Option<Field>, x: Call, out: &mut [u8]) -> usize
     ensures renders { Renders (most_with field_form (length (field_name f)) 0) (field_text f x) out.old out.new result }
     ensures prefix_len { IsPrefixLen result out.new }
 {

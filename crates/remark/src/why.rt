@@ -86,32 +86,33 @@ fn bad_a(l: Limits, x: Call) -> Bad
     row(number, least, most, or_unnamed(0 < l.high, OUTSIDE, x))
 }
 
-// Field by field.
+// Field by field; nothing is wrong where there is no field.
 #[tactic(auto, unfolding(crate::specs::Remarks::bad_by))]
-pub fn bad_of(f: Field, x: Call) -> Bad
+pub fn bad_of(f: Option<Field>, x: Call) -> Bad
     ensures { result ≡ bad_by (limits_of x.service) f x }
 {
     let l = limits_of(x.service);
     match f {
-        Field::Participant => row(x.participant as u64, 1, MOST_PARTICIPANT as u64, OUTSIDE),
-        Field::State => row(x.state as u64, 0, WITHDRAWN as u64, OUTSIDE),
-        Field::Service => row(
+        None => row(0, 0, 0, 0),
+        Some(Field::Participant) => row(x.participant as u64, 1, MOST_PARTICIPANT as u64, OUTSIDE),
+        Some(Field::State) => row(x.state as u64, 0, WITHDRAWN as u64, OUTSIDE),
+        Some(Field::Service) => row(
             x.service as u64,
             1,
             STABILITY_TRIP as u64,
             or_unnamed(x.state == LIVE, OUTSIDE, x),
         ),
-        Field::Revision => row(x.revision as u64, 1, 0, BELOW),
-        Field::Start => row(x.start as u64, 0, 0, or_unnamed(l.quarters, UNEVEN, x)),
-        Field::Length => row(
+        Some(Field::Revision) => row(x.revision as u64, 1, 0, BELOW),
+        Some(Field::Start) => row(x.start as u64, 0, 0, or_unnamed(l.quarters, UNEVEN, x)),
+        Some(Field::Length) => row(
             x.length as u64,
             l.shortest as u64,
             0,
             or_unnamed(x.length <= l.longest, length_why(l, x), x),
         ),
-        Field::A => bad_a(l, x),
-        Field::B => row(x.b as u64, 0, l.b as u64, or_unnamed(l.b != 0, ABOVE, x)),
-        Field::C => row(x.c as u64, 0, l.c as u64, or_unnamed(l.c != 0, ABOVE, x)),
-        Field::Reserved => row(0, 0, 0, LAST_FOUR),
+        Some(Field::A) => bad_a(l, x),
+        Some(Field::B) => row(x.b as u64, 0, l.b as u64, or_unnamed(l.b != 0, ABOVE, x)),
+        Some(Field::C) => row(x.c as u64, 0, l.c as u64, or_unnamed(l.c != 0, ABOVE, x)),
+        Some(Field::Reserved) => row(0, 0, 0, LAST_FOUR),
     }
 }

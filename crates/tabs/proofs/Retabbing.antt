@@ -2,14 +2,16 @@
 use mathlib.Core.Path.{◌≡◌, refl, sym, ◌∙◌, ap, ap₂}
 use mathlib.Core.Logic.{inr}
 use mathlib.Core.List.{List}
-use Prim.Native.Nat.{ℕ, zero, suc, ◌+◌, ◌-◌, ◌<◌, ◌≤◌}
+use Prim.Native.Nat.{ℕ, zero, suc, ◌+◌, ◌*◌, ◌-◌, ◌<◌, ◌≤◌}
 use native.Mathlib.Omega.{arith}
 use native.Mathlib.Decide.{dec_le}
-use lib.ListN.{length}
-use lib.Seq.{sets}
-use Rattle.le.specs.Le.{Stores}
+use lib.ListN.{length, take, drop}
+use lib.Seq.{sets, take-add, length-take-le}
+use Rattle.le.specs.Le.{le_at, le_bytes, IsBytes, Stores}
+use Rattle.le.proofs.Laws.{then}
+use Rattle.join.proofs.Copies.{eight_bytes}
 use Rattle.tabs.specs.declared.Tab.{Tab}
-use Rattle.tabs.specs.Tabs.{tab_place, tab_at, tabs_on, tab_bytes, tabs_bytes, page_bytes}
+use Rattle.tabs.specs.Tabs.{tab_place, page_size, tab_at, tabs_on, tab_bytes, tabs_bytes, page_bytes}
 use Rattle.tabs.specs.Forward.{sum_to}
 use Rattle.tabs.specs.Inner.{index_for, retab, states_on, retabs}
 use Rattle.tabs.proofs.Stored.{beside}
@@ -93,3 +95,30 @@ module _ {page : List ℕ} {all m below : ℕ} {mid : List ℕ} (g : Tabbing pag
       let p = g.member in
       let e : m - 1 ≡ 64 = omega arith in
       rw e at g.is
+
+-- The given page copied
+
+pub record Copying (given page : List ℕ) (words : ℕ) (mid : List ℕ) : Type 0 where
+  pub most : words ≤ 80
+  pub is : Stores page 0 (take (8 * words) given) mid
+
+pub copy_starts : (given page : List ℕ) → Copying given page 0 page
+copy_starts given page = record { most = omega arith; is = record { is = refl } }
+
+pub copy_next : {given page mid after : List ℕ} {words v : ℕ} → IsBytes given → page_size ≤ length given → Copying given page words mid → words < 80
+    → v ≡ le_at given (8 * words) 8 → Stores mid (8 * words) (le_bytes 8 v) after → Copying given page (words + 1) after
+copy_next {given} {page} {mid} {after} {words} {v} small long g h e s =
+    let b : le_bytes 8 v ≡ take 8 (drop (8 * words) given) = ap (le_bytes 8) e ∙ eight_bytes given small (8 * words) (omega arith) in
+    let n : 8 * words + 8 ≡ 8 * (words + 1) = omega arith in
+    record {
+      most = omega arith;
+      is =
+          rw n at (rw (sym (take-add (8 * words) 8 given)) at
+          (then (8 * words) (omega (arith, length-take-le (8 * words) given (omega arith))) g.is (rw b at s)));
+    }
+
+pub copy_over : {given page mid : List ℕ} {words : ℕ} → Copying given page words mid → 80 ≤ words → Stores page 0 (take page_size given) mid
+copy_over {words = words} g h =
+    let m = g.most in
+    let e : 8 * words ≡ page_size = omega arith in
+    rw e at g.is

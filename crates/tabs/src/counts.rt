@@ -10,15 +10,18 @@ use crate::Tab;
 use crate::page::{PAGE_SIZE, put_tab, tab_at, tab_place};
 use crate::walk::index_for;
 use call::MOST_PARTICIPANT;
-use le::{put_u16, u16_at};
+use le::{put_u16, put_u64, u16_at, u64_at};
 
-// The given page's bytes: the counts of a member that is not named stay as they are given.
+// The given page's bytes, eight at a time: the counts of a member that is not named stay as they are given.
+// Stays by hand: `copy_from_slice` of so many bytes asks for memmove, which a host in C need not have; the library asks for memset alone.
 pub fn copy_page(given: &[u8], page: &mut [u8])
     requires page_size_in_bounds { page_size ≤ length given.now }
     requires page_size_in_bounds_2 { page_size ≤ length page.old }
     ensures { Stores page.old 0 (take page_size given.now) page.new }
 {
-    page[..PAGE_SIZE].copy_from_slice(&given[..PAGE_SIZE]);
+    for word in 0..PAGE_SIZE / 8 {
+        put_u64(page, 8 * word, u64_at(given, 8 * word));
+    }
 }
 
 // Where the count of a member's calls in a state lies.

@@ -16,7 +16,13 @@ const LENGTH_PLACE: usize = 65535;
 // A fault's line, on a page.
 fn put_fault(terminal: &Terminal, page: &mut [u8], at: usize, name: &[u8], found: Found) -> usize {
     let mut line = io::large_buffer();
-    let n = fault_text(Table::Register, name, found, &mut line);
+    let n = fault_text(
+        Table::Register,
+        name,
+        found.line,
+        Some(found.wrong),
+        &mut line,
+    );
     say::add(terminal, page, at, &line[..n])
 }
 
@@ -72,7 +78,13 @@ fn tell_line(terminal: &Terminal, name: &[u8], text: &[u8]) {
     let told = walk.next_fault(text);
     if let Some(found) = told.found {
         let mut line = io::large_buffer();
-        let n = fault_text(Table::Series, name, found, &mut line);
+        let n = fault_text(
+            Table::Series,
+            name,
+            found.line,
+            Some(found.wrong),
+            &mut line,
+        );
         say::text(terminal, &line[..n]);
     }
 }

@@ -2,7 +2,6 @@
 ghost use Rattle.std.specs.Prelude.{◌≤◌};
 
 use say::Terminal;
-use share::array::blank_lines;
 use share::{Line, Shared, share};
 use units::{Fen, Grains, Mwh, SignedFen, Thousandths};
 
@@ -57,11 +56,12 @@ fn tell_user(terminal: &Terminal, s: Shared) {
     say::text(terminal, b"\n");
 }
 
-// The sharing of so many lines, and none behind them counts: R, then number, share and amount of each, then the user's amount.
+// The sharing of so many lines, and none behind them counts, which are copies of the first: R, then number, share and amount of each, then the user's amount.
 fn shared<const N: usize>(terminal: &Terminal, name: &[u8], part: u32, given: [Line; N])
-    requires { N ≤ 64 }
+    requires some { 1 ≤ N }
+    requires few { N ≤ 64 }
 {
-    let mut lines = blank_lines();
+    let mut lines = [given[0]; 64];
     lines[..N].copy_from_slice(&given);
     let s = share(part, lines, N);
     tell_head(terminal, name, s);

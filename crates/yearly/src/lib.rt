@@ -16,10 +16,8 @@ const STATEMENTS: usize = 2;
 fn tell_reason(terminal: &Terminal, i: usize, before: Intake, text: &[u8], place: usize) {
     let year = before.year;
     let mut why = io::buffer();
-    let n = match before.reason(text) {
-        Some(reason) => reason_text(before.area, year.year, year.month, reason, &mut why),
-        None => 0,
-    };
+    let reason = before.reason(text);
+    let n = reason_text(before.area, year.year, year.month, reason, &mut why);
     note_at(terminal, i, first(&why, n));
     refused_at(terminal, 10, place, i);
 }
