@@ -312,20 +312,28 @@ module _ (one other form vs : List ℕ) where
       → Walks one other form vs k far k (record { at = far.at; read = far.read + 1; taken = far.taken + t; on = next })
   walk_sign k far next c t h e n b f g d s = walk_byte k far far.on next c t refl h e n (silent far.on c (get_or vs far.taken 0) b) f g d s
 
--- room for a mark, and for a run
+-- room for a mark, and for a run, which is put or passed over
 pub mark_room : (a b : ℕ) (form : List ℕ) (i : ℕ) → i + 1 < length form → get_or form i 0 ≡ 37 → most_shown a b (get_or form (i + 1) 0) ≤ most_from a b false (drop i form)
 unfolding most_byte next_marked is_sign
 mark_room a b form i h e =
     let p = rw e at (room_is a b form false i (omega arith)) in
     omega (arith, p, room_is a b form true (i + 1) h)
 
-pub run_room : (one other form : List ℕ) {from : ℕ} (to : ℕ) → Plain form from to
+pub passed_room : (one other form : List ℕ) {from : ℕ} (to : ℕ) → Plain form from to
     → (to - from) + most_from (length one) (length other) false (drop to form) ≡ most_from (length one) (length other) false (drop from form)
-run_room one other form {from} to p =
+passed_room one other form {from} to p =
     let n = to - from in
     let e : from + n ≡ to = omega (arith, p.order) in
     let g = run_left one other form [] n from 0 (omega (arith, p.order, p.within)) (λ k low high. p.plain k low (omega (arith, high))) in
     sym (rw e at g.1)
+
+-- the same by the bytes of the run
+pub run_room : (one other form : List ℕ) {from : ℕ} (to : ℕ) → Plain form from to
+    → length (take (to - from) (drop from form)) + most_from (length one) (length other) false (drop to form) ≡ most_from (length one) (length other) false (drop from form)
+run_room one other form {from} to p =
+    let n = to - from in
+    let long : length (take n (drop from form)) ≡ n = length-take-le n (drop from form) (omega (arith, p.within, length-drop from form)) in
+    omega (arith, passed_room one other form to p, long)
 
 pub plain_then : {form : List ℕ} {from mid to : ℕ} → Plain form from mid → Plain form mid to → Plain form from to
 plain_then {form} {from} {mid} {to} p q = record { order = omega (arith, p.order, q.order); within = q.within; plain = λ k low high. go k low high (dec_lt k mid) }
